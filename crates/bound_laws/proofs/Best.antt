@@ -63,19 +63,27 @@ meets_or_loses e n T C P a b y s j t lt ps h = by_loops e n j t (λ qs. MeetsCri
     inr (record { loops = 0; loss = omega arith; few = omega arith }))
     (λ qs g loop old. ⊎_elim
     (λ (m : MeetsCritical e a b t (loop.before ++ loop.after)).
-    inl (record { at = m.at; meets = subst (λ (z : List PlaceId). Meets e t z m.at) (sym loop.is) (still_meets e t m.at loop.before loop.loop loop.after m.meets); circuit = m.circuit; critical = m.critical }))
+    inl (record {
+      at = m.at;
+      meets = subst (λ (z : List PlaceId). Meets e t z m.at) (sym loop.is)
+          (still_meets e t m.at loop.before loop.loop loop.after m.meets);
+      circuit = m.circuit;
+      critical = m.critical;
+    }))
     (λ (o : LosesMuch e a b T C P (loop.before ++ loop.after)).
     let own : Keeps e a b loop.loop = s.keeps loop.loop loop.circuit in
     let ratio = own.ratio in
     ⊎_elim
     (λ (less : b * time_of e loop.loop < a * tokens_of e loop.loop).
-    let both = loses_more b C T a P (time_of e (loop.before ++ loop.after)) (time_of e loop.loop) (tokens_of e (loop.before ++ loop.after)) (tokens_of e loop.loop) (time_of e qs) (tokens_of e qs) o.loops
+    let both = loses_more b C T a P (time_of e (loop.before ++ loop.after)) (time_of e loop.loop)
+    (tokens_of e (loop.before ++ loop.after)) (tokens_of e loop.loop) (time_of e qs) (tokens_of e qs) o.loops
     (loop_sum (λ p. (place_at e p).hold) e j t qs loop) (loop_sum (λ p. (place_at e p).tokens) e j t qs loop) o.loss o.few less (s.loop_tokens loop.loop loop.circuit) in
     inr (record { loops = o.loops + 1; loss = both.0; few = both.1 }))
     (λ (more : a * tokens_of e loop.loop ≤ b * time_of e loop.loop).
     inl (record {
       at = loop.at;
-      meets = subst (λ (z : List PlaceId). Meets e t z loop.at) (sym loop.is) (joined_meets e loop.before (loop.loop ++ loop.after) loop.at t (IsPathBetween-append e loop.loop loop.after loop.at loop.at t loop.closed loop.last));
+      meets = subst (λ (z : List PlaceId). Meets e t z loop.at) (sym loop.is)
+          (joined_meets e loop.before (loop.loop ++ loop.after) loop.at t (IsPathBetween-append e loop.loop loop.after loop.at loop.at t loop.closed loop.last));
       circuit = loop.loop;
       critical = record { circuit = loop.circuit; at = loop.closed; critical = omega arith };
     }))

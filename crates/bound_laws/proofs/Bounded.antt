@@ -42,7 +42,8 @@ in_unrolled net P own wait id l =
     (λ (high : length net.places ≤ id.index).
     let t : ℕ = id.index - length net.places in
     let within : t < n = omega arith in
-    subst P (sym (get_or-append_right net.places waits (length net.places) id.index no_place refl high ∙ get_or-map-range_with_len implicit_place 0 n t t no_place within (omega arith))) (wait t within))
+    subst P (sym (get_or-append_right net.places waits (length net.places) id.index no_place refl high
+    ∙ get_or-map-range_with_len implicit_place 0 n t t no_place within (omega arith))) (wait t within))
     (cases_lt id.index (length net.places))
 
 ends_in : (net : NetLists) → IsNet net → EndsBelow (unrolled net) (length net.transitions)
@@ -53,7 +54,11 @@ ends_in net ok = record {
 
 -- a circuit of the net is one of the net with its implicit places, and has the same sums
 own_circuit : (net : NetLists) (ps : List PlaceId) → IsCircuit net ps → IsCircuit (unrolled net) ps
-own_circuit net ps c = record { not_empty = c.not_empty; closed = (c.closed.0, path_in net ps c.closed.0 c.closed.0 c.closed.1); leaves_once = once_in net ps (IsPathBetween-in_range net ps c.closed.0 c.closed.0 c.closed.1) c.leaves_once }
+own_circuit net ps c = record {
+  not_empty = c.not_empty;
+  closed = (c.closed.0, path_in net ps c.closed.0 c.closed.0 c.closed.1);
+  leaves_once = once_in net ps (IsPathBetween-in_range net ps c.closed.0 c.closed.0 c.closed.1) c.leaves_once;
+}
 
 circuit_keeps : (net : NetLists) (hold tokens a b : ℕ) → IsStrong net hold tokens a b → (ps : List PlaceId) → IsCircuit (unrolled net) ps → Keeps (unrolled net) a b ps
 circuit_keeps net hold tokens a b s ps c = ⊎_elim
@@ -111,7 +116,8 @@ long_enough n tokens len m total one lm far few =
     (cases_lt len (w * m))
 
 setting : (net : NetLists) (hold tokens a b : ℕ) (x : ℕ → ℕ → Date) (s : IsStrong net hold tokens a b) (least : IsLeastDating net x)
-    → Setting (unrolled net) (length net.transitions) ((length net.transitions - 1) * tokens) (length net.transitions * tokens) ((length net.transitions - 1) * hold) a b (times_of net s.net_rules s.live s.no_input s.ready_at_zero x least)
+    → Setting (unrolled net) (length net.transitions) ((length net.transitions - 1) * tokens) (length net.transitions * tokens)
+    ((length net.transitions - 1) * hold) a b (times_of net s.net_rules s.live s.no_input s.ready_at_zero x least)
 setting net hold tokens a b x s least =
     let n : ℕ = length net.transitions in
     let e : NetLists = unrolled net in
@@ -139,13 +145,15 @@ setting net hold tokens a b x s least =
       greatest = times.greatest;
       long = λ ps i j m h lm far. long_enough n tokens (length ps) m (tokens_of e ps) s.one lm far (sum_most (λ p. (place_at e p).tokens) tokens e marks ps i j h);
     } where
-      short : (f : PlaceId → ℕ) (most n : ℕ) (ps : List PlaceId) (i j : ℕ) → IsPathBetween (unrolled net) i ps j → length ps < n → ((id : PlaceId) → id.index < length (extended_places net) → f id ≤ most) → sum_by f ps ≤ (n - 1) * most
+      short : (f : PlaceId → ℕ) (most n : ℕ) (ps : List PlaceId) (i j : ℕ) → IsPathBetween (unrolled net) i ps j → length ps < n
+          → ((id : PlaceId) → id.index < length (extended_places net) → f id ≤ most) → sum_by f ps ≤ (n - 1) * most
       short f most n ps i j h l each =
           let one = sum_most f most (unrolled net) each ps i j h in
           let two : length ps * most ≤ (n - 1) * most = mul-le-mul_right {m = length ps} {n = n - 1} most (omega arith) in
           omega arith
 
-      around : (f : PlaceId → ℕ) (most n : ℕ) (ps : List PlaceId) → IsCircuit (unrolled net) ps → EndsBelow (unrolled net) n → ((id : PlaceId) → id.index < length (extended_places net) → f id ≤ most) → sum_by f ps ≤ n * most
+      around : (f : PlaceId → ℕ) (most n : ℕ) (ps : List PlaceId) → IsCircuit (unrolled net) ps → EndsBelow (unrolled net) n
+          → ((id : PlaceId) → id.index < length (extended_places net) → f id ≤ most) → sum_by f ps ≤ n * most
       around f most n ps c ends each =
           let one = sum_most f most (unrolled net) each ps c.closed.0 c.closed.0 c.closed.1 in
           let two : length ps * most ≤ n * most = mul-le-mul_right {m = length ps} {n = n} most (loop_short (unrolled net) n ps ends c) in
@@ -160,7 +168,8 @@ dates_go_on net hold tokens a b s x least L S common step t (suc k) lt far =
     let y : ℕ → ℕ → ℕ = times_of net s.net_rules s.live s.no_input s.ready_at_zero x least in
     let times : AreWalkTimes net x y = walk_times net s.net_rules s.live s.no_input s.ready_at_zero x least in
     let n : ℕ = length net.transitions in
-    let on : y t (k + L) ≡ y t k + S = goes_on (unrolled net) n ((n - 1) * tokens) (n * tokens) ((n - 1) * hold) a b y (setting net hold tokens a b x s least) s.tokens_some L S (common_in net a b L s.time_some common) step t k lt (omega arith) in
+    let on : y t (k + L) ≡ y t k + S = goes_on (unrolled net) n ((n - 1) * tokens) (n * tokens) ((n - 1) * hold) a b y
+    (setting net hold tokens a b x s least) s.tokens_some L S (common_in net a b L s.time_some common) step t k lt (omega arith) in
     let one : suc k + L ≡ k + L + 1 = omega arith in
     let two : k + 1 ≡ suc k = omega arith in
     ap (x t) one ∙ times.is t (k + L) lt ∙ ap (λ (z : ℕ). At (pos z)) on ∙ moved_on (y t k) S ∙ ap (delayed S) (sym (times.is t k lt) ∙ ap (x t) two)
@@ -234,6 +243,7 @@ still_nets_stay_at_zero_by net ok live no_input reaches none at_zero x least t (
     let holds : (id : PlaceId) → id.index < length (extended_places net) → (place_at (unrolled net) id).hold ≤ 0 =
     λ id l. in_unrolled net (λ p. p.hold ≤ 0) (λ i m. let z = still_hold net ok live reaches none i m in omega arith) (λ u m. omega arith) id l in
     let most = sum_most (λ p. (place_at (unrolled net) p).hold) 0 (unrolled net) holds reached.1 reached.0 t reached.3 in
-    let zero_time : times_of net ok live no_input at_zero x least t k ≡ 0 = (let time : time_of (unrolled net) reached.1 ≡ times_of net ok live no_input at_zero x least t k = reached.5 in omega arith) in
+    let zero_time : times_of net ok live no_input at_zero x least t k ≡ 0 =
+    (let time : time_of (unrolled net) reached.1 ≡ times_of net ok live no_input at_zero x least t k = reached.5 in omega arith) in
     let two : k + 1 ≡ suc k = omega arith in
     ap (x t) (sym two) ∙ times.is t k lt ∙ ap (λ (z : ℕ). At (pos z)) zero_time

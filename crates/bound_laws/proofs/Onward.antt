@@ -105,8 +105,10 @@ put_in e j t c r ps cs h meets closed =
     let v : List PlaceId = visit.after in
     let one : tokens_of e ps ≡ tokens_of e u + tokens_of e v = ap (sum_by f) visit.is ∙ sum_by-append f u v in
     let two : time_of e ps ≡ time_of e u + time_of e v = ap (sum_by g) visit.is ∙ sum_by-append g u v in
-    let three : tokens_of e (u ++ (rounds r cs ++ v)) ≡ tokens_of e u + (tokens_of e (rounds r cs) + tokens_of e v) = sum_by-append f u (rounds r cs ++ v) ∙ ap (λ (z : ℕ). tokens_of e u + z) (sum_by-append f (rounds r cs) v) in
-    let four : time_of e (u ++ (rounds r cs ++ v)) ≡ time_of e u + (time_of e (rounds r cs) + time_of e v) = sum_by-append g u (rounds r cs ++ v) ∙ ap (λ (z : ℕ). time_of e u + z) (sum_by-append g (rounds r cs) v) in
+    let three : tokens_of e (u ++ (rounds r cs ++ v)) ≡ tokens_of e u + (tokens_of e (rounds r cs) + tokens_of e v) =
+    sum_by-append f u (rounds r cs ++ v) ∙ ap (λ (z : ℕ). tokens_of e u + z) (sum_by-append f (rounds r cs) v) in
+    let four : time_of e (u ++ (rounds r cs ++ v)) ≡ time_of e u + (time_of e (rounds r cs) + time_of e v) =
+    sum_by-append g u (rounds r cs ++ v) ∙ ap (λ (z : ℕ). time_of e u + z) (sum_by-append g (rounds r cs) v) in
     let five : tokens_of e (rounds r cs) ≡ r * tokens_of e cs = rounds_sum f cs r in
     let six : time_of e (rounds r cs) ≡ r * time_of e cs = rounds_sum g cs r in
     record {
@@ -235,7 +237,10 @@ goes_on e n T C P a b y s lb L S common step t k lt far =
           let crit : IsCriticalIn e a b meets.at cs = chosen.1 in
           let u : ℕ = chosen.2 in
           let multiple : L ≡ u * tokens_of e cs = chosen.3 in
-          let cut : CutDown e a b best.0 t k (u * tokens_of e cs) ps = cut_down_on e n T C P a b y s t meets.at k cs lt (start_in e n meets.at meets.at cs s.ends crit.at crit.circuit.not_empty) crit far (suc u) u best.0 ps (omega arith) best.3 meets.meets (omega arith) in
+          let cut : CutDown e a b best.0 t k (u * tokens_of e cs) ps =
+          cut_down_on e n T C P a b y s t meets.at k cs lt
+          (start_in e n meets.at meets.at cs s.ends crit.at crit.circuit.not_empty) crit far (suc u) u best.0 ps
+          (omega arith) best.3 meets.meets (omega arith) in
           let one : time_of e cut.walk ≤ y t k = s.greatest t k best.0 cut.walk lt best.2 cut.leads cut.tokens in
           let two : b * time_of e cut.walk ≤ b * y t k = mul-le-mul_left b one in
           let three : a * (u * tokens_of e cs) ≡ a * L = ap (λ (z : ℕ). a * z) (sym multiple) in

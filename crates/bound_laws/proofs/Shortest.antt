@@ -17,7 +17,8 @@ use Rattle.bound_laws.proofs.Bounded.{dates_go_on, factorials_are_common, steps_
 -- a shortest form has the period that divides all others
 least_divides : (n : ℕ) (x : ℕ → ℕ → Date) (f : SettledForm) (k q : ℕ) (u : ℕ → ℤ) → IsShortestForm n f x → RepeatsAfter n x k q u → f.period ∣ q
 least_divides n x f k q u h r =
-    let g : HasCommon n x k q f.period = gcd_period n x k (suc (q + f.period)) q f.period (omega arith) (record { step = u; repeats = r }) (record { step = step_of_form f; repeats = lowered n x k f.after q f.period u (step_of_form f) r h.stands.repeats }) in
+    let g : HasCommon n x k q f.period = gcd_period n x k (suc (q + f.period)) q f.period (omega arith)
+    (record { step = u; repeats = r }) (record { step = step_of_form f; repeats = lowered n x k f.after q f.period u (step_of_form f) r h.stands.repeats }) in
     let one = h.stands.repeats.at_least_one in
     let low : f.period ≤ g.gcd = h.least_period k g.gcd g.form.step g.form.repeats in
     let high : g.gcd ≤ f.period = le_of_dvd (omega arith) g.is_gcd.1 in
@@ -40,7 +41,8 @@ factorial_some (suc n) = let old = factorial_some n in let e : suc n * factorial
 pub forms_keep_the_bound : FormsKeepTheBound
 forms_keep_the_bound net hold tokens a b s x least f h =
     let n : ℕ = length net.transitions in
-    let all : HasPeriod n x (bound_of n hold tokens a b) (factorial (n * tokens)) = form_of net hold tokens a b s x least (factorial (n * tokens)) (factorial_some (n * tokens)) (factorials_are_common net hold tokens a b s) in (
+    let all : HasPeriod n x (bound_of n hold tokens a b) (factorial (n * tokens)) =
+    form_of net hold tokens a b s x least (factorial (n * tokens)) (factorial_some (n * tokens)) (factorials_are_common net hold tokens a b s) in (
       h.least_after (bound_of n hold tokens a b) (factorial (n * tokens)) all.step all.repeats,
       λ L some common. let form : HasPeriod n x (bound_of n hold tokens a b) L = form_of net hold tokens a b s x least L some common in
           least_divides n x f (bound_of n hold tokens a b) L form.step h form.repeats,

@@ -40,8 +40,10 @@ at_most_number h k l = omega (arith, ints, l)
 -- x is the number y of tokens before, as a date
 pub record AreWalkTimes (net : NetLists) (x : ℕ → ℕ → Date) (y : ℕ → ℕ → ℕ) : Type 0 where
   pub is : (t k : ℕ) → t < length net.transitions → x t (k + 1) ≡ At (pos (y t k))
-  pub reached : (t k : ℕ) → t < length net.transitions → (j : ℕ) × (ps : List PlaceId) × (j < length net.transitions) × IsPathBetween (unrolled net) j ps t × (tokens_of (unrolled net) ps ≡ k) × (time_of (unrolled net) ps ≡ y t k)
-  pub greatest : (t k j : ℕ) (ps : List PlaceId) → t < length net.transitions → j < length net.transitions → IsPathBetween (unrolled net) j ps t → tokens_of (unrolled net) ps ≡ k → time_of (unrolled net) ps ≤ y t k
+  pub reached : (t k : ℕ) → t < length net.transitions → (j : ℕ) × (ps : List PlaceId) × (j < length net.transitions)
+      × IsPathBetween (unrolled net) j ps t × (tokens_of (unrolled net) ps ≡ k) × (time_of (unrolled net) ps ≡ y t k)
+  pub greatest : (t k j : ℕ) (ps : List PlaceId) → t < length net.transitions → j < length net.transitions
+      → IsPathBetween (unrolled net) j ps t → tokens_of (unrolled net) ps ≡ k → time_of (unrolled net) ps ≤ y t k
 
 -- the place by which a transition waits
 pub record Waiting (net : NetLists) (t : ℕ) : Type 0 where
@@ -98,7 +100,8 @@ module _ (net : NetLists) (ok : IsNet net) (live : IsLive net) (no_input : (t : 
   unfolding times_of
   time_is t k l = ap number_of (date_is t k l)
 
-  reached_by : (t k : ℕ) → (l : t < length net.transitions) → (j : ℕ) × (ps : List PlaceId) × (j < length net.transitions) × IsPathBetween (unrolled net) j ps t × (tokens_of (unrolled net) ps ≡ k) × (time_of (unrolled net) ps ≡ times_of t k)
+  reached_by : (t k : ℕ) → (l : t < length net.transitions) → (j : ℕ) × (ps : List PlaceId) × (j < length net.transitions)
+      × IsPathBetween (unrolled net) j ps t × (tokens_of (unrolled net) ps ≡ k) × (time_of (unrolled net) ps ≡ times_of t k)
   reached_by t k l =
       let w : IsDateOfWalk net (listed_releases net) t (k + 1) (x t (k + 1)) = (walks t k l).reached in
       let path : Pathed net w.from t w.number (k + 1) w.steps = pathed net ok w.steps w.from w.number t (k + 1) w.from_in w.walk in
@@ -122,16 +125,22 @@ module _ (net : NetLists) (ok : IsNet net) (live : IsLive net) (no_input : (t : 
         omega arith,
       )
 
-  greatest_of : (t k j : ℕ) (ps : List PlaceId) → t < length net.transitions → j < length net.transitions → IsPathBetween (unrolled net) j ps t → tokens_of (unrolled net) ps ≡ k → time_of (unrolled net) ps ≤ times_of t k
+  greatest_of : (t k j : ℕ) (ps : List PlaceId) → t < length net.transitions → j < length net.transitions
+      → IsPathBetween (unrolled net) j ps t → tokens_of (unrolled net) ps ≡ k → time_of (unrolled net) ps ≤ times_of t k
   greatest_of t k j ps l lj h e =
       let s : Stepped net j t 1 ps = stepped net ps j t 1 h in
       let number : s.number ≡ k + 1 = (let z = s.number_is in omega arith) in
       let date : IsDateOfWalk net (listed_releases net) t s.number (delayed (walk_time net s.steps) (start_of_firing net (listed_releases net) j 1)) =
       record { from = j; number = 1; steps = s.steps; start = start_of_firing net (listed_releases net) j 1; starts = refl; from_in = lj; from_one = omega arith; walk = s.walks; is = refl } in
       let below : IsAtMostDate (delayed (walk_time net s.steps) (start_of_firing net (listed_releases net) j 1)) (x t (k + 1)) =
-      (walks t k l).greatest (delayed (walk_time net s.steps) (start_of_firing net (listed_releases net) j 1)) (subst (λ (z : ℕ). IsDateOfWalk net (listed_releases net) t z (delayed (walk_time net s.steps) (start_of_firing net (listed_releases net) j 1))) number date) in
-      let left : delayed (walk_time net s.steps) (start_of_firing net (listed_releases net) j 1) ≡ At (pos (walk_time net s.steps)) = ap (delayed (walk_time net s.steps)) (starts j 1) ∙ from_zero (walk_time net s.steps) in
-      let numbers : IsAtMostDate (At (pos (walk_time net s.steps))) (At (pos (walk_time net (walks t k l).reached.steps))) = subst (λ (z : Date). IsAtMostDate z (At (pos (walk_time net (walks t k l).reached.steps)))) left (subst (IsAtMostDate (delayed (walk_time net s.steps) (start_of_firing net (listed_releases net) j 1))) (date_is t k l) below) in
+      (walks t k l).greatest (delayed (walk_time net s.steps) (start_of_firing net (listed_releases net) j 1))
+      (subst (λ (z : ℕ). IsDateOfWalk net (listed_releases net) t z
+      (delayed (walk_time net s.steps) (start_of_firing net (listed_releases net) j 1))) number date) in
+      let left : delayed (walk_time net s.steps) (start_of_firing net (listed_releases net) j 1) ≡ At (pos (walk_time net s.steps)) =
+      ap (delayed (walk_time net s.steps)) (starts j 1) ∙ from_zero (walk_time net s.steps) in
+      let numbers : IsAtMostDate (At (pos (walk_time net s.steps))) (At (pos (walk_time net (walks t k l).reached.steps))) =
+      subst (λ (z : Date). IsAtMostDate z (At (pos (walk_time net (walks t k l).reached.steps)))) left
+      (subst (IsAtMostDate (delayed (walk_time net s.steps) (start_of_firing net (listed_releases net) j 1))) (date_is t k l) below) in
       let most = at_most_number (walk_time net s.steps) (walk_time net (walks t k l).reached.steps) numbers in
       let one = s.time in
       let two = time_is t k l in

@@ -145,7 +145,8 @@ module _ (net : NetLists) (u x : Dating) (r c : Counts) (h : AreCounted net u x 
 
   -- what keeps within the least of counts that come by their dates comes by its date
   comes_with : IsTight net u x → (other : Counts) (t d k : ℕ) → t < length net.transitions → 1 ≤ k → IsUpToLeast net r other t d k
-      → All (λ p. p.to.index ≡ t → p.tokens < k → p.hold ≤ d → IsUpTo (k - p.tokens) (other p.from.index (d - p.hold)) → IsAtMostDate (x p.from.index (k - p.tokens)) (At (pos (d - p.hold)))) net.places
+      → All (λ p. p.to.index ≡ t → p.tokens < k → p.hold ≤ d → IsUpTo (k - p.tokens) (other p.from.index (d - p.hold))
+      → IsAtMostDate (x p.from.index (k - p.tokens)) (At (pos (d - p.hold)))) net.places
       → ((j : ℕ) → suc j ≡ k → 1 ≤ j → IsAtMostDate (x t j) (At (pos d)))
       → IsAtMostDate (x t k) (At (pos d))
   comes_with tight other t d k l o up come before =
@@ -164,7 +165,8 @@ module _ (net : NetLists) (u x : Dating) (r c : Counts) (h : AreCounted net u x 
   reached tight t d zero l o up = absurd (omega (arith, o))
   reached tight t d (suc n) l o up =
       comes_with tight c t d (suc n) l o up
-      (λ i e m to q held w. (h.firings (get_or net.places i e).from.index (h.net_rules.each_place i e m).from_in (d - (get_or net.places i e).hold) (suc n - (get_or net.places i e).tokens) (omega (arith, q))).1 w)
+      (λ i e m to q held w. (h.firings (get_or net.places i e).from.index
+      (h.net_rules.each_place i e m).from_in (d - (get_or net.places i e).hold) (suc n - (get_or net.places i e).tokens) (omega (arith, q))).1 w)
       (λ j e one. let same : j ≡ n = omega (arith, e) in rw same (reached tight t d n l (omega (arith, one, same)) (lower_least t d n (suc n) (omega arith) up)))
 
   greatest : (bound : ℕ) (rank : ℕ → ℕ) → AreRanks net.places bound rank → IsTight net u x → (other : Counts) → AreWithinLeast net r other

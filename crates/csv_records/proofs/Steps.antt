@@ -49,7 +49,8 @@ moved rest a b fields reading r goes flexible first =
     }
 
 -- a read that found none was at the end
-pub ended : {R : Type 0} (rest : R → Option (List ℕ)) (a b : Reader R) (fields : List (List ℕ)) → IsReading rest a → ReadRecord rest a b false fields → records_left_of (reader_state a) (source_of rest a) ≡ []
+pub ended : {R : Type 0} (rest : R → Option (List ℕ)) (a b : Reader R) (fields : List (List ℕ)) → IsReading rest a
+    → ReadRecord rest a b false fields → records_left_of (reader_state a) (source_of rest a) ≡ []
 ended rest a b fields reading r =
     let (xs, source) = reading.told in
     rw source (unread_none default_config (reader_state a) xs (rows-end rest a b fields default_config xs reading.config source r))

@@ -1,5 +1,6 @@
 -- The records that are left of a text, after some were read.
-use Rattle.std.proofs.Common.{◌≡◌, ◌∙◌, ◌<◌, ◌≤◌, ◌+◌, ◌-◌, ◌==◌, ◌∷◌, ◌++◌, ℕ, zero, suc, List, [], Bool, true, false, cond, ◌&&◌, Option, Some, None, inl, inr, length, refl, ap, subst, arith, add-one}
+use Rattle.std.proofs.Common.{◌≡◌, ◌∙◌, ◌<◌, ◌≤◌, ◌+◌, ◌-◌, ◌==◌, ◌∷◌, ◌++◌, ℕ, zero, suc, List, [], Bool, true, false, cond, ◌&&◌, Option, Some}
+use Rattle.std.proofs.Common.{None, inl, inr, length, refl, ap, subst, arith, add-one}
 use Rattle.std.proofs.lemmas.Bool.{cases_Bool}
 use Rattle.csv_records.specs.Records.{IsBetween}
 use Rattle.csv.specs.Machine.{Read, after_end, ends_at_end, ends_with, field_after, fields_after, in_field, is_byte, is_end, line_feed, next_record, start_field, start_record, step}
@@ -43,7 +44,8 @@ step_between : (cfg : Config) (s : State) (c : ℕ) → EndsBetween (step cfg s 
 step_between cfg st.StartRecord c = start_record_between cfg c
 step_between cfg st.StartField c = start_field_between cfg c
 step_between cfg st.InField c = in_field_between cfg c
-step_between cfg st.InQuoted c = choose (cfg.quoting && (c == cfg.quote)) (st.AfterQuote, act.Skip) (cond (cfg.quoting && is_byte cfg.escape c) (st.InEscape, act.Skip) (st.InQuoted, act.Copy)) (λ h. cc h)
+step_between cfg st.InQuoted c = choose (cfg.quoting && (c == cfg.quote)) (st.AfterQuote, act.Skip)
+    (cond (cfg.quoting && is_byte cfg.escape c) (st.InEscape, act.Skip) (st.InQuoted, act.Copy)) (λ h. cc h)
     (choose (cfg.quoting && is_byte cfg.escape c) (st.InEscape, act.Skip) (st.InQuoted, act.Copy) (λ h. cc h) (λ h. cc h))
 step_between cfg st.InEscape c = λ h. cc h
 step_between cfg st.AfterQuote c = choose (cfg.quoting && cfg.double_quote && (c == cfg.quote)) (st.InQuoted, act.Copy) (in_field cfg c) (λ h. cc h) (in_field_between cfg c)
@@ -82,7 +84,9 @@ pub took_a_byte : (cfg : Config) (s : State) (xs : List ℕ) (p : Read) → IsBe
 took_a_byte cfg s [] p between e = absurd (none_at_end cfg s p between e)
 took_a_byte cfg s (x ∷ xs) p between e = let h = (next_was_read cfg s [] [] (x ∷ xs) p e).shorter in omega arith
 
-same_next : (cfg : Config) (n m : ℕ) (o : Option Read) → ((p : Read) → o ≡ Some p → records_from cfg n p.1 p.2 ≡ records_from cfg m p.1 p.2) → records_next (records_from cfg n) o ≡ records_next (records_from cfg m) o
+same_next : (cfg : Config) (n m : ℕ) (o : Option Read)
+    → ((p : Read) → o ≡ Some p → records_from cfg n p.1 p.2 ≡ records_from cfg m p.1 p.2)
+    → records_next (records_from cfg n) o ≡ records_next (records_from cfg m) o
 same_next cfg n m None h = refl
 same_next cfg n m (Some p) h = ap (λ (rest : List (List (List ℕ))). p.0 ∷ rest) (h p refl)
 
@@ -100,7 +104,8 @@ unfolding records_from
 one_turn cfg n s xs o e = ap (records_next (records_from cfg n)) e
 
 -- the first of those that are left, and the rest
-pub unread_more : (cfg : Config) (s : State) (xs : List ℕ) (p : Read) → IsBetween s → next_record cfg s [] [] xs ≡ Some p → records_from cfg (length xs + 1) s xs ≡ p.0 ∷ records_from cfg (length p.2 + 1) p.1 p.2
+pub unread_more : (cfg : Config) (s : State) (xs : List ℕ) (p : Read) → IsBetween s → next_record cfg s [] [] xs ≡ Some p
+    → records_from cfg (length xs + 1) s xs ≡ p.0 ∷ records_from cfg (length p.2 + 1) p.1 p.2
 unread_more cfg s xs p between e =
     let fewer = took_a_byte cfg s xs p between e in
     rw add-one (one_turn cfg (length xs) s xs (Some p) e)
@@ -114,7 +119,8 @@ next_is : (o : Option Read) (f : List (List ℕ)) (s : State) (z : List ℕ) →
 next_is None f s z n = cc n
 next_is (Some p) f s z n = rw (n.1, n.2, n.3) refl
 
-pub read_gives : (cfg : Config) (a b : State) (y : List ℕ) (f : List (List ℕ)) (k : Option (List ℕ)) → ReadsNext cfg a (Some y) k true f b → (z : List ℕ) × (k ≡ Some z) × (next_record cfg a [] [] y ≡ Some (f, b, z))
+pub read_gives : (cfg : Config) (a b : State) (y : List ℕ) (f : List (List ℕ)) (k : Option (List ℕ))
+    → ReadsNext cfg a (Some y) k true f b → (z : List ℕ) × (k ≡ Some z) × (next_record cfg a [] [] y ≡ Some (f, b, z))
 read_gives cfg a b y f None r = absurd r
 read_gives cfg a b y f (Some z) r = (z, refl, next_is _ f b z r)
 

@@ -51,25 +51,35 @@ meets_or_loses net a b ok greatest j t lt ps h = by_loops net (length net.transi
     inr (record { loops = 0; loss = omega (arith, time); few = omega (arith, few) }))
     (λ qs g loop old. ⊎_elim
     (λ (m : MeetsCritical net a b t (loop.before ++ loop.after)).
-    inl (record { at = m.at; meets = subst (λ (z : List PlaceId). Meets net t z m.at) (sym loop.is) (still_meets net t m.at loop.before loop.loop loop.after m.meets); circuit = m.circuit; critical = m.critical }))
+    inl (record {
+      at = m.at;
+      meets = subst (λ (z : List PlaceId). Meets net t z m.at) (sym loop.is)
+          (still_meets net t m.at loop.before loop.loop loop.after m.meets);
+      circuit = m.circuit;
+      critical = m.critical;
+    }))
     (λ (o : LosesMuch net a b (loop.before ++ loop.after)).
     let ratio = greatest loop.loop loop.circuit in
     ⊎_elim
     (λ (less : b * time_of net loop.loop < a * tokens_of net loop.loop).
-    let both = loses_more b (most_tokens net) a (most_time net) (time_of net (loop.before ++ loop.after)) (time_of net loop.loop) (tokens_of net (loop.before ++ loop.after)) (tokens_of net loop.loop) (time_of net qs) (tokens_of net qs) o.loops
+    let both = loses_more b (most_tokens net) a (most_time net) (time_of net (loop.before ++ loop.after)) (time_of net loop.loop)
+    (tokens_of net (loop.before ++ loop.after)) (tokens_of net loop.loop) (time_of net qs) (tokens_of net qs) o.loops
     (loop_sum (λ p. (place_at net p).hold) net j t qs loop) (loop_sum (λ p. (place_at net p).tokens) net j t qs loop) o.loss o.few less (tokens_round net loop.loop ok loop.circuit) in
     inr (record { loops = o.loops + 1; loss = both.0; few = both.1 }))
     (λ (more : a * tokens_of net loop.loop ≤ b * time_of net loop.loop).
     inl (record {
       at = loop.at;
-      meets = subst (λ (z : List PlaceId). Meets net t z loop.at) (sym loop.is) (joined_meets net loop.before (loop.loop ++ loop.after) loop.at t (IsPathBetween-append net loop.loop loop.after loop.at loop.at t loop.closed loop.last));
+      meets = subst (λ (z : List PlaceId). Meets net t z loop.at) (sym loop.is)
+          (joined_meets net loop.before (loop.loop ++ loop.after) loop.at t
+          (IsPathBetween-append net loop.loop loop.after loop.at loop.at t loop.closed loop.last));
       circuit = loop.loop;
       critical = record { circuit = loop.circuit; at = loop.closed; critical = omega (arith, ratio, more) };
     }))
     (cases_lt (b * time_of net loop.loop) (a * tokens_of net loop.loop)))
     old)
     ps h where
-      short : (f : PlaceId → ℕ) (most : ℕ) (qs : List PlaceId) → IsPathBetween net j qs t → length qs < length net.transitions → ((id : PlaceId) → id.index < length net.places → f id ≤ most) → sum_by f qs ≤ length net.transitions * most
+      short : (f : PlaceId → ℕ) (most : ℕ) (qs : List PlaceId) → IsPathBetween net j qs t → length qs < length net.transitions
+          → ((id : PlaceId) → id.index < length net.places → f id ≤ most) → sum_by f qs ≤ length net.transitions * most
       short f most qs g l each =
           let one = sum_most f most net each qs j t g in
           let two : length qs * most ≤ length net.transitions * most = mul-le-mul_right {m = length qs} {n = length net.transitions} most (omega (arith, l)) in

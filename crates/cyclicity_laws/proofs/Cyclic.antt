@@ -57,7 +57,8 @@ under a b P units v k far some same low =
     cancel (a * k) (b * v + a * far) P some (omega (arith, more, left, own, turned, right, back, sum))
 
 -- a walk that loses much is short
-short_walk : (a b D M low Q C v sd time tokens loops s nexts k : ℕ) → 1 ≤ a → a * k ≤ b * v + low → v ≡ sd + time → sd ≤ D → k ≡ s + tokens + nexts → b * time + loops ≤ a * tokens + b * M → tokens ≤ C + C * loops
+short_walk : (a b D M low Q C v sd time tokens loops s nexts k : ℕ) → 1 ≤ a → a * k ≤ b * v + low → v ≡ sd + time → sd ≤ D
+    → k ≡ s + tokens + nexts → b * time + loops ≤ a * tokens + b * M → tokens ≤ C + C * loops
     → Q ≡ b * D + b * M + low → k ≤ Q + (C + C * Q)
 short_walk a b D M low Q C v sd time tokens loops s nexts k one floor value start number loss few q =
     let spread : b * (sd + time) ≡ b * sd + b * time = grind arith in
@@ -66,7 +67,8 @@ short_walk a b D M low Q C v sd time tokens loops s nexts k one floor value star
     let line : a * k ≡ a * (s + tokens + nexts) = ap (λ z. a * z) number in
     let parts : a * (s + tokens + nexts) ≡ a * (s + nexts) + a * tokens = grind arith in
     let all : a * (s + nexts) + loops ≤ Q = omega (arith, floor, date, spread, begin, line, parts, loss, q) in
-    let wide : s + nexts ≤ a * (s + nexts) = (let e : 1 * (s + nexts) ≡ s + nexts = omega arith in let m : 1 * (s + nexts) ≤ a * (s + nexts) = mul-le-mul_right {m = 1} {n = a} (s + nexts) one in omega (arith, e, m)) in
+    let wide : s + nexts ≤ a * (s + nexts) = (let e : 1 * (s + nexts) ≡ s + nexts =
+    omega arith in let m : 1 * (s + nexts) ≤ a * (s + nexts) = mul-le-mul_right {m = 1} {n = a} (s + nexts) one in omega (arith, e, m)) in
     let many : C * loops ≤ C * Q = mul-le-mul_left {m = loops} {n = Q} C (omega (arith, all)) in
     omega (arith, all, wide, many, few, number)
 
@@ -154,7 +156,8 @@ module _ (repeat : LeastDatingsRepeat) (net : NetLists) (a b : ℕ) (s : IsStron
       (λ (none : start_date net c j ≡ 0). omega (arith, none))
       (λ (found : Any (λ p. (p.to.index ≡ c) × (j ≤ p.tokens) × (ready_date p j ≡ start_date net c j)) net.places).
       let (n, p, l, r, (ends, few, e)) = found in
-      let is : (k : ℕ) → ready_date p k ≤ greatest_input_date = subst (λ q. (k : ℕ) → ready_date q k ≤ greatest_input_date) r (λ k. date_le (get_or net.places n p).ready (k - 1) (ok.each_place n p l).ready_in) in
+      let is : (k : ℕ) → ready_date p k ≤ greatest_input_date =
+      subst (λ q. (k : ℕ) → ready_date q k ≤ greatest_input_date) r (λ k. date_le (get_or net.places n p).ready (k - 1) (ok.each_place n p l).ready_in) in
       let low = is j in
       omega (arith, low, e))
       (IsStartDate-start_date net c j).reached
@@ -169,20 +172,25 @@ module _ (repeat : LeastDatingsRepeat) (net : NetLists) (a b : ℕ) (s : IsStron
   from_start : (c j : ℕ) → c < length net.transitions → 1 ≤ j → start_date net c j ≤ v c j
   from_start c j l one =
       let st : Date = start_of_firing net (listed_releases net) c j in
-      let up = (walks c j l one).greatest (delayed (walk_time net []) st) (record { from = c; number = j; steps = []; start = st; from_in = l; from_one = one; walk = (refl, refl); starts = refl; is = refl }) in
-      let e : delayed (walk_time net []) st ≡ At (pos (start_date net c j + walk_time net [])) = ap (delayed (walk_time net [])) (start_is c j) ∙ later_number (walk_time net []) (start_date net c j) in
+      let up = (walks c j l one).greatest (delayed (walk_time net []) st)
+      (record { from = c; number = j; steps = []; start = st; from_in = l; from_one = one; walk = (refl, refl); starts = refl; is = refl }) in
+      let e : delayed (walk_time net []) st ≡ At (pos (start_date net c j + walk_time net [])) =
+      ap (delayed (walk_time net [])) (start_is c j) ∙ later_number (walk_time net []) (start_date net c j) in
       let low = at_most_numbers (delayed (walk_time net []) st) (x c j) (start_date net c j + walk_time net []) (v c j) e (is_v c j l one) up in
       omega (arith, low)
 
   -- a path carries dates, also from some numbers on
-  carries : (ps : List PlaceId) (c t j nexts : ℕ) → c < length net.transitions → t < length net.transitions → 1 ≤ j → IsPathBetween net c ps t → v c j + time_of net ps ≤ v t ((j + nexts) + tokens_of net ps)
+  carries : (ps : List PlaceId) (c t j nexts : ℕ) → c < length net.transitions → t < length net.transitions → 1 ≤ j
+      → IsPathBetween net c ps t → v c j + time_of net ps ≤ v t ((j + nexts) + tokens_of net ps)
   carries ps c t j nexts lc lt one h =
       let keeps : Keeps net x = least_keeps net x least in
       let rise = climb_many x c (λ k o. dates_climb net (listed_releases net) x least.feasible c k lc o) j nexts one in
       let up = at_most_numbers (x c j) (x c (j + nexts)) (v c j) (v c (j + nexts)) (is_v c j lc one) (is_v c (j + nexts) lc (omega (arith, one))) rise in
       let on = path_keeps net x ok keeps ps c t (j + nexts) (omega (arith, one)) h in
-      let e : delayed (time_of net ps) (x c (j + nexts)) ≡ At (pos (v c (j + nexts) + time_of net ps)) = ap (delayed (time_of net ps)) (is_v c (j + nexts) lc (omega (arith, one))) ∙ later_number (time_of net ps) (v c (j + nexts)) in
-      let more = at_most_numbers (delayed (time_of net ps) (x c (j + nexts))) (x t ((j + nexts) + tokens_of net ps)) (v c (j + nexts) + time_of net ps) (v t ((j + nexts) + tokens_of net ps)) e (is_v t ((j + nexts) + tokens_of net ps) lt (omega (arith, one))) on in
+      let e : delayed (time_of net ps) (x c (j + nexts)) ≡ At (pos (v c (j + nexts) + time_of net ps)) =
+      ap (delayed (time_of net ps)) (is_v c (j + nexts) lc (omega (arith, one))) ∙ later_number (time_of net ps) (v c (j + nexts)) in
+      let more = at_most_numbers (delayed (time_of net ps) (x c (j + nexts))) (x t ((j + nexts) + tokens_of net ps))
+      (v c (j + nexts) + time_of net ps) (v t ((j + nexts) + tokens_of net ps)) e (is_v t ((j + nexts) + tokens_of net ps) lt (omega (arith, one))) on in
       omega (arith, up, more)
 
   -- where the greatest ratio is 0 no date rises past the number from which they repeat
@@ -196,7 +204,8 @@ module _ (repeat : LeastDatingsRepeat) (net : NetLists) (a b : ℕ) (s : IsStron
         let climbs : (j : ℕ) → 1 ≤ j → IsAtMostDate (x t j) (x t (j + 1)) = λ j o. dates_climb net (listed_releases net) x least.feasible t j l o in
         let up = at_most_numbers (x t k) (x t (k + 1)) (v t k) (v t (k + 1)) (is_v t k l one) (is_v t (k + 1) l (omega arith)) (climbs k one) in
         let end : k + 1 + (P - 1) ≡ k + P = (let e = some in omega (arith, e)) in
-        let on = at_most_numbers (x t (k + 1)) (x t (k + 1 + (P - 1))) (v t (k + 1)) (v t (k + 1 + (P - 1))) (is_v t (k + 1) l (omega arith)) (is_v t (k + 1 + (P - 1)) l (omega arith)) (climb_many x t climbs (k + 1) (P - 1) (omega arith)) in
+        let on = at_most_numbers (x t (k + 1)) (x t (k + 1 + (P - 1))) (v t (k + 1)) (v t (k + 1 + (P - 1)))
+        (is_v t (k + 1) l (omega arith)) (is_v t (k + 1 + (P - 1)) l (omega arith)) (climb_many x t climbs (k + 1) (P - 1) (omega arith)) in
         let there : v t (k + 1 + (P - 1)) ≡ v t (k + P) = ap (v t) end in
         let back = u.2 k past in
         let same : v t (k + 1) ≡ v t k = omega (arith, up, on, there, back, nothing) in
@@ -240,7 +249,9 @@ module _ (repeat : LeastDatingsRepeat) (net : NetLists) (a b : ℕ) (s : IsStron
         let tokens_some : 1 ≤ tokens_of net m.circuit = some_of (tokens_of net m.circuit) (s.live m.circuit m.critical.circuit) in
         let period : ℕ = P * tokens_of net m.circuit in
         let own : IsRound net a b m.at (tokens_of net m.circuit) = record { places = m.circuit; closed = m.critical.at; critical = m.critical.critical; tokens = refl } in
-        let round : ComesRound net a b m.at period L = comes_round net a b m.at period (both_some P (tokens_of net m.circuit) some tokens_some) (repeated net a b m.at P (tokens_of net m.circuit) own) L chosen.0 chosen.1 chosen.2 in
+        let round : ComesRound net a b m.at period L =
+        comes_round net a b m.at period (both_some P (tokens_of net m.circuit) some tokens_some)
+        (repeated net a b m.at P (tokens_of net m.circuit) own) L chosen.0 chosen.1 chosen.2 in
         let cs : List PlaceId = round.round.places in
         let times : ℕ = round.times * tokens_of net m.circuit in
         let periods : round.times * period ≡ times * P = grind arith in
@@ -260,7 +271,8 @@ module _ (repeat : LeastDatingsRepeat) (net : NetLists) (a b : ℕ) (s : IsStron
         })
         (λ (o : LosesMuch net a b ps).
         let low = floor t k l in
-        let few = short_walk a b greatest_input_date (most_time net) (a * (K + P)) Q (most_tokens net) (v t k) (start_date net c j) (time_of net ps) (tokens_of net ps) o.loops j path.nexts k time_some low value (start_low c j) number o.loss o.few refl in
+        let few = short_walk a b greatest_input_date (most_time net) (a * (K + P)) Q (most_tokens net) (v t k) (start_date net c j)
+        (time_of net ps) (tokens_of net ps) o.loops j path.nexts k time_some low value (start_low c j) number o.loss o.few refl in
         absurd (omega (arith, few, past)))
         (meets_or_loses net a b ok greatest c t l ps path.path) where
           both_some : (m n : ℕ) → 1 ≤ m → 1 ≤ n → 1 ≤ m * n
@@ -291,13 +303,17 @@ module _ (repeat : LeastDatingsRepeat) (net : NetLists) (a b : ℕ) (s : IsStron
         let u = units t l in
         let low = rises t k l past in
         let rest = rises_on (P - 1) t (k + L) l (omega (arith, past)) in
-        let is : (k + L) + (P - 1) * L ≡ k + L * P = (let e : P ≡ suc (P - 1) = omega (arith, some) in let f : L * P ≡ L * suc (P - 1) = ap (λ z. L * z) e in let g : (k + L) + (P - 1) * L ≡ k + L * suc (P - 1) = grind arith in g ∙ ap (λ z. k + z) (sym f)) in
+        let is : (k + L) + (P - 1) * L ≡ k + L * P =
+        (let e : P ≡ suc (P - 1) = omega (arith, some) in let f : L * P ≡ L * suc (P - 1) =
+        ap (λ z. L * z) e in let g : (k + L) + (P - 1) * L ≡ k + L * suc (P - 1) = grind arith in g ∙ ap (λ z. k + z) (sym f)) in
         let there : b * v t ((k + L) + (P - 1) * L) ≡ b * v t (k + L * P) = ap (λ z. b * v t z) is in
         let periods : v t (k + L * P) ≡ v t k + L * u.0 = on (v t) K P u.0 some u.2 L k (omega (arith, past)) in
         let date : b * v t (k + L * P) ≡ b * (v t k + L * u.0) = ap (λ z. b * z) periods in
         let spread : b * (v t k + L * u.0) ≡ b * v t k + L * (u.0 * b) = grind arith in
         let own : L * (u.0 * b) ≡ L * (a * P) = ap (λ z. L * z) (sym u.1) in
-        let turned : L * (a * P) ≡ (P - 1) * (a * L) + a * L = (let e : P ≡ suc (P - 1) = omega (arith, some) in ap (λ z. L * (a * z)) e ∙ (let g : L * (a * suc (P - 1)) ≡ (P - 1) * (a * L) + a * L = grind arith in g)) in
+        let turned : L * (a * P) ≡ (P - 1) * (a * L) + a * L =
+        (let e : P ≡ suc (P - 1) = omega (arith, some) in ap (λ z. L * (a * z)) e
+        ∙ (let g : L * (a * suc (P - 1)) ≡ (P - 1) * (a * L) + a * L = grind arith in g)) in
         omega (arith, low, rest, there, date, spread, own, turned)
 
     step : ℕ → ℕ
@@ -309,7 +325,8 @@ module _ (repeat : LeastDatingsRepeat) (net : NetLists) (a b : ℕ) (s : IsStron
         let e = just t (far + 1) l (omega arith) in
         let m : ℕ = v t (far + 1) in
         let n : ℕ = v t ((far + 1) + L) in
-        let low : m ≤ n = cancel m n b s.ratio.some (let f : b * m ≤ b * n = omega (arith, e) in let g : m * b ≡ b * m = grind arith in let h : n * b ≡ b * n = grind arith in omega (arith, f, g, h)) in
+        let low : m ≤ n = cancel m n b s.ratio.some
+        (let f : b * m ≤ b * n = omega (arith, e) in let g : m * b ≡ b * m = grind arith in let h : n * b ≡ b * n = grind arith in omega (arith, f, g, h)) in
         let is : n ≡ m + (n - m) = omega (arith, low) in
         let spread : b * (m + (n - m)) ≡ b * m + b * (n - m) = grind arith in
         let whole : b * n ≡ b * (m + (n - m)) = ap (λ z. b * z) is in
@@ -342,7 +359,8 @@ module _ (repeat : LeastDatingsRepeat) (net : NetLists) (a b : ℕ) (s : IsStron
 -- a shortest form has the period that divides all others
 least_divides : (n : ℕ) (x : ℕ → ℕ → Date) (f : SettledForm) (k q : ℕ) (u : ℕ → ℤ) → IsShortestForm n f x → RepeatsAfter n x k q u → f.period ∣ q
 least_divides n x f k q u h r =
-    let g : HasCommon n x k q f.period = gcd_period n x k (suc (q + f.period)) q f.period (omega arith) (record { step = u; repeats = r }) (record { step = step_of_form f; repeats = lowered n x k f.after q f.period u (step_of_form f) r h.stands.repeats }) in
+    let g : HasCommon n x k q f.period = gcd_period n x k (suc (q + f.period)) q f.period (omega arith)
+    (record { step = u; repeats = r }) (record { step = step_of_form f; repeats = lowered n x k f.after q f.period u (step_of_form f) r h.stands.repeats }) in
     let one = h.stands.repeats.at_least_one in
     let low : f.period ≤ g.gcd = h.least_period k g.gcd g.form.step g.form.repeats in
     let high : g.gcd ≤ f.period = le_of_dvd (omega arith) g.is_gcd.1 in
@@ -352,7 +370,8 @@ least_divides n x f k q u h r =
 pub periods_divide : LeastDatingsRepeat → PeriodsDivideByParts
 periods_divide repeat net a b s x least f h L one common = ⊎_elim
     (λ (some : 0 < a).
-    least_divides (length net.transitions) x f (far repeat net a b s x least) L (λ t. pos (step repeat net a b s x least some L one common t)) h (repeats_by_parts repeat net a b s x least some L one common))
+    least_divides (length net.transitions) x f (far repeat net a b s x least) L
+    (λ t. pos (step repeat net a b s x least some L one common t)) h (repeats_by_parts repeat net a b s x least some L one common))
     (λ (none : a ≤ 0).
     let still_one : f.period ∣ 1 = least_divides (length net.transitions) x f (repeats_past net) 1 (λ t. pos 0) h (still repeat net a b s x least (omega (arith, none))) in
     dvd_trans f.period still_one (one-dvd L))

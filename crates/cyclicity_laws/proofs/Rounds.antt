@@ -171,6 +171,17 @@ common_by_parts net a b L common c ps h =
     let qs : List PlaceId = w.0 in
     let none : b * 0 ≡ a * 0 = omega arith in (
       qs ∷ [],
-      All-cons (IsCircuitOfCriticalPart net a b c) qs [] (record { circuit = w.1.circuit; at = c; round = w.1.at; critical = w.1.critical; there = []; back = []; to = refl; from = refl; way = none }) (All-nil (IsCircuitOfCriticalPart net a b c)),
+      All-cons (IsCircuitOfCriticalPart net a b c) qs []
+          (record {
+            circuit = w.1.circuit;
+            at = c;
+            round = w.1.at;
+            critical = w.1.critical;
+            there = [];
+            back = [];
+            to = refl;
+            from = refl;
+            way = none;
+          }) (All-nil (IsCircuitOfCriticalPart net a b c)),
       λ d all. subst (λ z. d ∣ z) (sym w.3) (dvd-mul_left_of_dvd d (all 0 qs (omega arith)) w.2),
     )

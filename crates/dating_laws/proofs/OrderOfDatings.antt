@@ -41,14 +41,19 @@ available_both x y p k c d l m =
     (at_most_trans (initial_date p k) c (later_of c d) (rw (available_first initial_date x p k q) at l) (later_left c d)))
     (cases_lt p.tokens k)
 
-available_either : (x y : Dating) (p : Place) (k : ℕ) (c d : Date) → IsAtMostDate (available_at x p k) c → IsAtMostDate (available_at y p k) d → IsAtMostDate (available_at (either x y) p k) (earlier_of c d)
+available_either : (x y : Dating) (p : Place) (k : ℕ) (c d : Date) → IsAtMostDate (available_at x p k) c
+    → IsAtMostDate (available_at y p k) d → IsAtMostDate (available_at (either x y) p k) (earlier_of c d)
 available_either x y p k c d l m =
     ⊎_elim
     (λ (q : p.tokens < k).
     let a : Date = x p.from.index (k - p.tokens) in
     let b : Date = y p.from.index (k - p.tokens) in
-    let low : IsAtMostDate (delayed p.hold (earlier_of a b)) c = at_most_trans (delayed p.hold (earlier_of a b)) (delayed p.hold a) c (delayed_rises p.hold (earlier_of a b) a (earlier_left a b)) (rw (available_after initial_date x p k a q refl) at l) in
-    let high : IsAtMostDate (delayed p.hold (earlier_of a b)) d = at_most_trans (delayed p.hold (earlier_of a b)) (delayed p.hold b) d (delayed_rises p.hold (earlier_of a b) b (earlier_right a b)) (rw (available_after initial_date y p k b q refl) at m) in
+    let low : IsAtMostDate (delayed p.hold (earlier_of a b)) c =
+    at_most_trans (delayed p.hold (earlier_of a b)) (delayed p.hold a) c (delayed_rises p.hold (earlier_of a b) a (earlier_left a b))
+    (rw (available_after initial_date x p k a q refl) at l) in
+    let high : IsAtMostDate (delayed p.hold (earlier_of a b)) d =
+    at_most_trans (delayed p.hold (earlier_of a b)) (delayed p.hold b) d (delayed_rises p.hold (earlier_of a b) b (earlier_right a b))
+    (rw (available_after initial_date y p k b q refl) at m) in
     rw (available_after initial_date (either x y) p k (earlier_of a b) q refl) (earlier_greatest c d (delayed p.hold (earlier_of a b)) low high))
     (λ (q : k ≤ p.tokens).
     rw (available_first initial_date (either x y) p k q)
@@ -67,13 +72,15 @@ later_dates net u v x y h l m t k in' o = l.least y (feasible_before net u v y h
 
 pub feasible_meet : FeasibleDatingsMeet
 feasible_meet net u x y f g = record {
-  places = λ k o i d m. available_either x y (get_or (extended_places net) i d) k (x (get_or (extended_places net) i d).to.index k) (y (get_or (extended_places net) i d).to.index k) (f.places k o i d m) (g.places k o i d m);
+  places = λ k o i d m. available_either x y (get_or (extended_places net) i d) k (x (get_or (extended_places net) i d).to.index k)
+      (y (get_or (extended_places net) i d).to.index k) (f.places k o i d m) (g.places k o i d m);
   inputs = λ t k o i. earlier_greatest (x t k) (y t k) (u t k) (f.inputs t k o i) (g.inputs t k o i);
 }
 
 pub feasible_join : FeasibleDatingsJoin
 feasible_join net u v x y f g = record {
-  places = λ k o i d q. available_both x y (get_or (extended_places net) i d) k (x (get_or (extended_places net) i d).to.index k) (y (get_or (extended_places net) i d).to.index k) (f.places k o i d q) (g.places k o i d q);
+  places = λ k o i d q. available_both x y (get_or (extended_places net) i d) k (x (get_or (extended_places net) i d).to.index k)
+      (y (get_or (extended_places net) i d).to.index k) (f.places k o i d q) (g.places k o i d q);
   inputs = λ t k o i. later_least (u t k) (v t k) (later_of (x t k) (y t k))
       (at_most_trans (u t k) (x t k) (later_of (x t k) (y t k)) (f.inputs t k o i) (later_left (x t k) (y t k)))
       (at_most_trans (v t k) (y t k) (later_of (x t k) (y t k)) (g.inputs t k o i) (later_right (x t k) (y t k)));

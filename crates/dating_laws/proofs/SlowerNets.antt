@@ -32,7 +32,8 @@ longer_hold g h d l =
     let e : g + (h - g) ≡ h = omega arith in
     subst (λ n. IsAtMostDate (delayed g d) (delayed n d)) e (rw (delayed_twice g (h - g) d) (delayed_later (h - g) (delayed g d)))
 
-module _ (slower : NetLists) (ok : IsNet slower) (v y : Dating) (f : IsFeasibleUnder slower v y) (i : ℕ) (l : i < length slower.places) (p : Place) (h : IsSlowerPlace p (get_or slower.places i no_place)) where
+module _ (slower : NetLists) (ok : IsNet slower) (v y : Dating) (f : IsFeasibleUnder slower v y) (i : ℕ) (l : i < length slower.places)
+    (p : Place) (h : IsSlowerPlace p (get_or slower.places i no_place)) where
   abbrev q : Place
   q = get_or slower.places i no_place
 

@@ -166,7 +166,8 @@ dated_between net period t x w most ends work few h i k l o =
     let above = release_above period t i k here.0 o here.2 in
     let plan : Le (At (pos (planned period t i k))) (w i k) = record { holds = rw (here.1) (omega (arith, ints)) } in
     let released : Le (w i k) (x i k) = record { holds = h.least.feasible.releases i k o } in
-    let upper : Le (x i k) (upto n (above_plan period t most) i k) = record { holds = h.least.least (upto n (above_plan period t most)) (plan_is_feasible net period t w most ends work few h.release) i k o } in
+    let upper : Le (x i k) (upto n (above_plan period t most) i k) =
+    record { holds = h.least.least (upto n (above_plan period t most)) (plan_is_feasible net period t w most ends work few h.release) i k o } in
     between_numbers (planned period t i k) (planned period t i k + most) (x i k) (le_trans plan released).holds (le_trans upper (le_is (upto_is n (above_plan period t most) i k l))).holds
 
 -- what a date has above the plan is one number

@@ -193,7 +193,8 @@ module _ (net : NetLists) (ends : HasEndsInRange net) (live : IsLive net) (perio
           le_trans (le_is (same_available both q (release_place n i) k same ∙ released_at both n i k o ∙ both_input i k))
           (le_trans (record { holds = f.releases i k o }) (le_is (sym (both_first i k l) ∙ ap (λ (j : ℕ). both j k) (sym same.to))))
 
-      place_kept : (k : ℕ) → 1 ≤ k → (j : ℕ) → j < length derived.places → Le (available_in initial_date both (place_at derived (record { index = j })) k) (both (place_at derived (record { index = j })).to.index k)
+      place_kept : (k : ℕ) → 1 ≤ k → (j : ℕ) → j < length derived.places
+          → Le (available_in initial_date both (place_at derived (record { index = j })) k) (both (place_at derived (record { index = j })).to.index k)
       place_kept k o j l =
           ⊎_elim
           (λ (a : (j < length net.places) × IsSamePlace (place_at derived (record { index = j })) (place_at net (record { index = j }))). own_kept k o (record { index = j }) a.0 a.1)

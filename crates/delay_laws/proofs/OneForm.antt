@@ -47,7 +47,8 @@ forms_are_of_each net ends period t f h x w d =
     shortest_alike (n + n) f (together n h.0 h.1) (together n x w) (datings_alike net period t h.0 h.1 x w ends h.2 d) h.3
 
 -- they never fall
-never_fall : (net : NetLists) (period : ℕ) (t : Timetable) (x w : Dating) → IsDelayedBy net period t x w → NeverFalls (length net.transitions + length net.transitions) (together (length net.transitions) x w)
+never_fall : (net : NetLists) (period : ℕ) (t : Timetable) (x w : Dating) → IsDelayedBy net period t x w
+    → NeverFalls (length net.transitions + length net.transitions) (together (length net.transitions) x w)
 never_fall net period t x w h i k l o =
     let n : ℕ = length net.transitions in
     (⊎_elim

@@ -147,7 +147,8 @@ forms_tell_delays net ends period t work f h =
             let two = (here i (k + f.period) l (omega arith)).1 in
             let moved = sym (together_first n x w i (k + f.period) l) ∙ stands.repeats.again i k (omega arith) o ∙ ap (move _) (together_first n x w i k l) in
             let made = sym two ∙ moved ∙ ap (λ (z : ℤ). move z (x i k)) (steps i (omega arith)) ∙ ap (move (pos (period * f.period))) one in
-            let numbers : pos (planned period t i (k + f.period) + delay_by_form f period t i (k + f.period)) ≡ pos (planned period t i k + delay_by_form f period t i k) +ℤ pos (period * f.period) = at_inj _ _ made in
+            let numbers : pos (planned period t i (k + f.period) + delay_by_form f period t i (k + f.period)) ≡ pos
+            (planned period t i k + delay_by_form f period t i k) +ℤ pos (period * f.period) = at_inj _ _ made in
             let plan = planned_on period t i k f.period 1 (omega arith) in
             let e : k + 1 * f.period ≡ k + f.period = omega arith in
             let plan' : planned period t i (k + f.period) ≡ planned period t i (k + 1 * f.period) = ap (planned period t i) (sym e) in

@@ -6,7 +6,8 @@ use Rattle.dioid.specs.Dates.{later_of, earlier_of, date_product, move}
 use Rattle.dioid.specs.DateOrder.{Le}
 use Rattle.dioid.specs.declared.dates.Date.{Date}
 use Rattle.dioid.specs.declared.dates.Date.TheVariants.{Early, Never}
-use Rattle.dioid.proofs.DateOrder.{at_most_refl, at_most_is, at_most_trans, same_by_at_most, never_last, at_most_early, at_least_never, later_left, later_right, later_least, earlier_left, earlier_right, earlier_greatest, product_rises}
+use Rattle.dioid.proofs.DateOrder.{at_most_refl, at_most_is, at_most_trans, same_by_at_most, never_last, at_most_early, at_least_never, later_left}
+use Rattle.dioid.proofs.DateOrder.{later_right, later_least, earlier_left, earlier_right, earlier_greatest, product_rises}
 use Rattle.dioid.proofs.Moves.{move_rises, move_back, move_forth}
 
 pub le_refl : (a : Date) → Le a a

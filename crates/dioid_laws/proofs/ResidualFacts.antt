@@ -6,7 +6,8 @@ use Rattle.dioid.specs.declared.algebra.Residuated.{Ghosts as ResiduatedOf}
 use Rattle.dioid_laws.specs.ResidualIdentities.{ResidualIdentities}
 use Rattle.dioid_matrix.proofs.Order.{Below, same, equal, trans, least_above, left_part, right_part, at_product, antisym}
 
-module _ {M : Type 0} (d : DioidOf M) (l : ResiduatedOf M) (closed : IsClosed d.is_element d.zero d.one d.sum d.product) (laws : DioidLaws d.is_element d.zero d.one d.sum d.product) (residuals : ResidualLaws d.is_element d.sum d.product l.left l.meet) where
+module _ {M : Type 0} (d : DioidOf M) (l : ResiduatedOf M) (closed : IsClosed d.is_element d.zero d.one d.sum d.product)
+    (laws : DioidLaws d.is_element d.zero d.one d.sum d.product) (residuals : ResidualLaws d.is_element d.sum d.product l.left l.meet) where
   abbrev Le : M → M → Type 0
   Le a b = Below d.is_element d.sum a b
 

@@ -31,7 +31,9 @@ module _ {M : Type 0} (d : DioidOf M) (n : ℕ) (closed : IsClosed d.is_element 
     star_row a b i hi = total_same d closed laws (λ j. d.product (square_star d s n a i j) (b j)) (λ j. d.product (star_of d s n a i j) (b j)) n
         (λ j hj. ap (λ z. d.product z (b j)) (cut_in d n (star_of d s n a) i j hi hj))
 
-    star_solves : (a b : ℕ → ℕ → M) → IsSquare d n a → IsSquare d n b → IsAtMost (square_sum d) (square_sum d (square_product d n a (square_product d n (square_star d s n a) b)) b) (square_product d n (square_star d s n a) b)
+    star_solves : (a b : ℕ → ℕ → M) → IsSquare d n a → IsSquare d n b
+        → IsAtMost (square_sum d) (square_sum d (square_product d n a (square_product d n (square_star d s n a) b)) b)
+        (square_product d n (square_star d s n a) b)
     star_solves a b sa sb =
         let product = products_are d n closed laws (square_star d s n a) b (star_is a sa) sb in
         squares_at_most d n closed laws (square_sum d (square_product d n a (square_product d n (square_star d s n a) b)) b) (square_product d n (square_star d s n a) b)
@@ -45,7 +47,8 @@ module _ {M : Type 0} (d : DioidOf M) (n : ℕ) (closed : IsClosed d.is_element 
         (star_row a column i hi)
         ((least_column a column sa (λ j. sb.elements j k)).solves i hi))
 
-    star_least : (a b x : ℕ → ℕ → M) → IsSquare d n a → IsSquare d n b → IsSquare d n x → IsAtMost (square_sum d) (square_sum d (square_product d n a x) b) x → IsAtMost (square_sum d) (square_product d n (square_star d s n a) b) x
+    star_least : (a b x : ℕ → ℕ → M) → IsSquare d n a → IsSquare d n b → IsSquare d n x
+        → IsAtMost (square_sum d) (square_sum d (square_product d n a x) b) x → IsAtMost (square_sum d) (square_product d n (square_star d s n a) b) x
     star_least a b x sa sb sx h =
         squares_at_most d n closed laws (square_product d n (square_star d s n a) b) x (products_are d n closed laws (square_star d s n a) b (star_is a sa) sb) sx
         (λ i k hi hk.
@@ -71,7 +74,8 @@ module _ {M : Type 0} (d : DioidOf M) (n : ℕ) (closed : IsClosed d.is_element 
     square_meet_is : (a b : ℕ → ℕ → M) → IsSquare d n a → IsSquare d n b → IsSquare d n (square_meet d l n a b)
     square_meet_is a b sa sb = cut_is d n closed laws (λ i j. l.meet (a i j) (b i j)) (λ i j. residuals.meet_is (a i j) (b i j) (sa.elements i j) (sb.elements i j))
 
-    galois_some : 1 ≤ n → (a x b : ℕ → ℕ → M) → IsSquare d n a → IsSquare d n x → IsSquare d n b → IsAtMost (square_sum d) (square_product d n a x) b ↔ IsAtMost (square_sum d) x (square_left d l n a b)
+    galois_some : 1 ≤ n → (a x b : ℕ → ℕ → M) → IsSquare d n a → IsSquare d n x → IsSquare d n b
+        → IsAtMost (square_sum d) (square_product d n a x) b ↔ IsAtMost (square_sum d) x (square_left d l n a b)
     galois_some hn a x b sa sx sb =
         let both = residuals_are_greatest d l closed laws residuals n n n a b hn sa.elements sb.elements x sx.elements in (
           (λ h. squares_at_most d n closed laws x (square_left d l n a b) sx (left_is a b sa sb)
@@ -83,7 +87,8 @@ module _ {M : Type 0} (d : DioidOf M) (n : ℕ) (closed : IsClosed d.is_element 
         )
 
     -- of no rows both say nothing
-    galois_none : n ≤ 0 → (a x b : ℕ → ℕ → M) → IsSquare d n a → IsSquare d n x → IsSquare d n b → IsAtMost (square_sum d) (square_product d n a x) b ↔ IsAtMost (square_sum d) x (square_left d l n a b)
+    galois_none : n ≤ 0 → (a x b : ℕ → ℕ → M) → IsSquare d n a → IsSquare d n x → IsSquare d n b
+        → IsAtMost (square_sum d) (square_product d n a x) b ↔ IsAtMost (square_sum d) x (square_left d l n a b)
     galois_none none a x b sa sx sb = (
       (λ h. squares_at_most d n closed laws x (square_left d l n a b) sx (left_is a b sa sb) (λ j k hj hk. absurd (omega arith))),
       (λ h. squares_at_most d n closed laws (square_product d n a x) b (products_are d n closed laws a x sa sx) sb (λ i k hi hk. absurd (omega arith))),
@@ -92,7 +97,8 @@ module _ {M : Type 0} (d : DioidOf M) (n : ℕ) (closed : IsClosed d.is_element 
     galois : (a x b : ℕ → ℕ → M) → IsSquare d n a → IsSquare d n x → IsSquare d n b → IsAtMost (square_sum d) (square_product d n a x) b ↔ IsAtMost (square_sum d) x (square_left d l n a b)
     galois a x b sa sx sb = ⊎_elim (λ (some : 0 < n). galois_some some a x b sa sx sb) (λ (none : n ≤ 0). galois_none none a x b sa sx sb) (cases_lt 0 n)
 
-    meet_greatest : (x a b : ℕ → ℕ → M) → IsSquare d n x → IsSquare d n a → IsSquare d n b → IsAtMost (square_sum d) x (square_meet d l n a b) ↔ (IsAtMost (square_sum d) x a × IsAtMost (square_sum d) x b)
+    meet_greatest : (x a b : ℕ → ℕ → M) → IsSquare d n x → IsSquare d n a → IsSquare d n b
+        → IsAtMost (square_sum d) x (square_meet d l n a b) ↔ (IsAtMost (square_sum d) x a × IsAtMost (square_sum d) x b)
     meet_greatest x a b sx sa sb =
         let at = λ (i j : ℕ). residuals.meet_greatest (x i j) (a i j) (b i j) (sx.elements i j) (sa.elements i j) (sb.elements i j) in
         let entry : IsAtMost (square_sum d) x (square_meet d l n a b) → (i j : ℕ) → i < n → j < n → IsAtMost d.sum (x i j) (l.meet (a i j) (b i j)) = λ h i j hi hj.

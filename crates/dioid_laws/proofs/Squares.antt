@@ -120,18 +120,21 @@ module _ {M : Type 0} (d : DioidOf M) (n : ℕ) where
         let both : ℕ → ℕ → M = λ l j. d.product (a i j) (d.product (b j l) (c l k)) in
         total_same d closed laws (λ l. d.product (dot d n (a i) (λ j. b j l)) (c l k)) (λ l. total_of_first d (both l) n) n
         (λ l hl. total_times d closed laws (λ j. d.product (a i j) (b j l)) n (c l k) (terms_are a b sa sb i l) (sc.elements l k)
-        ∙ total_same d closed laws (λ j. d.product (d.product (a i j) (b j l)) (c l k)) (both l) n (λ j hj. laws.product_assoc (a i j) (b j l) (c l k) (sa.elements i j) (sb.elements j l) (sc.elements l k)))
+        ∙ total_same d closed laws (λ j. d.product (d.product (a i j) (b j l)) (c l k)) (both l) n
+        (λ j hj. laws.product_assoc (a i j) (b j l) (c l k) (sa.elements i j) (sb.elements j l) (sc.elements l k)))
         ∙ total_turned d closed laws both n n (λ l j. closed.product_is (a i j) (d.product (b j l) (c l k)) (sa.elements i j) (terms_are b c sb sc j k l))
         ∙ total_same d closed laws (λ j. total_of_first d (λ l. both l j) n) (λ j. d.product (a i j) (dot d n (b j) (λ l. c l k))) n
         (λ j hj. sym (times_total d closed laws (a i j) (λ l. d.product (b j l) (c l k)) n (sa.elements i j) (terms_are b c sb sc j k)))
 
-    left_spread : (a b c : ℕ → ℕ → M) → IsSquare d n a → IsSquare d n b → IsSquare d n c → (i k : ℕ) → square_product d n a (square_sum d b c) i k ≡ d.sum (square_product d n a b i k) (square_product d n a c i k)
+    left_spread : (a b c : ℕ → ℕ → M) → IsSquare d n a → IsSquare d n b → IsSquare d n c → (i k : ℕ)
+        → square_product d n a (square_sum d b c) i k ≡ d.sum (square_product d n a b i k) (square_product d n a c i k)
     left_spread a b c sa sb sc i k =
         total_same d closed laws (λ j. d.product (a i j) (d.sum (b j k) (c j k))) (λ j. d.sum (d.product (a i j) (b j k)) (d.product (a i j) (c j k))) n
         (λ j hj. laws.left_distributes (a i j) (b j k) (c j k) (sa.elements i j) (sb.elements j k) (sc.elements j k))
         ∙ total_sum d closed laws (λ j. d.product (a i j) (b j k)) (λ j. d.product (a i j) (c j k)) n (terms_are a b sa sb i k) (terms_are a c sa sc i k)
 
-    right_spread : (a b c : ℕ → ℕ → M) → IsSquare d n a → IsSquare d n b → IsSquare d n c → (i k : ℕ) → square_product d n (square_sum d a b) c i k ≡ d.sum (square_product d n a c i k) (square_product d n b c i k)
+    right_spread : (a b c : ℕ → ℕ → M) → IsSquare d n a → IsSquare d n b → IsSquare d n c → (i k : ℕ)
+        → square_product d n (square_sum d a b) c i k ≡ d.sum (square_product d n a c i k) (square_product d n b c i k)
     right_spread a b c sa sb sc i k =
         total_same d closed laws (λ j. d.product (d.sum (a i j) (b i j)) (c j k)) (λ j. d.sum (d.product (a i j) (c j k)) (d.product (b i j) (c j k))) n
         (λ j hj. laws.right_distributes (a i j) (b i j) (c j k) (sa.elements i j) (sb.elements i j) (sc.elements j k))

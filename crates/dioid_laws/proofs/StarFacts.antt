@@ -6,7 +6,8 @@ use Rattle.dioid.specs.declared.algebra.Kleene.{Ghosts as KleeneOf}
 use Rattle.dioid_laws.specs.StarIdentities.{StarIdentities}
 use Rattle.dioid_matrix.proofs.Order.{Below, same, trans, least_above, left_part, right_part, both, at_product, antisym}
 
-module _ {M : Type 0} (d : DioidOf M) (s : KleeneOf M) (closed : IsClosed d.is_element d.zero d.one d.sum d.product) (laws : DioidLaws d.is_element d.zero d.one d.sum d.product) (stars : StarLaws d.is_element d.sum d.product s.star) where
+module _ {M : Type 0} (d : DioidOf M) (s : KleeneOf M) (closed : IsClosed d.is_element d.zero d.one d.sum d.product)
+    (laws : DioidLaws d.is_element d.zero d.one d.sum d.product) (stars : StarLaws d.is_element d.sum d.product s.star) where
   abbrev Le : M → M → Type 0
   Le a b = Below d.is_element d.sum a b
 
@@ -67,7 +68,8 @@ module _ {M : Type 0} (d : DioidOf M) (s : KleeneOf M) (closed : IsClosed d.is_e
       let Q : M → Type 0 = λ z. Le z (s.star a) in
       let down : Le (s.star (s.star a)) (s.star a) = within (s.star a) (s.star a) star (least_above closed laws (subst Q (sym (squared a e)) (same closed laws star)) (one_below a e)) in
       let P : M → Type 0 = λ z. Le z (d.product (s.star a) (s.star (s.star a))) in
-      let up : Le (s.star a) (d.product (s.star a) (s.star (s.star a))) = subst P (laws.one_neutral_right (s.star a) star) (at_product closed laws (same closed laws star) (one_below (s.star a) star)) in
+      let up : Le (s.star a) (d.product (s.star a) (s.star (s.star a))) =
+      subst P (laws.one_neutral_right (s.star a) star) (at_product closed laws (same closed laws star) (one_below (s.star a) star)) in
       antisym closed laws down (trans closed laws up (turn_below (s.star a) star))
 
   risen : (a b : M) → d.is_element a → d.is_element b → IsAtMost d.sum a b → IsAtMost d.sum (s.star a) (s.star b)
@@ -150,8 +152,10 @@ module _ {M : Type 0} (d : DioidOf M) (s : KleeneOf M) (closed : IsClosed d.is_e
       let out = stars.star_is (d.product b (s.star a)) eba in
       let all = stars.star_is (d.sum a b) ec in
       let both_ways = closed.product_is (s.star a) (s.star (d.product b (s.star a))) star out in
-      let a_round : Le (d.product a (s.star (d.sum a b))) (s.star (d.sum a b)) = trans closed laws (at_product closed laws (left_part closed laws ea eb) (same closed laws all)) (turn_below (d.sum a b) ec) in
-      let b_round : Le (d.product b (s.star (d.sum a b))) (s.star (d.sum a b)) = trans closed laws (at_product closed laws (right_part closed laws ea eb) (same closed laws all)) (turn_below (d.sum a b) ec) in
+      let a_round : Le (d.product a (s.star (d.sum a b))) (s.star (d.sum a b)) =
+      trans closed laws (at_product closed laws (left_part closed laws ea eb) (same closed laws all)) (turn_below (d.sum a b) ec) in
+      let b_round : Le (d.product b (s.star (d.sum a b))) (s.star (d.sum a b)) =
+      trans closed laws (at_product closed laws (right_part closed laws ea eb) (same closed laws all)) (turn_below (d.sum a b) ec) in
       let down : Le (s.star (d.sum a b)) (d.product (s.star a) (s.star (d.product b (s.star a)))) =
       within (d.sum a b) (d.product (s.star a) (s.star (d.product b (s.star a)))) ec
       (least_above closed laws

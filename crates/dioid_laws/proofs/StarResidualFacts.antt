@@ -9,7 +9,9 @@ use Rattle.dioid_matrix.proofs.Order.{Below, same, equal, trans, least_above, at
 use Rattle.dioid_laws.proofs.StarFacts.{within, turn_below, product_within, star_then, then_star, squared, ungroup}
 use Rattle.dioid_laws.proofs.ResidualFacts.{into, out_of, in_meet, meet_left, meet_right, below}
 
-module _ {M : Type 0} (d : DioidOf M) (s : KleeneOf M) (l : ResiduatedOf M) (closed : IsClosed d.is_element d.zero d.one d.sum d.product) (laws : DioidLaws d.is_element d.zero d.one d.sum d.product) (stars : StarLaws d.is_element d.sum d.product s.star) (residuals : ResidualLaws d.is_element d.sum d.product l.left l.meet) where
+module _ {M : Type 0} (d : DioidOf M) (s : KleeneOf M) (l : ResiduatedOf M)
+    (closed : IsClosed d.is_element d.zero d.one d.sum d.product) (laws : DioidLaws d.is_element d.zero d.one d.sum d.product)
+    (stars : StarLaws d.is_element d.sum d.product s.star) (residuals : ResidualLaws d.is_element d.sum d.product l.left l.meet) where
   abbrev Le : M → M → Type 0
   Le a b = Below d.is_element d.sum a b
 

@@ -49,7 +49,8 @@ module _ {M : Type 0} (d : DioidOf M) (closed : IsClosed d.is_element d.zero d.o
       ∙ sym (laws.sum_assoc x z (d.sum y w) ex ez (closed.sum_is y w ey ew))
 
   -- a sum of sums
-  pub total_sum : (f g : ℕ → M) (n : ℕ) → ((j : ℕ) → d.is_element (f j)) → ((j : ℕ) → d.is_element (g j)) → total_of_first d (λ j. d.sum (f j) (g j)) n ≡ d.sum (total_of_first d f n) (total_of_first d g n)
+  pub total_sum : (f g : ℕ → M) (n : ℕ) → ((j : ℕ) → d.is_element (f j)) → ((j : ℕ) → d.is_element (g j))
+      → total_of_first d (λ j. d.sum (f j) (g j)) n ≡ d.sum (total_of_first d f n) (total_of_first d g n)
   total_sum f g zero ef eg = sym (laws.zero_neutral d.zero closed.zero_is)
   total_sum f g (suc n) ef eg =
       ap (λ z. d.sum z (d.sum (f n) (g n))) (total_sum f g n ef eg)

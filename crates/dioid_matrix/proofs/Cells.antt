@@ -1,5 +1,6 @@
 -- One more step of a sum of products.
-use Rattle.std.proofs.Common.{◌≡◌, ℕ, ◌<◌, ◌≤◌, ◌*◌, ◌+◌, ap, sym, ◌∙◌, arith, subst, add-one, ⊎_elim, ◌-◌, ◌/◌, ◌%◌, List, [], ◌∷◌, ◌++◌, get_or, length-append, below_more, below_none, refl, mul_comm, length}
+use Rattle.std.proofs.Common.{◌≡◌, ℕ, ◌<◌, ◌≤◌, ◌*◌, ◌+◌, ap, sym, ◌∙◌, arith, subst, add-one, ⊎_elim, ◌-◌, ◌/◌, ◌%◌, List, [], ◌∷◌, ◌++◌, get_or}
+use Rattle.std.proofs.Common.{length-append, below_more, below_none, refl, mul_comm, length}
 use Rattle.std.proofs.lemmas.List.{get_or_append_left, get_or-append_right, get_or_past, get_or_read}
 use Rattle.std.proofs.lemmas.Bool.{cases_lt}
 use Rattle.std.proofs.Math.Nat.{mul-le-mul_right}
@@ -62,14 +63,16 @@ pub holds_none : {M : Type 0} (d : DioidOf M) (fits : ℕ → Type 0) (value : �
 holds_none d fits value = record { len = refl; values = below_none _; elements = below_none _; fit = below_none _ }
 
 -- one place more
-pub holds_more : {M : Type 0} (d : DioidOf M) (n : ℕ) (fits : ℕ → Type 0) (value : ℕ → M) (xs : List M) (y : M) → HoldsEach d n fits value xs → fits n → y ≡ value n → d.is_element y → HoldsEach d (n + 1) fits value (xs ++ y ∷ [])
+pub holds_more : {M : Type 0} (d : DioidOf M) (n : ℕ) (fits : ℕ → Type 0) (value : ℕ → M) (xs : List M) (y : M)
+    → HoldsEach d n fits value xs → fits n → y ≡ value n → d.is_element y → HoldsEach d (n + 1) fits value (xs ++ y ∷ [])
 holds_more {M} d n fits value xs y h f e is =
     let last : get_or (xs ++ y ∷ []) n d.zero ≡ y = get_or-append_right xs (y ∷ []) n n d.zero h.len (omega arith) ∙ ap (λ z. get_or (y ∷ []) z d.zero) (sub-same n) in
     let before = λ (k : ℕ) (l : k < n). let p : get_or (xs ++ y ∷ []) k d.zero ≡ get_or xs k d.zero = get_or_append_left xs (y ∷ []) d.zero k (omega (arith, h.len)) in p in
     record {
       len = rw length-append (omega (arith, h.len));
       values = below_more (λ k. get_or (xs ++ y ∷ []) k d.zero ≡ value k) n (λ k l. before k l ∙ h.values k l) (last ∙ e);
-      elements = below_more (λ k. d.is_element (get_or (xs ++ y ∷ []) k d.zero)) n (λ k l. subst (λ (z : M). d.is_element z) (sym (before k l)) (h.elements k l)) (subst (λ (z : M). d.is_element z) (sym last) is);
+      elements = below_more (λ k. d.is_element (get_or (xs ++ y ∷ []) k d.zero)) n
+          (λ k l. subst (λ (z : M). d.is_element z) (sym (before k l)) (h.elements k l)) (subst (λ (z : M). d.is_element z) (sym last) is);
       fit = below_more fits n h.fit f;
     }
 

@@ -20,7 +20,8 @@ by_test : (t : Bool) (P : Bool → Type 0) → (t ≡ true → P true) → P fal
 by_test true P h k = h refl
 by_test false P h k = k
 
-module _ {M : Type 0} (d : DioidOf M) (s : KleeneOf M) (closed : IsClosed d.is_element d.zero d.one d.sum d.product) (laws : DioidLaws d.is_element d.zero d.one d.sum d.product) (stars : StarLaws d.is_element d.sum d.product s.star) where
+module _ {M : Type 0} (d : DioidOf M) (s : KleeneOf M) (closed : IsClosed d.is_element d.zero d.one d.sum d.product)
+    (laws : DioidLaws d.is_element d.zero d.one d.sum d.product) (stars : StarLaws d.is_element d.sum d.product s.star) where
   -- the star solves with equality
   star_solved : (a b : M) → d.is_element a → d.is_element b → Below d.is_element d.sum (d.sum b (d.product a (d.product (s.star a) b))) (d.product (s.star a) b)
   star_solved a b ea eb =
@@ -47,15 +48,21 @@ module _ {M : Type 0} (d : DioidOf M) (s : KleeneOf M) (closed : IsClosed d.is_e
   ungroup {a} {b} {c} ea eb ec h = trans closed laws (equal closed laws (closed.product_is _ _ ea (closed.product_is _ _ eb ec)) (sym (laws.product_assoc a b c ea eb ec))) h
 
   -- a (b + c) is at most x where a b and a c are
-  spread : {a b c x : M} → d.is_element a → d.is_element b → d.is_element c → Below d.is_element d.sum (d.product a b) x → Below d.is_element d.sum (d.product a c) x → Below d.is_element d.sum (d.product a (d.sum b c)) x
+  spread : {a b c x : M} → d.is_element a → d.is_element b → d.is_element c → Below d.is_element d.sum (d.product a b) x
+      → Below d.is_element d.sum (d.product a c) x → Below d.is_element d.sum (d.product a (d.sum b c)) x
   spread {a} {b} {c} ea eb ec h k = trans closed laws (equal closed laws (closed.product_is _ _ ea (closed.sum_is _ _ eb ec)) (laws.left_distributes a b c ea eb ec)) (least_above closed laws h k)
 
-  spread_right : {a b c x : M} → d.is_element a → d.is_element b → d.is_element c → Below d.is_element d.sum (d.product a c) x → Below d.is_element d.sum (d.product b c) x → Below d.is_element d.sum (d.product (d.sum a b) c) x
-  spread_right {a} {b} {c} ea eb ec h k = trans closed laws (equal closed laws (closed.product_is _ _ (closed.sum_is _ _ ea eb) ec) (laws.right_distributes a b c ea eb ec)) (least_above closed laws h k)
+  spread_right : {a b c x : M} → d.is_element a → d.is_element b → d.is_element c → Below d.is_element d.sum (d.product a c) x
+      → Below d.is_element d.sum (d.product b c) x → Below d.is_element d.sum (d.product (d.sum a b) c) x
+  spread_right {a} {b} {c} ea eb ec h k = trans closed laws
+      (equal closed laws (closed.product_is _ _ (closed.sum_is _ _ ea eb) ec) (laws.right_distributes a b c ea eb ec)) (least_above closed laws h k)
 
   -- a product with a sum
-  product_total : (a : M) (f : ℕ → M) (n : ℕ) (x : M) → d.is_element a → d.is_element x → ((j : ℕ) → d.is_element (f j)) → ((j : ℕ) → j < n → Below d.is_element d.sum (d.product a (f j)) x) → Below d.is_element d.sum (d.product a (total_of_first d f n)) x
-  product_total a f zero x ea ex ef h = trans closed laws (equal closed laws (closed.product_is _ _ ea closed.zero_is) (laws.zero_absorbs_right a ea)) (record { low = closed.zero_is; high = ex; at_most = laws.zero_neutral x ex })
+  product_total : (a : M) (f : ℕ → M) (n : ℕ) (x : M) → d.is_element a → d.is_element x → ((j : ℕ) → d.is_element (f j))
+      → ((j : ℕ) → j < n → Below d.is_element d.sum (d.product a (f j)) x) → Below d.is_element d.sum (d.product a (total_of_first d f n)) x
+  product_total a f zero x ea ex ef h = trans closed laws
+      (equal closed laws (closed.product_is _ _ ea closed.zero_is) (laws.zero_absorbs_right a ea))
+      (record { low = closed.zero_is; high = ex; at_most = laws.zero_neutral x ex })
   product_total a f (suc n) x ea ex ef h = spread ea (total_is d closed laws f n ef) (ef n) (product_total a f n x ea ex ef (λ j k. h j (omega arith))) (h n (omega arith))
 
   module _ (a : ℕ → ℕ → M) (ea : (i j : ℕ) → d.is_element (a i j)) where
@@ -90,7 +97,8 @@ module _ {M : Type 0} (d : DioidOf M) (s : KleeneOf M) (closed : IsClosed d.is_e
         (eq-or-lt_of_le {n = j} {m = k} (omega arith))
 
     -- no entry leads above a solution
-    under : (n : ℕ) (y : ℕ → M) → ((i j : ℕ) → i < n → j < n → Below d.is_element d.sum (d.product (a i j) (y j)) (y i)) → (k i j : ℕ) → k < suc n → i < n → j < n → Below d.is_element d.sum (d.product (steps_of d s a k i j) (y j)) (y i)
+    under : (n : ℕ) (y : ℕ → M) → ((i j : ℕ) → i < n → j < n → Below d.is_element d.sum (d.product (a i j) (y j)) (y i)) → (k i j : ℕ)
+        → k < suc n → i < n → j < n → Below d.is_element d.sum (d.product (steps_of d s a k i j) (y j)) (y i)
     under n y h zero i j hk hi hj = h i j hi hj
     under n y h (suc k) i j hk hi hj =
         let here = λ (i j : ℕ) (p : i < n) (q : j < n). under n y h k i j (omega arith) p q in
@@ -107,10 +115,13 @@ module _ {M : Type 0} (d : DioidOf M) (s : KleeneOf M) (closed : IsClosed d.is_e
     -- ---- one added on the diagonal
 
     star_of_is : (n i j : ℕ) → d.is_element (star_of d s n a i j)
-    star_of_is n i j = elim (eqb i j) as (λ v. d.is_element (cond v (d.sum (steps_of d s a n i j) d.one) (steps_of d s a n i j))) [ true ↦ closed.sum_is _ _ (steps_is n i j) closed.one_is | false ↦ steps_is n i j ]
+    star_of_is n i j = elim (eqb i j) as (λ v. d.is_element (cond v (d.sum (steps_of d s a n i j) d.one) (steps_of d s a n i j)))
+        [ true ↦ closed.sum_is _ _ (steps_is n i j) closed.one_is | false ↦ steps_is n i j ]
 
     in_star : (n i j : ℕ) → Below d.is_element d.sum (steps_of d s a n i j) (star_of d s n a i j)
-    in_star n i j = elim (eqb i j) as (λ v. Below d.is_element d.sum (steps_of d s a n i j) (cond v (d.sum (steps_of d s a n i j) d.one) (steps_of d s a n i j))) [ true ↦ left_part closed laws (steps_is n i j) closed.one_is | false ↦ same closed laws (steps_is n i j) ]
+    in_star n i j = elim (eqb i j) as (λ v. Below d.is_element d.sum (steps_of d s a n i j)
+        (cond v (d.sum (steps_of d s a n i j) d.one) (steps_of d s a n i j)))
+        [ true ↦ left_part closed laws (steps_is n i j) closed.one_is | false ↦ same closed laws (steps_is n i j) ]
 
     one_in_star : (n i : ℕ) → Below d.is_element d.sum d.one (star_of d s n a i i)
     one_in_star n i =
@@ -132,9 +143,11 @@ module _ {M : Type 0} (d : DioidOf M) (s : KleeneOf M) (closed : IsClosed d.is_e
         (trans closed laws (starts n i j) (in_star n i j)))))
         rest
 
-    star_under : (n : ℕ) (y : ℕ → M) (b : M) → ((i j : ℕ) → i < n → j < n → Below d.is_element d.sum (d.product (a i j) (y j)) (y i)) → (i j : ℕ) → i < n → j < n → Below d.is_element d.sum b (y j) → Below d.is_element d.sum (d.product (star_of d s n a i j) b) (y i)
+    star_under : (n : ℕ) (y : ℕ → M) (b : M) → ((i j : ℕ) → i < n → j < n → Below d.is_element d.sum (d.product (a i j) (y j)) (y i))
+        → (i j : ℕ) → i < n → j < n → Below d.is_element d.sum b (y j) → Below d.is_element d.sum (d.product (star_of d s n a i j) b) (y i)
     star_under n y b h i j hi hj hb =
-        let rest : Below d.is_element d.sum (d.product (steps_of d s a n i j) b) (y i) = trans closed laws (at_product closed laws (same closed laws (steps_is n i j)) hb) (under n y h n i j (omega arith) hi hj) in
+        let rest : Below d.is_element d.sum (d.product (steps_of d s a n i j) b) (y i) =
+        trans closed laws (at_product closed laws (same closed laws (steps_is n i j)) hb) (under n y h n i j (omega arith) hi hj) in
         by_entry n i j (λ z. Below d.is_element d.sum (d.product z b) (y i))
         (λ q. spread_right (steps_is n i j) closed.one_is hb.low rest
         (let P : ℕ → Type 0 = λ m. Below d.is_element d.sum (d.product d.one b) (y m) in
@@ -150,7 +163,8 @@ module _ {M : Type 0} (d : DioidOf M) (s : KleeneOf M) (closed : IsClosed d.is_e
       column_solves : (i : ℕ) → i < n → IsAtMost d.sum (d.sum (dot d n (a i) (λ j. dot d n (star_of d s n a j) b)) (b i)) (dot d n (star_of d s n a i) b)
       column_solves i hi =
           let x : ℕ → M = λ j. dot d n (star_of d s n a j) b in
-          let term : (l : ℕ) → l < n → Below d.is_element d.sum (d.product (star_of d s n a i l) (b l)) (x i) = λ l hl. term_below d closed laws (λ j. d.product (star_of d s n a i j) (b j)) n l (λ j. closed.product_is _ _ (star_of_is n i j) (eb j)) hl in
+          let term : (l : ℕ) → l < n → Below d.is_element d.sum (d.product (star_of d s n a i l) (b l)) (x i) =
+          λ l hl. term_below d closed laws (λ j. d.product (star_of d s n a i j) (b j)) n l (λ j. closed.product_is _ _ (star_of_is n i j) (eb j)) hl in
           (least_above closed laws
           (total_below d closed laws (λ j. d.product (a i j) (x j)) n (x i) (column_is i) (λ j hj.
           product_total (a i j) (λ l. d.product (star_of d s n a j l) (b l)) n (x i) (ea i j) (column_is i) (λ l. closed.product_is _ _ (star_of_is n j l) (eb l)) (λ l hl.
@@ -158,11 +172,14 @@ module _ {M : Type 0} (d : DioidOf M) (s : KleeneOf M) (closed : IsClosed d.is_e
           (trans closed laws (equal closed laws (eb i) (sym (laws.one_neutral_left (b i) (eb i))))
           (trans closed laws (at_product closed laws (one_in_star n i) (same closed laws (eb i))) (term i hi)))).at_most
 
-      column_least : (y : ℕ → M) → ((i : ℕ) → d.is_element (y i)) → ((i : ℕ) → i < n → IsAtMost d.sum (d.sum (dot d n (a i) y) (b i)) (y i)) → (i : ℕ) → i < n → IsAtMost d.sum (dot d n (star_of d s n a i) b) (y i)
+      column_least : (y : ℕ → M) → ((i : ℕ) → d.is_element (y i))
+          → ((i : ℕ) → i < n → IsAtMost d.sum (d.sum (dot d n (a i) y) (b i)) (y i)) → (i : ℕ) → i < n → IsAtMost d.sum (dot d n (star_of d s n a i) b) (y i)
       column_least y ey h i hi =
           let row_is : (i : ℕ) → d.is_element (dot d n (a i) y) = λ i. total_is d closed laws (λ j. d.product (a i j) (y j)) n (λ j. closed.product_is _ _ (ea i j) (ey j)) in
           let whole : (i : ℕ) → i < n → Below d.is_element d.sum (d.sum (dot d n (a i) y) (b i)) (y i) = λ i hi. record { low = closed.sum_is _ _ (row_is i) (eb i); high = ey i; at_most = h i hi } in
-          let entry : (i j : ℕ) → i < n → j < n → Below d.is_element d.sum (d.product (a i j) (y j)) (y i) = λ i j hi hj. trans closed laws (term_below d closed laws (λ j. d.product (a i j) (y j)) n j (λ j. closed.product_is _ _ (ea i j) (ey j)) hj) (trans closed laws (left_part closed laws (row_is i) (eb i)) (whole i hi)) in
+          let entry : (i j : ℕ) → i < n → j < n → Below d.is_element d.sum (d.product (a i j) (y j)) (y i) =
+          λ i j hi hj. trans closed laws (term_below d closed laws (λ j. d.product (a i j) (y j)) n j
+          (λ j. closed.product_is _ _ (ea i j) (ey j)) hj) (trans closed laws (left_part closed laws (row_is i) (eb i)) (whole i hi)) in
           (total_below d closed laws (λ j. d.product (star_of d s n a i j) (b j)) n (y i) (ey i) (λ j hj.
           star_under n y (b j) entry i j hi hj (trans closed laws (right_part closed laws (row_is j) (eb j)) (whole j hj)))).at_most
 
@@ -185,4 +202,7 @@ module _ {M : Type 0} (d : DioidOf M) (s : KleeneOf M) (closed : IsClosed d.is_e
           })
 
   pub stars_are_least : StarsAreLeast d s
-  stars_are_least n a b ea eb = (star_of_is a ea n, record { element = λ i _. column_is a ea n b eb i; solves = column_solves a ea n b eb; equal = column_equal a ea n b eb; least = column_least a ea n b eb })
+  stars_are_least n a b ea eb = (
+    star_of_is a ea n,
+    record { element = λ i _. column_is a ea n b eb i; solves = column_solves a ea n b eb; equal = column_equal a ea n b eb; least = column_least a ea n b eb },
+  )

@@ -17,7 +17,8 @@ module _ {M : Type 0} (d : DioidOf M) (l : ResiduatedOf M) (a b : ℕ → M) whe
   pub first_meet : (x y p : M) → x ≡ a 0 → y ≡ b 0 → p ≡ l.left x y → p ≡ meet_below l (lefts d l a b) 1
   first_meet x y p hx hy hp = rw (hx, hy) at hp
 
-  pub meet_more : (i : ℕ) (before x y p after : M) → 0 < i → before ≡ meet_below l (lefts d l a b) i → x ≡ a i → y ≡ b i → p ≡ l.left x y → after ≡ l.meet before p → after ≡ meet_below l (lefts d l a b) (i + 1)
+  pub meet_more : (i : ℕ) (before x y p after : M) → 0 < i → before ≡ meet_below l (lefts d l a b) i → x ≡ a i → y ≡ b i
+      → p ≡ l.left x y → after ≡ l.meet before p → after ≡ meet_below l (lefts d l a b) (i + 1)
   meet_more i before x y p after hi hb hx hy hp ha = rw add-one
       (ha ∙ ap (λ z. l.meet z p) hb ∙ ap (l.meet (meet_below l (lefts d l a b) i)) (hp ∙ ap (λ z. l.left z y) hx ∙ ap (l.left (a i)) hy) ∙ sym (meet_suc l (lefts d l a b) i hi))
 
@@ -29,13 +30,16 @@ module _ {M : Type 0} (d : DioidOf M) (l : ResiduatedOf M) (a b : ℕ → M) whe
 
   pub row_fits : (i : ℕ) (before x y p : M) → before ≡ meet_below l (lefts d l a b) i → x ≡ a i → y ≡ b i → p ≡ l.left x y → l.left_fits x y → l.meet_fits before p → RowFits d l a b i
   row_fits i before x y p hb hx hy hp fits fit =
-      let pp : p ≡ l.left (a i) (b i) = hp ∙ ap (λ z. l.left z y) hx ∙ ap (l.left (a i)) hy in
-      (subst (λ (z : M). l.left_fits z (b i)) hx (subst (λ (z : M). l.left_fits x z) hy fits), λ _. subst (λ (z : M). l.meet_fits z (l.left (a i) (b i))) hb (subst (λ (z : M). l.meet_fits before z) pp fit))
+      let pp : p ≡ l.left (a i) (b i) = hp ∙ ap (λ z. l.left z y) hx ∙ ap (l.left (a i)) hy in (
+        subst (λ (z : M). l.left_fits z (b i)) hx (subst (λ (z : M). l.left_fits x z) hy fits),
+        λ _. subst (λ (z : M). l.meet_fits z (l.left (a i) (b i))) hb (subst (λ (z : M). l.meet_fits before z) pp fit),
+      )
 
   pub row_misfits : (i : ℕ) (before x y : M) → 0 < i → before ≡ meet_below l (lefts d l a b) i → x ≡ a i → y ≡ b i → ¬ LeftMeetFits l before x y → ¬ RowFits d l a b i
   row_misfits i before x y hi hb hx hy h f = let misfits = rw (hb, hx, hy) at h in misfits (f.0, f.1 hi)
 
-module _ {M : Type 0} (d : DioidOf M) (l : ResiduatedOf M) (closed : IsClosed d.is_element d.zero d.one d.sum d.product) (laws : DioidLaws d.is_element d.zero d.one d.sum d.product) (residuals : ResidualLaws d.is_element d.sum d.product l.left l.meet) (a b : Table M) where
+module _ {M : Type 0} (d : DioidOf M) (l : ResiduatedOf M) (closed : IsClosed d.is_element d.zero d.one d.sum d.product)
+    (laws : DioidLaws d.is_element d.zero d.one d.sum d.product) (residuals : ResidualLaws d.is_element d.sum d.product l.left l.meet) (a b : Table M) where
   -- the list of the entries of the residual
   pub residual_table : a.rows ≡ b.rows → 1 ≤ a.rows → AreElements d a.entries → AreElements d b.entries → (xs : List M) →
       HoldsEach d (a.columns * b.columns)

@@ -19,7 +19,8 @@ earlier i j columns place hj order = ⊎_elim
     order
 
 -- the first place that does not fit is the first entry by rows
-pub first_misfit : (rows columns place : ℕ) (fits : ℕ → ℕ → Type 0) → 1 ≤ columns → StopsAt (rows * columns) (λ p. fits (p / columns) (p % columns)) place → IsFirstMisfit rows columns fits (place / columns) (place % columns)
+pub first_misfit : (rows columns place : ℕ) (fits : ℕ → ℕ → Type 0) → 1 ≤ columns
+    → StopsAt (rows * columns) (λ p. fits (p / columns) (p % columns)) place → IsFirstMisfit rows columns fits (place / columns) (place % columns)
 first_misfit rows columns place fits hc h = record {
   in_rows = let b : place / columns + 1 ≤ rows = row_below place rows columns hc h.within in omega (arith, b);
   in_columns = omega arith;
@@ -28,7 +29,8 @@ first_misfit rows columns place fits hc h = record {
 }
 
 -- a list by rows as a table
-module _ {M : Type 0} (d : DioidOf M) (rows columns : ℕ) (fits : ℕ → ℕ → Type 0) (value : ℕ → ℕ → M) (xs : List M) (h : HoldsEach d (rows * columns) (λ place. fits (place / columns) (place % columns)) (λ place. value (place / columns) (place % columns)) xs) where
+module _ {M : Type 0} (d : DioidOf M) (rows columns : ℕ) (fits : ℕ → ℕ → Type 0) (value : ℕ → ℕ → M) (xs : List M)
+    (h : HoldsEach d (rows * columns) (λ place. fits (place / columns) (place % columns)) (λ place. value (place / columns) (place % columns)) xs) where
   within : (i j : ℕ) → i < rows → j < columns → i * columns + j < rows * columns
   within i j hi hj = rw (mul_comm rows columns) (mul-add-lt i columns j rows hi hj)
 

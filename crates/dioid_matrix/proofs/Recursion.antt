@@ -36,7 +36,8 @@ four : {M : Type 0} (P : M → M → M → M → Type 0) {a b c d w x y z : M} �
 four {M} P {a} {b} {c} {d} {w} {x} {y} {z} ea eb ec ed h =
     subst (λ (v : M). P v x y z) ea (subst (λ (v : M). P a v y z) eb (subst (λ (v : M). P a b v z) ec (subst (λ (v : M). P a b c v) ed h)))
 
-misfit_same : (size : ℕ) (fits other : ℕ → ℕ → Type 0) (row column : ℕ) → ((i j : ℕ) → i < size → j < size → fits i j → other i j) → ((i j : ℕ) → i < size → j < size → other i j → fits i j) → IsFirstMisfit size size fits row column → IsFirstMisfit size size other row column
+misfit_same : (size : ℕ) (fits other : ℕ → ℕ → Type 0) (row column : ℕ) → ((i j : ℕ) → i < size → j < size → fits i j → other i j)
+    → ((i j : ℕ) → i < size → j < size → other i j → fits i j) → IsFirstMisfit size size fits row column → IsFirstMisfit size size other row column
 misfit_same size fits other row column to from h = record {
   in_rows = h.in_rows;
   in_columns = h.in_columns;
@@ -57,7 +58,8 @@ module _ {M : Type 0} (d : DioidOf M) (s : KleeneOf M) (size : ℕ) (xs : List M
   -- what is said of the table's entries is said of the recursion
   on_steps : (P : M → M → M → M → Type 0) (k i j : ℕ) (t : List M) → IsAfter k t → k < size → i < size → j < size
       → P (entry_of d (table_of size size t) i j) (entry_of d (table_of size size t) i k) (entry_of d (table_of size size t) k k) (entry_of d (table_of size size t) k j)
-      → P (steps_of d s (entry_of d (table_of size size xs)) k i j) (steps_of d s (entry_of d (table_of size size xs)) k i k) (steps_of d s (entry_of d (table_of size size xs)) k k k) (steps_of d s (entry_of d (table_of size size xs)) k k j)
+      → P (steps_of d s (entry_of d (table_of size size xs)) k i j) (steps_of d s (entry_of d (table_of size size xs)) k i k)
+      (steps_of d s (entry_of d (table_of size size xs)) k k k) (steps_of d s (entry_of d (table_of size size xs)) k k j)
   on_steps P k i j t h hk hi hj p = four P (h.entries i j hi hj) (h.entries i k hi hk) (h.entries k k hk hk) (h.entries k j hk hj) p
 
   pub after_pass : (k : ℕ) (t u : List M) → k < size → IsAfter k t → IsAfterPass d s size (entry_of d (table_of size size t)) k (table_of size size u) → IsAfter (k + 1) u
@@ -102,7 +104,8 @@ module _ {M : Type 0} (d : DioidOf M) (s : KleeneOf M) (size : ℕ) (xs : List M
   refused_last t h OutOfMemory p = p
 
   module _ (closed : IsClosed d.is_element d.zero d.one d.sum d.product) (laws : DioidLaws d.is_element d.zero d.one d.sum d.product) (stars : StarLaws d.is_element d.sum d.product s.star) where
-    star_done : 1 ≤ size → size ≤ 4096 → AreElements d xs → (t u : List M) → IsAfter size t → length u ≡ size * size → AreElements d u → IsAfterLastPass d size (entry_of d (table_of size size t)) (table_of size size u) → IsStar d s (table_of size size xs) (table_of size size u)
+    star_done : 1 ≤ size → size ≤ 4096 → AreElements d xs → (t u : List M) → IsAfter size t → length u ≡ size * size → AreElements d u
+        → IsAfterLastPass d size (entry_of d (table_of size size t)) (table_of size size u) → IsStar d s (table_of size size xs) (table_of size size u)
     star_done some few known t u h len are l =
         let a : ℕ → ℕ → M = entry_of d (table_of size size xs) in
         let r : ℕ → ℕ → M = entry_of d (table_of size size u) in

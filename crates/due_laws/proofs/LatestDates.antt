@@ -66,7 +66,8 @@ pub due_here : (net : NetLists) (due : Dues) (t k d : ℕ) → due t k ≡ Some 
 due_here net due t k d h = record { to = t; number = k; due_date = d; steps = []; walk = (refl, refl); is_due = h; is = delayed_not (At (pos d)) }
 
 -- a walk with a place before it
-pub due_by : (net : NetLists) (due : Dues) (p : PlaceId) (s : ℕ) (d : Date) → p.index < length net.places → IsDateToDue net due (place_at net p).to.index (s + (place_at net p).tokens) (delayed (place_at net p).hold d)
+pub due_by : (net : NetLists) (due : Dues) (p : PlaceId) (s : ℕ) (d : Date) → p.index < length net.places
+    → IsDateToDue net due (place_at net p).to.index (s + (place_at net p).tokens) (delayed (place_at net p).hold d)
     → IsDateToDue net due (place_at net p).from.index s d
 due_by net due p s d in' w =
     let time = sum_by-cons (step_time net) (By p) w.steps in

@@ -24,7 +24,8 @@ use Rattle.due_laws.specs.LatestInputs.{LatestDatesAreLatestInputs, ZeroInputsMe
 use Rattle.due_laws.proofs.LatestDates.{Dues, kept_below, latest_keeps, latest_keeps_dues}
 
 -- a fact of each place of the net, and of the implicit place of each of its transitions
-extended : (net : NetLists) (P : Place → Type 0) → ((q : ℕ) → q < length net.places → P (get_or net.places q no_place)) → ((t : ℕ) → t < length net.transitions → P (implicit_place t)) → All P (extended_places net)
+extended : (net : NetLists) (P : Place → Type 0) → ((q : ℕ) → q < length net.places → P (get_or net.places q no_place))
+    → ((t : ℕ) → t < length net.transitions → P (implicit_place t)) → All P (extended_places net)
 extended net P a b = all_extended_in net P (λ i d l. rw (get_or_default net.places i d no_place l) (a i l)) b
 
 -- the latest dates are a feasible dating in which each input is there at its latest date

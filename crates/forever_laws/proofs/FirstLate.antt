@@ -53,7 +53,8 @@ never_late z d after period rise gap g none slow k one = ⊎_elim
 abbrev pub rounds_to : (ℕ → ℕ) → (ℕ → ℕ) → ℕ → ℕ → ℕ
 rounds_to z d gain k = (d k - z k) / gain + 1
 
-late_then : (lack gain zk dk j rise gap : ℕ) → 0 < gain → rise ≡ gap + gain → zk ≤ dk → lack ≡ dk - zk → (((lack / gain + 1 ≤ j) → dk + j * gap < zk + j * rise)) × ((dk + j * gap < zk + j * rise) → lack / gain + 1 ≤ j)
+late_then : (lack gain zk dk j rise gap : ℕ) → 0 < gain → rise ≡ gap + gain → zk ≤ dk → lack ≡ dk - zk
+    → (((lack / gain + 1 ≤ j) → dk + j * gap < zk + j * rise)) × ((dk + j * gap < zk + j * rise) → lack / gain + 1 ≤ j)
 late_then lack gain zk dk j rise gap some e l lack_is =
     let rest : ℕ = lack % gain in
     let low : rest < gain = mod_below lack gain some in
@@ -100,7 +101,8 @@ first_late z d after period rise gap gain base g some e none f =
           let within = f.within in
           let dates : z j ≡ z p.base + p.rounds * rise = ap z p.is ∙ on_by z after period rise g.dates p.rounds p.base p.above in
           let dues : d j ≡ d p.base + p.rounds * gap = ap d p.is ∙ on_by d after period gap g.dues p.rounds p.base p.above in
-          let enough : rounds_to z d gain p.base ≤ p.rounds = (late_then (d p.base - z p.base) gain (z p.base) (d p.base) p.rounds rise gap some e (none p.base (omega arith) p.within) refl).1 (omega arith) in
+          let enough : rounds_to z d gain p.base ≤ p.rounds =
+          (late_then (d p.base - z p.base) gain (z p.base) (d p.base) p.rounds rise gap some e (none p.base (omega arith) p.within) refl).1 (omega arith) in
           let is = p.is in
           ⊎_elim
           (λ (less : rounds_to z d gain base < rounds_to z d gain p.base).

@@ -27,15 +27,19 @@ pub record HasLate (x : ℕ → ℕ → Date) (r : EndlessRow) : Type 0 where
   pub least : IsLeastLate x r number due date
 
 -- or none: it is enough to look up to the bound
-pub late_or_none : (net : NetLists) (ok : IsNet net) (live : IsLive net) (x : ℕ → ℕ → Date) (least : IsLeastUnder net inputs_at_zero x) (r : EndlessRow) → IsEndlessRow net r → NoneLate x r ⊎ HasLate x r
+pub late_or_none : (net : NetLists) (ok : IsNet net) (live : IsLive net) (x : ℕ → ℕ → Date) (least : IsLeastUnder net inputs_at_zero x)
+    (r : EndlessRow) → IsEndlessRow net r → NoneLate x r ⊎ HasLate x r
 late_or_none net ok live x least r row =
     let n : ℕ = length net.transitions in
     let t : ℕ = r.transition.index in
     let z : ℕ → ℕ = least_number net ok live x least t in
-    let bound : ℕ = flat_bound (n * most_place_tokens) most_place_tokens r.every (length r.dates) + steep_bound (n * most_place_tokens) (n * most_place_tokens) (n * r.every * greatest_hold) r.every greatest_input_date in
+    let bound : ℕ = flat_bound (n * most_place_tokens) most_place_tokens r.every (length r.dates) + steep_bound (n * most_place_tokens)
+    (n * most_place_tokens) (n * r.every * greatest_hold) r.every greatest_input_date in
     ⊎_elim
     (λ none. inl (λ k due date h.
-    let soon : LateWithin z (due_number r) bound = late_soon (unrolled net) n (n * most_place_tokens) (n * most_place_tokens) (n * r.every * greatest_hold) most_place_tokens r.every greatest_input_date r.gap (length r.dates) (least_number net ok live x least) (due_number r)
+    let soon : LateWithin z (due_number r) bound =
+    late_soon (unrolled net) n (n * most_place_tokens) (n * most_place_tokens)
+    (n * r.every * greatest_hold) most_place_tokens r.every greatest_input_date r.gap (length r.dates) (least_number net ok live x least) (due_number r)
     (setting net ok live x least r row) t k row.in_range h.from_one (late_to net ok live x least r k due date h) in
     let kept = none soon.number soon.some soon.within in
     let late = soon.late in

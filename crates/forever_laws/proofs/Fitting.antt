@@ -39,7 +39,8 @@ use Rattle.forever_laws.proofs.OneColumn.{one_time}
 -- ---- canonical forms
 
 -- the canonical form of what a list gives is no longer than the list
-canonical_size : (l : List Date) (n : ℕ) (x : ℤ) (h : Form) → 0 < n → n ≤ length l → Rising (value_at (form_with l n x)) → IsCanonical h → HasValues h (value_at (form_with l n x)) → size_of h ≤ length l
+canonical_size : (l : List Date) (n : ℕ) (x : ℤ) (h : Form) → 0 < n → n ≤ length l → Rising (value_at (form_with l n x)) → IsCanonical h
+    → HasValues h (value_at (form_with l n x)) → size_of h ≤ length l
 canonical_size l n x h some fits up is same =
     let s : ℕ → Date = value_at (form_with l n x) in
     let again = value_repeats (form_with l n x) some fits in

@@ -36,27 +36,32 @@ input_in net t i =
     (cases_lt t (length net.transitions))
 
 -- a latest date, delayed by the time of a walk to a due firing, comes no later than the due date
-due_after : (net : NetLists) (due : Dues) (a s t k d : ℕ) (date : Date) (steps : _) → IsLatestDate net due a s date → Walks net a s steps t k → due t k ≡ Some d → IsAtMostDate (delayed (walk_time net steps) date) (At (pos d))
+due_after : (net : NetLists) (due : Dues) (a s t k d : ℕ) (date : Date) (steps : _) → IsLatestDate net due a s date
+    → Walks net a s steps t k → due t k ≡ Some d → IsAtMostDate (delayed (walk_time net steps) date) (At (pos d))
 due_after net due a s t k d date steps l w h =
     let time : ℕ = walk_time net steps in
     let back : Date = earlier_by time (At (pos d)) in
     let there : IsDateToDue net due a s back = record { to = t; number = k; due_date = d; steps = steps; walk = w; is_due = h; is = earlier_delayed time (At (pos d)) } in
-    at_most_trans (delayed time date) (delayed time back) (At (pos d)) (delayed_rises time date back (l.least back there)) (at_most_is (delayed time back) (At (pos d)) (earlier_delayed time (At (pos d))))
+    at_most_trans (delayed time date) (delayed time back) (At (pos d)) (delayed_rises time date back (l.least back there))
+    (at_most_is (delayed time back) (At (pos d)) (earlier_delayed time (At (pos d))))
 
 -- no walk under these inputs makes a due firing late
-meets_by_walks : (net : NetLists) → IsNet net → IsLive net → (due : Dues) (v x y : Dating) → IsLeastUnder net inputs_at_zero x → KeepsDues net due x → ((t k : ℕ) → IsInput net t → 1 ≤ k → IsLatestDate net due t k (v t k))
+meets_by_walks : (net : NetLists) → IsNet net → IsLive net → (due : Dues) (v x y : Dating) → IsLeastUnder net inputs_at_zero x
+    → KeepsDues net due x → ((t k : ℕ) → IsInput net t → 1 ≤ k → IsLatestDate net due t k (v t k))
     → IsLeastUnder net v y → KeepsDues net due y
 meets_by_walks net ok live due v x y zero keeps l least t k d in' o h =
     let ends = net_ends net ok in
     let ranks = live_ranks net ends live in
     let w : IsDateOfWalk net v t k (y t k) = (least_is_walk net v y (suc (suc (length net.transitions))) ranks.0 ends ranks.1 least t k in' o).reached in
     let time : ℕ = walk_time net w.steps in
-    let along : IsAtMostDate (delayed time (x w.from w.number)) (x t k) = walk_below net x ends (feasible_keeps net inputs_at_zero x zero.feasible) w.steps w.from w.number t k w.from_in w.from_one w.walk in
+    let along : IsAtMostDate (delayed time (x w.from w.number)) (x t k) =
+    walk_below net x ends (feasible_keeps net inputs_at_zero x zero.feasible) w.steps w.from w.number t k w.from_in w.from_one w.walk in
     let kept : IsAtMostDate (x t k) (At (pos d)) = keeps t k d in' o h in
     let ready : IsAtMostDate (At (pos (start_date net w.from w.number))) (x w.from w.number) = not_before_ready net inputs_at_zero x zero.feasible w.from w.number w.from_in w.from_one in
     let first : IsAtMostDate (delayed time (At (pos (start_date net w.from w.number)))) (At (pos d)) =
     at_most_trans (delayed time (At (pos (start_date net w.from w.number)))) (x t k) (At (pos d))
-    (at_most_trans (delayed time (At (pos (start_date net w.from w.number)))) (delayed time (x w.from w.number)) (x t k) (delayed_rises time (At (pos (start_date net w.from w.number))) (x w.from w.number) ready) along)
+    (at_most_trans (delayed time (At (pos (start_date net w.from w.number)))) (delayed time (x w.from w.number)) (x t k)
+    (delayed_rises time (At (pos (start_date net w.from w.number))) (x w.from w.number) ready) along)
     kept in
     let second : IsAtMostDate (delayed time (at_input net w.from (v w.from w.number) Early)) (At (pos d)) =
     ⊎_elim
@@ -64,7 +69,8 @@ meets_by_walks net ok live due v x y zero keeps l least t k d in' o h =
     rw e.1 (due_after net due w.from w.number t k d (v w.from w.number) w.steps (l w.from w.number e.0 w.from_one) w.walk h))
     (λ (e : (at_input net w.from (v w.from w.number) Early ≡ Early) × (at_input net w.from (v w.from w.number) Early ≡ Early)). rw e.0 tt)
     (input_or_not net w.from (v w.from w.number) Early Early) in
-    let both : IsAtMostDate (delayed time (start_of_firing net v w.from w.number)) (At (pos d)) = later_delayed time (At (pos (start_date net w.from w.number))) (at_input net w.from (v w.from w.number) Early) (At (pos d)) first second in
+    let both : IsAtMostDate (delayed time (start_of_firing net v w.from w.number)) (At (pos d)) =
+    later_delayed time (At (pos (start_date net w.from w.number))) (at_input net w.from (v w.from w.number) Early) (At (pos d)) first second in
     rw w.is (rw w.starts both) where
       later_delayed : (h : ℕ) (a b c : Date) → IsAtMostDate (delayed h a) c → IsAtMostDate (delayed h b) c → IsAtMostDate (delayed h (later_of a b)) c
       later_delayed h a b c l m = ⊎_elim (λ e. rw e l) (λ e. rw e m) (later_either a b)

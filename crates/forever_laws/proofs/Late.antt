@@ -72,7 +72,8 @@ IsLateBefore z d k = (j : ℕ) × (1 ≤ j) × (j < k) × (d j < z j)
 
 -- a walk from which a round is taken out that gives no more time than the due dates do comes too late as well
 pub taken_out : (e : NetLists) (n most every gap size long : ℕ) (z : ℕ → ℕ → ℕ) (d : ℕ → ℕ) (t k : ℕ) → t < n → 1 ≤ every → ((j : ℕ) → size < j + every → d (j + every) ≡ d j + gap)
-    → (w : ReachedFrom e n most z t k) (r : HasRound e w.from t every long w.walk) → 1 ≤ tokens_of e r.round → size + tokens_of e r.round + most < k → time_of e r.round ≤ gap * r.times → d k < z t k → IsLateBefore (z t) d k
+    → (w : ReachedFrom e n most z t k) (r : HasRound e w.from t every long w.walk) → 1 ≤ tokens_of e r.round
+    → size + tokens_of e r.round + most < k → time_of e r.round ≤ gap * r.times → d k < z t k → IsLateBefore (z t) d k
 taken_out e n most every gap size long z d t k lt some again w r own far flat late =
     let f : PlaceId → ℕ = λ p. (place_at e p).tokens in
     let g : PlaceId → ℕ = λ p. (place_at e p).hold in
@@ -161,8 +162,10 @@ earlier e n T C span most every last gap size z d s t k lt far late =
     inr (record {
       number = 1 + tokens_of e walk;
       some = omega arith;
-      within = subst (λ (x : ℕ). x ≤ steep_bound T C span every last) (sym there) (steep_within every last gap T C span (tokens_of e path) q (time_of e r.round) times quotient t0 steep brief (omega arith) refl (omega arith));
-      late = steep_late every last gap T (tokens_of e path) q (time_of e r.round) times quotient (d (1 + tokens_of e walk)) (z t (1 + tokens_of e walk)) s.every_some t0 steep (omega arith) (omega arith) refl
+      within = subst (λ (x : ℕ). x ≤ steep_bound T C span every last) (sym there)
+          (steep_within every last gap T C span (tokens_of e path) q (time_of e r.round) times quotient t0 steep brief (omega arith) refl (omega arith));
+      late = steep_late every last gap T (tokens_of e path) q (time_of e r.round) times quotient (d (1 + tokens_of e walk))
+          (z t (1 + tokens_of e walk)) s.every_some t0 steep (omega arith) (omega arith) refl
           (subst (λ (x : ℕ). every * d (1 + tokens_of e walk) ≤ every * last + gap * (x + every)) there (s.slow (1 + tokens_of e walk))) (omega arith);
     }))
     (λ (flat : time_of e r.round ≤ gap * q).

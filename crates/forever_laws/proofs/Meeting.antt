@@ -22,7 +22,8 @@ use Rattle.forever_laws.proofs.Zeros.{least_number, date_is, at_most_numbers}
 use Rattle.forever_laws.proofs.Soon.{late_from}
 
 -- the row of a transition is found, since it has no other
-pub row_found : (rows : List EndlessRow) (i : ℕ) (d : EndlessRow) → AllPairs (λ r s. r.transition.index ≢ s.transition.index) rows → i < length rows → row_for rows (get_or rows i d).transition.index ≡ Some (get_or rows i d)
+pub row_found : (rows : List EndlessRow) (i : ℕ) (d : EndlessRow) → AllPairs (λ r s. r.transition.index ≢ s.transition.index) rows
+    → i < length rows → row_for rows (get_or rows i d).transition.index ≡ Some (get_or rows i d)
 row_found [] i d h l = absurd (omega arith)
 row_found (x ∷ xs) zero d h l = let b : eqb x.transition.index x.transition.index ≡ true = grind (arith, nat_tests) in rw b refl
 row_found (x ∷ xs) (suc i) d h l =
@@ -52,7 +53,8 @@ has_row (x ∷ xs) t k d e =
     (cases_Bool (eqb x.transition.index t))
 
 -- a row makes each firing of its transition due
-pub due_of_row : (net : NetLists) (rows : List EndlessRow) → IsEndlessOf net rows → (i k : ℕ) (o : EndlessRow) → i < length rows → due_on rows (get_or rows i o).transition.index k ≡ row_due (get_or rows i o) k
+pub due_of_row : (net : NetLists) (rows : List EndlessRow) → IsEndlessOf net rows → (i k : ℕ) (o : EndlessRow) → i < length rows
+    → due_on rows (get_or rows i o).transition.index k ≡ row_due (get_or rows i o) k
 due_of_row net rows ok i k o l = ap (λ r. due_by r k) (row_found rows i o ok.once l)
 
 pub meets_where : ZeroMeetsWhereNoneLate
@@ -111,7 +113,9 @@ walk_back net (Next ∷ steps) a s b k m w =
 pub free_at_each : FreeAtEachNumber
 free_at_each net rows ok t j k oj ok' none steps b n d w due =
     let h : HasRow rows b n d = has_row rows b n d due in
-    let at : (m : ℕ) → due_on rows b m ≡ Some (due_number h.row m) = λ m. ap (λ (u : ℕ). due_on rows u m) (sym h.names) ∙ (ap (λ (r : EndlessRow). due_on rows r.transition.index m) (sym (h.is h.row)) ∙ (due_of_row net rows ok h.index m h.row h.within ∙ (ap (λ (r : EndlessRow). row_due r m) (h.is h.row) ∙ due_is h.row m))) in
+    let at : (m : ℕ) → due_on rows b m ≡ Some (due_number h.row m) = λ m. ap (λ (u : ℕ). due_on rows u m) (sym h.names)
+    ∙ (ap (λ (r : EndlessRow). due_on rows r.transition.index m) (sym (h.is h.row))
+    ∙ (due_of_row net rows ok h.index m h.row h.within ∙ (ap (λ (r : EndlessRow). row_due r m) (h.is h.row) ∙ due_is h.row m))) in
     ⊎_elim
     (λ (less : j < k).
     let e : k ≡ j + (k - j) = omega arith in

@@ -66,11 +66,16 @@ meets_alike l f g (suc (suc n)) h = ap₂ l.meet (meets_alike l f g (suc n) (λ 
 pub rows_fit_alike : RowsFitAlike
 rows_fit_alike net input rows walks dues others owed a b i l fits =
     let one : (j : ℕ) → j < length rows → (walks j ≡ others j) × (dues j ≡ owed j) = columns_are_one net input rows walks dues others owed a b in
-    let lefts_are : (j : ℕ) → j ≤ i → lefts gains gain_residuals walks dues j ≡ lefts gains gain_residuals others owed j = λ j m. (let both = one j (omega arith) in ap₂ gain_residuals.left both.0 both.1) in
-    let meet : meet_below gain_residuals (lefts gains gain_residuals walks dues) i ≡ meet_below gain_residuals (lefts gains gain_residuals others owed) i = meets_alike gain_residuals (lefts gains gain_residuals walks dues) (lefts gains gain_residuals others owed) i lefts_are in
+    let lefts_are : (j : ℕ) → j ≤ i → lefts gains gain_residuals walks dues j ≡ lefts gains gain_residuals others owed j =
+    λ j m. (let both = one j (omega arith) in ap₂ gain_residuals.left both.0 both.1) in
+    let meet : meet_below gain_residuals (lefts gains gain_residuals walks dues) i ≡ meet_below gain_residuals
+    (lefts gains gain_residuals others owed) i =
+    meets_alike gain_residuals (lefts gains gain_residuals walks dues) (lefts gains gain_residuals others owed) i lefts_are in
     let here = one i l in (
       subst (λ (w : Gain). gain_residuals.left_fits w (owed i)) here.0 (subst (λ (d : Gain). gain_residuals.left_fits (walks i) d) here.1 fits.0),
-      λ some. subst (λ (m : Gain). gain_residuals.meet_fits m (gain_residuals.left (others i) (owed i))) meet (subst (λ (p : Gain). gain_residuals.meet_fits (meet_below gain_residuals (lefts gains gain_residuals walks dues) i) p) (lefts_are i (omega arith)) (fits.1 some)),
+      λ some. subst (λ (m : Gain). gain_residuals.meet_fits m (gain_residuals.left (others i) (owed i))) meet
+          (subst (λ (p : Gain). gain_residuals.meet_fits (meet_below gain_residuals (lefts gains gain_residuals walks dues) i) p)
+          (lefts_are i (omega arith)) (fits.1 some)),
     )
 
 pub one_length : TransfersHaveOneLength
@@ -112,7 +117,8 @@ due_gain : Option EndlessRow → Gain
 due_gain None = gain_zero
 due_gain (Some r) = gain_of (list_form (listed_dates r) r.every (pos r.gap))
 
-walk_series_is : (net : NetLists) → IsNet net → (input : ℕ) (f : SettledForm) → IsTransferOf net input f → (r : EndlessRow) → r.transition.index < length net.transitions → IsWalkSeries net input r.transition.index (walk_gain f (Some r)).series
+walk_series_is : (net : NetLists) → IsNet net → (input : ℕ) (f : SettledForm) → IsTransferOf net input f → (r : EndlessRow)
+    → r.transition.index < length net.transitions → IsWalkSeries net input r.transition.index (walk_gain f (Some r)).series
 unfolding walk_gain
 walk_series_is net ok input f h r l =
     let t : ℕ = r.transition.index in
@@ -133,7 +139,8 @@ columns settle net ok live rows each input is_input =
       λ i. walk_gain f (slice_get rows i),
       λ i. due_gain (slice_get rows i),
       record {
-        walk_series = λ i r e. subst (λ (o : Option EndlessRow). IsWalkSeries net input r.transition.index (walk_gain f o).series) (sym e) (walk_series_is net ok input f form.1 r (row i r e).in_range);
+        walk_series = λ i r e. subst (λ (o : Option EndlessRow). IsWalkSeries net input r.transition.index (walk_gain f o).series)
+            (sym e) (walk_series_is net ok input f form.1 r (row i r e).in_range);
         due_series = λ i r e. subst (λ (o : Option EndlessRow). IsDueSeries r (due_gain o).series) (sym e) (due_series_is net r (row i r e));
       },
     )

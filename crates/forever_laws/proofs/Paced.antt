@@ -90,7 +90,9 @@ module _ (net : NetLists) (ok : IsNet net) (live : IsLive net) (x : ℕ → ℕ 
       let on : OwnPath net s r.transition.index way = own_path net way s r.transition.index leads in
       let time = own.time in
       let tokens = own.tokens in
-      let within : time_of net own.places ≤ r.gap * q = within_turns r.every r.gap q (time_of net own.places) (tokens_of net own.places) row.goes_on.some (omega arith) (pace own.places on.places s own.path on.path) in
+      let within : time_of net own.places ≤ r.gap * q =
+      within_turns r.every r.gap q (time_of net own.places) (tokens_of net own.places) row.goes_on.some (omega arith)
+      (pace own.places on.places s own.path on.path) in
       omega arith
 
   -- past the bound an earlier number is late, too

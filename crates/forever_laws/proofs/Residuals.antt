@@ -99,7 +99,8 @@ meets k walks dues (suc n) h =
     let left : value_at g k ≡ residual_at (walks (suc n)).series (dues (suc n)).series k = form_left_values (walks (suc n)).series (dues (suc n)).series own.0 own.1 k in
     let is : value_at (form_least f g) k ≡ earlier_of (value_at f k) (value_at g k) = form_least_values f g isf isg k in
     let low : Le (value_at (form_least f g) k) (value_at f k) = le_trans (le_is is) (earlier_le_left (value_at f k) (value_at g k)) in
-    let last : Le (value_at (form_least f g) k) (residual_at (walks (suc n)).series (dues (suc n)).series k) = le_trans (le_is is) (le_trans (earlier_le_right (value_at f k) (value_at g k)) (le_is left)) in
+    let last : Le (value_at (form_least f g) k) (residual_at (walks (suc n)).series (dues (suc n)).series k) =
+    le_trans (le_is is) (le_trans (earlier_le_right (value_at f k) (value_at g k)) (le_is left)) in
     let within = old.within in
     let below : (i : ℕ) → i < suc (suc n) → Le (value_at (form_least f g) k) (residual_at (walks i).series (dues i).series k) =
     λ i l. ⊎_elim
@@ -125,7 +126,8 @@ got_row [] i l = absurd (omega arith)
 got_row (r ∷ rows) zero l = record { row = r; got = refl; is = λ o. refl }
 got_row (r ∷ rows) (suc i) l = let old : GotRow rows i = got_row rows i (omega arith) in record { row = old.row; got = old.got; is = old.is }
 
-due_at_row : (net : NetLists) (rows : List EndlessRow) → IsEndlessOf net rows → (i : ℕ) → i < length rows → (g : GotRow rows i) → (k : ℕ) → due_on rows g.row.transition.index k ≡ Some (due_number g.row k)
+due_at_row : (net : NetLists) (rows : List EndlessRow) → IsEndlessOf net rows → (i : ℕ) → i < length rows → (g : GotRow rows i)
+    → (k : ℕ) → due_on rows g.row.transition.index k ≡ Some (due_number g.row k)
 due_at_row net rows ok i l g k = subst (λ (r : EndlessRow). due_on rows r.transition.index k ≡ row_due r k) (g.is g.row) (due_of_row net rows ok i k g.row l) ∙ due_is g.row k
 
 -- a walk of this time to a firing that is due then, from a date that is at most the residual
@@ -134,7 +136,8 @@ left_below v h d time due l m e =
     let one : Le (date_product h v) (At (pos due)) = from_left h l in
     let two : Le (date_product (At (pos time)) v) (At (pos due)) = le_trans (product_le {a = At (pos time)} {b = h} {c = v} {d = v} (record { holds = m }) (le_refl v)) one in
     let three : delayed time v ≡ date_product (At (pos time)) v = delayed_is_product time v ∙ times_commutes v (At (pos time)) in
-    delayed_back time v d (at_most_trans (delayed time v) (At (pos due)) (delayed time d) (subst (λ z. IsAtMostDate z (At (pos due))) (sym three) two.holds) (at_most_is (At (pos due)) (delayed time d) (sym e)))
+    delayed_back time v d (at_most_trans (delayed time v) (At (pos due)) (delayed time d)
+    (subst (λ z. IsAtMostDate z (At (pos due))) (sym three) two.holds) (at_most_is (At (pos due)) (delayed time d) (sym e)))
 
 left_of_numbers : (time due : ℕ) → delayed time (date_left (At (pos time)) (At (pos due))) ≡ At (pos due)
 left_of_numbers time due = ap At (omega (arith, ints))
@@ -145,7 +148,9 @@ left_from_zero time due l = omega (arith, ints)
 module _ (net : NetLists) (ok : IsNet net) (rows : List EndlessRow) (each : IsEndlessOf net rows) (zeros : InputsMeet net (due_on rows) inputs_at_zero) (t : ℕ) (in' : t < length net.transitions)
     (walks dues : ℕ → Gain) (columns : AreSeriesColumns net t rows walks dues) (k : ℕ) where
   -- the residual at an offset: never, or a date to a due firing, from 0 on
-  one_left : (i j : ℕ) → i < length rows → (let d : Date = date_left (value_at (walks i).series j) (value_at (dues i).series (k + j)) in (d ≡ Never) ⊎ (IsAtMostDate (At (pos 0)) d × IsDateToDue net (due_on rows) t (k + 1) d))
+  one_left : (i j : ℕ) → i < length rows → (let d : Date =
+      date_left (value_at (walks i).series j) (value_at (dues i).series (k + j)) in (d ≡ Never)
+      ⊎ (IsAtMostDate (At (pos 0)) d × IsDateToDue net (due_on rows) t (k + 1) d))
   one_left i j l =
       let g : GotRow rows i = got_row rows i l in
       let h : Date = value_at (walks i).series j in
@@ -159,21 +164,28 @@ module _ (net : NetLists) (ok : IsNet net) (rows : List EndlessRow) (each : IsEn
       let n : ℕ = walk_time net steps in
       let e : 1 + k ≡ k + 1 = omega arith in
       let f : j + 1 + k ≡ k + j + 1 = omega arith in
-      let walk : Walks net t (k + 1) steps g.row.transition.index (k + j + 1) = subst (λ (z : ℕ). Walks net t z steps g.row.transition.index (k + j + 1)) e (subst (λ (z : ℕ). Walks net t (1 + k) steps g.row.transition.index z) f (walk_later net steps t 1 g.row.transition.index (j + 1) k one.1)) in
+      let walk : Walks net t (k + 1) steps g.row.transition.index (k + j + 1) =
+      subst (λ (z : ℕ). Walks net t z steps g.row.transition.index (k + j + 1)) e
+      (subst (λ (z : ℕ). Walks net t (1 + k) steps g.row.transition.index z) f (walk_later net steps t 1 g.row.transition.index (j + 1) k one.1)) in
       let is_due : due_on rows g.row.transition.index (k + j + 1) ≡ Some due = due_at_row net rows each i l g (k + j + 1) in
       let x : Dating = zeros.0 in
       let feasible = zeros.1.feasible in
       let end = walk_ends_in net (net_ends net ok) steps t (k + 1) g.row.transition.index (k + j + 1) in' (omega arith) walk in
       let first : IsAtMostDate (At (pos 0)) (x t (k + 1)) = not_before_zero net inputs_at_zero x feasible t (k + 1) in' (omega arith) in
-      let along : IsAtMostDate (delayed n (x t (k + 1))) (x g.row.transition.index (k + j + 1)) = walk_below net x (net_ends net ok) (feasible_keeps net inputs_at_zero x feasible) steps t (k + 1) g.row.transition.index (k + j + 1) in' (omega arith) walk in
+      let along : IsAtMostDate (delayed n (x t (k + 1))) (x g.row.transition.index (k + j + 1)) =
+      walk_below net x (net_ends net ok) (feasible_keeps net inputs_at_zero x feasible) steps t (k + 1) g.row.transition.index
+      (k + j + 1) in' (omega arith) walk in
       let kept : IsAtMostDate (x g.row.transition.index (k + j + 1)) (At (pos due)) = zeros.2 g.row.transition.index (k + j + 1) due end.0 end.1 is_due in
       let late : IsAtMostDate (delayed n (At (pos 0))) (At (pos due)) =
-      at_most_trans (delayed n (At (pos 0))) (delayed n (x t (k + 1))) (At (pos due)) (delayed_rises n (At (pos 0)) (x t (k + 1)) first) (at_most_trans (delayed n (x t (k + 1))) (x g.row.transition.index (k + j + 1)) (At (pos due)) along kept) in
+      at_most_trans (delayed n (At (pos 0))) (delayed n (x t (k + 1))) (At (pos due)) (delayed_rises n (At (pos 0)) (x t (k + 1)) first)
+      (at_most_trans (delayed n (x t (k + 1))) (x g.row.transition.index (k + j + 1)) (At (pos due)) along kept) in
       let low : n ≤ due = omega (arith, ints, late) in
-      let same : date_left h (value_at (dues i).series (k + j)) ≡ date_left (At (pos n)) (At (pos due)) = ap (λ z. date_left z (value_at (dues i).series (k + j))) one.2 ∙ ap (date_left (At (pos n))) dated in
+      let same : date_left h (value_at (dues i).series (k + j)) ≡ date_left (At (pos n)) (At (pos due)) =
+      ap (λ z. date_left z (value_at (dues i).series (k + j))) one.2 ∙ ap (date_left (At (pos n))) dated in
       inr (
         subst (IsAtMostDate (At (pos 0))) (sym same) (left_from_zero n due low),
-        subst (IsDateToDue net (due_on rows) t (k + 1)) (sym same) (record { to = g.row.transition.index; number = k + j + 1; due_date = due; steps = steps; walk = walk; is_due = is_due; is = left_of_numbers n due }),
+        subst (IsDateToDue net (due_on rows) t (k + 1)) (sym same)
+            (record { to = g.row.transition.index; number = k + j + 1; due_date = due; steps = steps; walk = walk; is_due = is_due; is = left_of_numbers n due }),
       ))
       time.reached
 
@@ -216,7 +228,8 @@ module _ (net : NetLists) (ok : IsNet net) (rows : List EndlessRow) (each : IsEn
       let count : suc n ≡ length rows = omega arith in
       let m : IsMeet (length rows) k walks dues (residual_over (length rows) walks dues) =
       subst (λ (c : ℕ). IsMeet c k walks dues (residual_over c walks dues)) count
-      (meets k walks dues n (λ i l. (let g : GotRow rows i = got_row rows i (omega arith) in ((columns.walk_series i g.row g.got).canonical.form, (columns.due_series i g.row g.got).canonical.form)))) in
+      (meets k walks dues n (λ i l. (let g : GotRow rows i =
+      got_row rows i (omega arith) in ((columns.walk_series i g.row g.got).canonical.form, (columns.due_series i g.row g.got).canonical.form)))) in
       let v : Date = value_at (residual_over (length rows) walks dues).series k in
       let f : Form = (walks m.index).series in
       let g : Form = (dues m.index).series in
@@ -243,7 +256,8 @@ free_or_numbers net ok live rows each some zeros t in' walks dues columns =
     let s : ℕ → Date = value_at (residual_over (length rows) walks dues).series in
     let latest : (k : ℕ) → IsLatestDate net (due_on rows) t (k + 1) (s k) = λ k. latest_is net ok rows each zeros t in' walks dues columns k some in
     let never_by : (j k : ℕ) → s j ≡ Never → s k ≡ Never =
-    λ j k e. (free_without_walks net (due_on rows) t (k + 1) (s k) (latest k)).1 (free_at_each net rows each t (j + 1) (k + 1) (omega arith) (omega arith) ((free_without_walks net (due_on rows) t (j + 1) (s j) (latest j)).0 e)) in (
+    λ j k e. (free_without_walks net (due_on rows) t (k + 1) (s k) (latest k)).1
+    (free_at_each net rows each t (j + 1) (k + 1) (omega arith) (omega arith) ((free_without_walks net (due_on rows) t (j + 1) (s j) (latest j)).0 e)) in (
       λ e. (λ k. never_by 0 k e, λ k one. free_at_each net rows each t (0 + 1) k (omega arith) one ((free_without_walks net (due_on rows) t (0 + 1) (s 0) (latest 0)).0 e)),
       λ ne k. latest_from_zero net ok (due_on rows) zeros t (k + 1) (s k) in' (omega arith) (latest k) (λ e. ne (never_by k 0 e)),
     )

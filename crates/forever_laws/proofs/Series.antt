@@ -57,7 +57,9 @@ walks_climb net input t k d e h m =
     (λ one.
     let steps : List Step = one.0 in
     let more : Walks net input 1 (steps ++ (Next ∷ [])) t (k + 1) = walk_append net steps (Next ∷ []) input 1 t k t (k + 1) one.1 (refl, refl) in
-    let time : walk_time net (steps ++ (Next ∷ [])) ≡ walk_time net steps = (let e : walk_time net (steps ++ (Next ∷ [])) ≡ walk_time net steps + walk_time net (Next ∷ []) = walk_time-append net steps (Next ∷ []) in omega arith) in
+    let time : walk_time net (steps ++ (Next ∷ [])) ≡ walk_time net steps =
+    (let e : walk_time net (steps ++ (Next ∷ [])) ≡ walk_time net steps + walk_time net (Next ∷ []) =
+    walk_time-append net steps (Next ∷ []) in omega arith) in
     rw one.2 (subst (λ (n : ℕ). IsAtMostDate (At (pos n)) e) time (m.greatest (steps ++ (Next ∷ [])) more)))
     h.reached
 

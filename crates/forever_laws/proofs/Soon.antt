@@ -57,7 +57,8 @@ live_in net live ps c = ⊎_elim
     (kinds net ps c)
 
 -- a path of few places has few tokens
-few_tokens : (net : NetLists) (most : ℕ) → 1 ≤ most → All (λ p. p.tokens ≤ most) net.places → (ps : List PlaceId) (s t m : ℕ) → IsPathBetween (unrolled net) s ps t → length ps ≤ m → tokens_of (unrolled net) ps ≤ m * most
+few_tokens : (net : NetLists) (most : ℕ) → 1 ≤ most → All (λ p. p.tokens ≤ most) net.places → (ps : List PlaceId) (s t m : ℕ)
+    → IsPathBetween (unrolled net) s ps t → length ps ≤ m → tokens_of (unrolled net) ps ≤ m * most
 few_tokens net most some all ps s t m h l =
     let one = sum_most (λ p. (place_at (unrolled net) p).tokens) most (unrolled net) (marks_in net most some all) ps s t h in
     let more : length ps * most ≤ m * most = mul-le-mul_right {m = length ps} {n = m} most l in
@@ -116,11 +117,13 @@ product_most a b c d l m =
     omega arith
 
 bound_low : (n every size : ℕ) → n ≤ 400 → every ≤ 1000 → size ≤ 10000
-    → flat_bound (n * most_place_tokens) most_place_tokens every size + steep_bound (n * most_place_tokens) (n * most_place_tokens) (n * every * greatest_hold) every greatest_input_date < late_number_bound
+    → flat_bound (n * most_place_tokens) most_place_tokens every size + steep_bound (n * most_place_tokens) (n * most_place_tokens)
+    (n * every * greatest_hold) every greatest_input_date < late_number_bound
 bound_low n every size ln le ls =
     let piece : every * (n * most_place_tokens) ≤ 1000 * 400000 = product_most every (n * most_place_tokens) 1000 400000 le (omega arith) in
     let span : n * every ≤ 400 * 1000 = product_most n every 400 1000 ln le in
-    let last : n * every * greatest_hold * (1 + n * most_place_tokens + every) ≤ 400 * 1000 * greatest_hold * 401001 = product_most (n * every * greatest_hold) (1 + n * most_place_tokens + every) (400 * 1000 * greatest_hold) 401001 (omega arith) (omega arith) in
+    let last : n * every * greatest_hold * (1 + n * most_place_tokens + every) ≤ 400 * 1000 * greatest_hold * 401001 =
+    product_most (n * every * greatest_hold) (1 + n * most_place_tokens + every) (400 * 1000 * greatest_hold) 401001 (omega arith) (omega arith) in
     omega arith
 
 -- ---- the least late number
@@ -190,7 +193,8 @@ date_within net ok live x least t k date l o e =
     omega (arith, ints, within.1)
 
 -- dates of numbers below 10^23 are below 10^35
-pub date_low : (net : NetLists) → IsNet net → IsLive net → (x : ℕ → ℕ → Date) → IsLeastUnder net inputs_at_zero x → (t k date : ℕ) → t < length net.transitions → 1 ≤ k → k < late_number_bound → x t k ≡ At (pos date) → date < late_date_bound
+pub date_low : (net : NetLists) → IsNet net → IsLive net → (x : ℕ → ℕ → Date) → IsLeastUnder net inputs_at_zero x → (t k date : ℕ)
+    → t < length net.transitions → 1 ≤ k → k < late_number_bound → x t k ≡ At (pos date) → date < late_date_bound
 date_low net ok live x least t k date l o few e = let within = date_within net ok live x least t k date l o e in omega arith
 
 pub late_is_soon : LateIsSoon
@@ -198,7 +202,8 @@ late_is_soon net ok live x least r row k due date h =
     let t : ℕ = r.transition.index in
     let n : ℕ = length net.transitions in
     let late = late_to net ok live x least r k due date h.late in
-    let soon = late_soon (unrolled net) n (n * most_place_tokens) (n * most_place_tokens) (n * r.every * greatest_hold) most_place_tokens r.every greatest_input_date r.gap (length r.dates) (least_number net ok live x least) (due_number r)
+    let soon = late_soon (unrolled net) n (n * most_place_tokens) (n * most_place_tokens)
+    (n * r.every * greatest_hold) most_place_tokens r.every greatest_input_date r.gap (length r.dates) (least_number net ok live x least) (due_number r)
     (setting net ok live x least r row) t k row.in_range h.late.from_one late in
     let within = soon.within in
     let low = bound_low n r.every (length r.dates) ok.few_transitions row.goes_on.every_in row.few in

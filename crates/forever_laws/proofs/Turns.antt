@@ -74,7 +74,8 @@ module _ (net : NetLists) (ok : IsNet net) (live : IsLive net) (x : ℕ → ℕ 
       let above = h.above in
       let dates : z (base + turns * turn) ≡ z base + turns * rise = on_by z past turn rise goes_on.dates turns base above in
       let dues : due_number r (base + turns * turn) ≡ due_number r base + turns * fall = on_by (due_number r) past turn fall goes_on.dues turns base above in
-      let late : IsLateAt x r (base + turns * turn) (due_number r (base + turns * turn)) (z (base + turns * turn)) = late_from net ok live x least r row (base + turns * turn) (omega arith) first.late in
+      let late : IsLateAt x r (base + turns * turn) (due_number r (base + turns * turn)) (z (base + turns * turn)) =
+      late_from net ok live x least r row (base + turns * turn) (omega arith) first.late in
       record {
         late = subst (λ n. IsLateAt x r (base + turns * turn) n (z base + turns * rise)) dues (subst (IsLateAt x r (base + turns * turn) (due_number r (base + turns * turn))) dates late);
         first = λ j d y l. first.first j l.from_one (late_to net ok live x least r j d y l);
@@ -85,9 +86,12 @@ module _ (net : NetLists) (ok : IsNet net) (live : IsLive net) (x : ℕ → ℕ 
   least_late gain base due date none some e h =
       let one : due_number r base ≡ due = sym (due_only r base due h.is_due) in
       let two : z base ≡ date = ap number_of h.comes in
-      let own : IsSoonest x r past (past + turn) gain base (due_number r base) (z base) = subst (λ n. IsSoonest x r past (past + turn) gain base n (z base)) (sym one) (subst (IsSoonest x r past (past + turn) gain base due) (sym two) h) in
+      let own : IsSoonest x r past (past + turn) gain base (due_number r base) (z base) =
+      subst (λ n. IsSoonest x r past (past + turn) gain base n (z base)) (sym one) (subst (IsSoonest x r past (past + turn) gain base due) (sym two) h) in
       subst (λ n. IsLeastLate x r (base + turns_to n date gain * turn) (n + turns_to n date gain * fall) (date + turns_to n date gain * rise)) one
-      (subst (λ n. IsLeastLate x r (base + turns_to (due_number r base) n gain * turn) (due_number r base + turns_to (due_number r base) n gain * fall) (n + turns_to (due_number r base) n gain * rise)) two (least_of gain base none some e own))
+      (subst (λ n. IsLeastLate x r (base + turns_to (due_number r base) n gain * turn)
+      (due_number r base + turns_to (due_number r base) n gain * fall) (n + turns_to (due_number r base) n gain * rise)) two
+      (least_of gain base none some e own))
 
 pub turns_tell : TurnsTellLate
 turns_tell net ok live x least r row past turn rise fall s none = (
@@ -106,7 +110,8 @@ rises_on net ok live x least t k (suc m) l one =
     let here = date_is net ok live x least t (k + m) l (omega arith) in
     let there = date_is net ok live x least t (k + m + 1) l (omega arith) in
     let next = at_most_numbers (least_number net ok live x least t (k + m)) (least_number net ok live x least t (k + m + 1))
-    (subst (λ d. IsAtMostDate (At (pos (least_number net ok live x least t (k + m)))) d) there (subst (λ d. IsAtMostDate d (x t (k + m + 1))) here (dates_climb net inputs_at_zero x least.feasible t (k + m) l (omega arith)))) in
+    (subst (λ d. IsAtMostDate (At (pos (least_number net ok live x least t (k + m)))) d) there
+    (subst (λ d. IsAtMostDate d (x t (k + m + 1))) here (dates_climb net inputs_at_zero x least.feasible t (k + m) l (omega arith)))) in
     rw e (omega arith)
 
 step_between : (a b : ℕ) (s : ℤ) → a ≤ b → At (pos b) ≡ move s (At (pos a)) → s ≡ pos (b - a)

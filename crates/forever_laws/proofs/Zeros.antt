@@ -65,7 +65,8 @@ module _ (net : NetLists) (ok : IsNet net) (live : IsLive net) (x : ℕ → ℕ 
       e ∙ ap (λ z. At (pos (number_of z))) (sym e)
 
   -- a walk's start and time come no later
-  pub walk_most : (t k a s : ℕ) (steps : _) → t < length net.transitions → 1 ≤ k → a < length net.transitions → 1 ≤ s → Walks net a s steps t k → start_date net a s + walk_time net steps ≤ least_number t k
+  pub walk_most : (t k a s : ℕ) (steps : _) → t < length net.transitions → 1 ≤ k → a < length net.transitions → 1 ≤ s
+      → Walks net a s steps t k → start_date net a s + walk_time net steps ≤ least_number t k
   walk_most t k a s steps l o la os w =
       let h : IsDateOfWalk net inputs_at_zero t k (delayed (walk_time net steps) (start_of_firing net inputs_at_zero a s)) =
       record { from = a; number = s; steps = steps; start = start_of_firing net inputs_at_zero a s; from_in = la; from_one = os; walk = w; starts = refl; is = refl } in
@@ -103,7 +104,8 @@ module _ (net : NetLists) (ok : IsNet net) (live : IsLive net) (x : ℕ → ℕ 
       let two : time_of (unrolled net) (rounds m (wait.id ∷ [])) ≡ m * 0 = rounds_sum (λ p. (place_at (unrolled net) p).hold) (wait.id ∷ []) m ∙ ap (λ (z : ℕ). m * z) wait.time in
       (rounds m (wait.id ∷ []), rounds_lead (unrolled net) a (wait.id ∷ []) m wait.path, omega arith, omega arith)
 
-  pub reached : (most : ℕ) → 1 ≤ most → All (λ p. p.tokens ≤ most) net.places → (t k : ℕ) → t < length net.transitions → 1 ≤ k → ReachedFrom (unrolled net) (length net.transitions) most least_number t k
+  pub reached : (most : ℕ) → 1 ≤ most → All (λ p. p.tokens ≤ most) net.places → (t k : ℕ) → t < length net.transitions → 1 ≤ k
+      → ReachedFrom (unrolled net) (length net.transitions) most least_number t k
   reached most some all t k l o =
       let w : IsDateOfWalk net inputs_at_zero t k (x t k) = (walks t k l o).reached in
       let path : Pathed net w.from t w.number k w.steps = pathed net ok w.steps w.from w.number t k w.from_in w.walk in

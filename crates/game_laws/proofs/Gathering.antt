@@ -328,7 +328,8 @@ at_is_one a b e = cc
 
 pub earliest_one : EarliestRunsAreOne
 earliest_one net x rank most fs gs run other o p =
-    let same : fs ≡ gs = same_items (ComesBefore x rank) (comes_once x rank) fs gs o.order p.order (has_as_well net x rank most fs gs run other o p) (has_as_well net x rank most gs fs other run p o) in
+    let same : fs ≡ gs = same_items (ComesBefore x rank) (comes_once x rank) fs gs o.order p.order
+    (has_as_well net x rank most fs gs run other o p) (has_as_well net x rank most gs fs other run p o) in
     let long = ap length same in
     ext_get_or no_firing run other (omega (arith, long, o.count, p.count))
     (λ i l.

@@ -49,7 +49,8 @@ enters_last : (net : NetLists) (p : PlaceId) (ps : List PlaceId) (b : ℕ) → I
 enters_last net p [] b h = (0, omega arith, h)
 enters_last net p (q ∷ ps) b h = let more = enters_last net q ps b h.2 in (suc more.0, omega (arith, more.1), more.2)
 
-enters_or_begins : (net : NetLists) (ps : List PlaceId) (a b : ℕ) → IsPathBetween net a ps b → (i : ℕ) (d : PlaceId) → i < length ps → (from_of net (get_or ps i d) ≡ a) ⊎ Enters net ps (from_of net (get_or ps i d))
+enters_or_begins : (net : NetLists) (ps : List PlaceId) (a b : ℕ) → IsPathBetween net a ps b → (i : ℕ) (d : PlaceId) → i < length ps
+    → (from_of net (get_or ps i d) ≡ a) ⊎ Enters net ps (from_of net (get_or ps i d))
 enters_or_begins net [] a b h i d l = absurd (omega arith)
 enters_or_begins net (p ∷ ps) a b h zero d l = inl h.1
 enters_or_begins net (p ∷ ps) a b h (suc i) d l =

@@ -124,7 +124,8 @@ counted ns rise first closed (suc n) l i m =
 
 -- ---- the numbers in an earliest run
 
-module _ (net : NetLists) (x : Dating) (f : IsFeasibleUnder net (listed_releases net) x) (rank : ℕ → ℕ) (most : ℕ) (fs : List Numbered) (run : List Fired) (o : IsRunInOrder net x rank most fs run) where
+module _ (net : NetLists) (x : Dating) (f : IsFeasibleUnder net (listed_releases net) x) (rank : ℕ → ℕ) (most : ℕ) (fs : List Numbered)
+    (run : List Fired) (o : IsRunInOrder net x rank most fs run) where
   up_to : (t k : ℕ) → Contains fs (firing t k) → IsFiringUpTo net most (firing t k)
   up_to t k c = All-contains (IsFiringUpTo net most) fs (firing t k) o.known c
 

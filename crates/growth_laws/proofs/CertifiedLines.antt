@@ -122,7 +122,8 @@ draw_lines net answer ok h inside a b lift into = record {
   potentials = keeps;
 } where
   keeps : (p : PlaceId) → p.index < length net.places → IsTrue (inside (to_of net p))
-      → (reduced_time net a b p +ℤ (own_potential b answer (from_of net p) +ℤ pos (lift * part_at answer (from_of net p)))) ≤ℤ (own_potential b answer (to_of net p) +ℤ pos (lift * part_at answer (to_of net p)))
+      → (reduced_time net a b p +ℤ (own_potential b answer (from_of net p) +ℤ pos (lift * part_at answer (from_of net p)))) ≤ℤ
+      (own_potential b answer (to_of net p) +ℤ pos (lift * part_at answer (to_of net p)))
   keeps p l i =
       let s : ℕ = from_of net p in
       let t : ℕ = to_of net p in
@@ -137,7 +138,8 @@ draw_lines net answer ok h inside a b lift into = record {
       let count = h.count in
       let from_in : s < length answer.part_of.items = omega (arith, ends.from_in, count) in
       let to_in : t < length answer.part_of.items = omega (arith, ends.to_in, count) in
-      let member : IsPlaceOfPart net answer.part_of.items k p = record { in_range = l; from_member = record { in_range = from_in; here = same }; to_member = record { in_range = to_in; here = refl } } in
+      let member : IsPlaceOfPart net answer.part_of.items k p =
+      record { in_range = l; from_member = record { in_range = from_in; here = same }; to_member = record { in_range = to_in; here = refl } } in
       let here = in_part net answer.part_of.items k a b (slice_index_or answer.parts.items k NoCircuit) (h.parts k (h.below t 0 to_in)) (λ q e. into.ratios t q i e) p member in
       let own : potential_by b (slice_index_or answer.parts.items k NoCircuit) s ≡ own_potential b answer s = ap (λ n. potential_by b (slice_index_or answer.parts.items n NoCircuit) s) (sym same) in
       level lift (part_at answer s) k (reduced_time net a b p) (own_potential b answer s) (own_potential b answer t) same

@@ -127,8 +127,10 @@ module _ (m : ℕ → ℕ) (after period units : ℕ) (some : 1 ≤ period) (aga
       (λ (past : after < k).
       let p : IsSomePeriodsOn after period k = periods_on after period k some past in
       let value : m k ≡ m p.base + p.rounds * units = ap m p.is ∙ on p.rounds p.base p.above in
-      let left : units * k ≡ units * p.base + units * (p.rounds * period) = (let e : units * (p.base + p.rounds * period) ≡ units * p.base + units * (p.rounds * period) = grind arith in ap (λ z. units * z) p.is ∙ e) in
-      let right : period * m k ≡ period * m p.base + units * (p.rounds * period) = (let e : period * (m p.base + p.rounds * units) ≡ period * m p.base + units * (p.rounds * period) = grind arith in ap (λ z. period * z) value ∙ e) in
+      let left : units * k ≡ units * p.base + units * (p.rounds * period) =
+      (let e : units * (p.base + p.rounds * period) ≡ units * p.base + units * (p.rounds * period) = grind arith in ap (λ z. units * z) p.is ∙ e) in
+      let right : period * m k ≡ period * m p.base + units * (p.rounds * period) =
+      (let e : period * (m p.base + p.rounds * units) ≡ period * m p.base + units * (p.rounds * period) = grind arith in ap (λ z. period * z) value ∙ e) in
       let low : units * p.base ≤ units * (after + period) = mul-le-mul_left {m = p.base} {n = after + period} units p.within in
       let high : period * m p.base ≤ period * most = mul-le-mul_left {m = m p.base} {n = most} period (first_below p.base p.within) in
       (omega (arith, left, right, low), omega (arith, left, right, high)))
@@ -190,7 +192,8 @@ near_line a b c d k value date e low high =
     let is = times_pos b value in
     rw e (omega (arith, ints, is, low), omega (arith, ints, is, high))
 
-module _ (repeat : LeastDatingsRepeat) (net : NetLists) (ok : IsNet net) (live : IsLive net) (x : ℕ → ℕ → Date) (least : IsLeastDating net x) (t : ℕ) (in' : t < length net.transitions) (endless : IsEndless net t) where
+module _ (repeat : LeastDatingsRepeat) (net : NetLists) (ok : IsNet net) (live : IsLive net) (x : ℕ → ℕ → Date)
+    (least : IsLeastDating net x) (t : ℕ) (in' : t < length net.transitions) (endless : IsEndless net t) where
   abbrev after : ℕ
   after = repeats_past net
 

@@ -48,7 +48,8 @@ product_early Early = refl
 product_early (At z) = refl
 product_early Never = refl
 
-module _ (net : NetLists) (ends : HasEndsInRange net) (x u y : Dating) (h : ℕ → ℕ → ℕ → Date) (free : IsLeastUnder net no_releases x) (least : IsLeastUnder net u y) (times : AreTransferTimes net h) where
+module _ (net : NetLists) (ends : HasEndsInRange net) (x u y : Dating) (h : ℕ → ℕ → ℕ → Date) (free : IsLeastUnder net no_releases x)
+    (least : IsLeastUnder net u y) (times : AreTransferTimes net h) where
   steps_kept : (v z : Dating) → IsFeasibleUnder net v z → Keeps net z
   steps_kept v z f = feasible_keeps_in net initial_date (system_of net v).release z (feasible_in net v z f)
 

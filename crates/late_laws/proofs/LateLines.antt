@@ -18,7 +18,8 @@ use Rattle.growth_laws.proofs.Growth.{IsSomePeriodsOn, periods_on}
 use Rattle.forever_laws.proofs.GoingOn.{due_number, due_is, due_only, due_again}
 
 -- rounds later the due date has risen by the gaps, and the line by what it rises in them
-dues_on : (net : NetLists) (r : EndlessRow) → IsEndlessRow net r → (past rounds k : ℕ) → length r.dates ≤ past + r.every → past < k → due_number r (k + rounds * r.every) ≡ due_number r k + rounds * r.gap
+dues_on : (net : NetLists) (r : EndlessRow) → IsEndlessRow net r → (past rounds k : ℕ) → length r.dates ≤ past + r.every → past < k
+    → due_number r (k + rounds * r.every) ≡ due_number r k + rounds * r.gap
 dues_on net r row past rounds k far l = on_by (due_number r) past r.every r.gap (λ j m. due_again net r row j (omega arith)) rounds k l
 
 sum_on : (b k rounds step : ℕ) → b * (k + rounds * step) ≡ b * k + rounds * (b * step)
@@ -33,7 +34,8 @@ under_on : (net : NetLists) (r : EndlessRow) → IsEndlessRow net r → (a b : �
 under_on net r row a b c v last under k rounds above within =
     let here = under.round k (due_number r k) above within (due_is r k) in
     let line = line_on a c v r.transition.index k rounds r.every in
-    let dues : b * due_number r (k + rounds * r.every) ≡ b * due_number r k + rounds * (b * r.gap) = ap (λ n. b * n) (dues_on net r row last rounds k under.past_list above) ∙ sum_on b (due_number r k) rounds r.gap in
+    let dues : b * due_number r (k + rounds * r.every) ≡ b * due_number r k + rounds * (b * r.gap) =
+    ap (λ n. b * n) (dues_on net r row last rounds k under.past_list above) ∙ sum_on b (due_number r k) rounds r.gap in
     let more : rounds * (a * r.every) ≤ rounds * (b * r.gap) = mul-le-mul_left {m = a * r.every} {n = b * r.gap} rounds under.rises_less in
     omega (arith, ints, here, line, more, dues)
 
@@ -73,7 +75,8 @@ gained : (net : NetLists) (r : EndlessRow) → IsEndlessRow net r → (a b : ℕ
     → line_at a c v r.transition.index (k + rounds * r.every) ≤ℤ pos (b * due_number r (k + rounds * r.every))
 gained net r row a b c v past gain rounds k far e above lacks =
     let line = line_on a c v r.transition.index k rounds r.every in
-    let dues : b * due_number r (k + rounds * r.every) ≡ b * due_number r k + rounds * (b * r.gap) = ap (λ n. b * n) (dues_on net r row past rounds k far above) ∙ sum_on b (due_number r k) rounds r.gap in
+    let dues : b * due_number r (k + rounds * r.every) ≡ b * due_number r k + rounds * (b * r.gap) =
+    ap (λ n. b * n) (dues_on net r row past rounds k far above) ∙ sum_on b (due_number r k) rounds r.gap in
     let gains : rounds * (b * r.gap) ≡ rounds * (a * r.every) + rounds * gain = ap (λ n. rounds * n) e ∙ spread rounds (a * r.every) gain in
     omega (arith, ints, lacks, line, dues, gains) where
       spread : (x y z : ℕ) → x * (y + z) ≡ x * y + x * z

@@ -70,5 +70,6 @@ slow_late net ok live x least r row circuit way s s_in closed leads fast =
     let same = path_time net ps in
     let low : n * time_of net circuit ≤ least_number net ok live x least t k = omega (arith, most, time, same) in
     let late : due_number r k < least_number net ok live x least t k =
-    late_by r.every r.gap (time_of net circuit) (tokens_of net circuit) (tokens_of net way) greatest_input_date n (least_number net ok live x least t k) (due_number r k) k fast (ap (λ m. 1 + m) tokens) (omega arith) low (due_slow net r row k) in
+    late_by r.every r.gap (time_of net circuit) (tokens_of net circuit) (tokens_of net way) greatest_input_date n
+    (least_number net ok live x least t k) (due_number r k) k fast (ap (λ m. 1 + m) tokens) (omega arith) low (due_slow net r row k) in
     (k, due_number r k, least_number net ok live x least t k, late_from net ok live x least r row k (omega arith) late)

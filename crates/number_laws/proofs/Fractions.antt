@@ -101,7 +101,9 @@ one_fraction (suc n) a b c d l pb pd h g e =
     (omega arith, omega arith))
     (λ (nz : a % b ≢ 0).
     let pa : 0 < a % b = omega arith in
-    let pc : 0 < c % d = ⊎_elim (λ (w : c % d ≡ 0). absurd (nz (zero_factor (a % b) d pd (rest ∙ (ap (λ z. z * b) w ∙ (let f : 0 * b ≡ 0 = omega arith in f)))))) (λ (w : c % d ≢ 0). let r : 0 < c % d = omega arith in r) (cases_eq (c % d) 0) in
+    let pc : 0 < c % d = ⊎_elim (λ (w : c % d ≡ 0). absurd
+    (nz (zero_factor (a % b) d pd (rest ∙ (ap (λ z. z * b) w ∙ (let f : 0 * b ≡ 0 = omega arith in f))))))
+    (λ (w : c % d ≢ 0). let r : 0 < c % d = omega arith in r) (cases_eq (c % d) 0) in
     let turned : b * (c % d) ≡ d * (a % b) = grind (arith, rest) in
     let r = one_fraction n b (a % b) d (c % d) (omega arith) pa pc (coprime_down a b h) (coprime_down c d g) turned in
     let bd : b ≡ d = r.0 in

@@ -10,7 +10,9 @@ use Rattle.teg_net.specs.Parts.{to_of, IsMember, IsPlaceOfPart}
 use Rattle.teg_net.specs.ReducedTimes.{reduced_time_of, IsGreatestPathTime}
 use Rattle.teg_net.proofs.PathLaws.{IsPathBetween-append}
 use Rattle.pace_laws.specs.TightPotentials.{offered, IsTightInto, AreTightPotentials, IsCriticalIn}
-use Rattle.pace_laws.specs.Eigenspaces.{IsCriticalRound, IsCriticalTransition, AreInOneCriticalPart, IsGreaterOf, AreBegunAt, MovedPotentialsAreTight, GreaterPotentialsAreTight, BegunPotentialsAreTight, BegunPotentialsExist, PotentialsAreSpanned, CriticalPartsMoveAsOne, OneBeginsForEachPart, OneCriticalPartTellsAll}
+use Rattle.pace_laws.specs.Eigenspaces.{IsCriticalRound, IsCriticalTransition, AreInOneCriticalPart, IsGreaterOf, AreBegunAt, MovedPotentialsAreTight}
+use Rattle.pace_laws.specs.Eigenspaces.{GreaterPotentialsAreTight, BegunPotentialsAreTight, BegunPotentialsExist, PotentialsAreSpanned}
+use Rattle.pace_laws.specs.Eigenspaces.{CriticalPartsMoveAsOne, OneBeginsForEachPart, OneCriticalPartTellsAll}
 use Rattle.pace_laws.proofs.Sums.{weight_is, weight-append, above_along, all_left, all_right}
 use Rattle.pace_laws.proofs.Tight.{greatest_are_tight, IsFromCritical, from_critical, tight_sum, nowhere_below}
 use Rattle.pace_laws.proofs.Existing.{begun_from}

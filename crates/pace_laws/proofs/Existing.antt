@@ -73,7 +73,8 @@ module _ (net : NetLists) (part_of : List ℕ) (part : ℕ) (ok : IsNet net) (st
         let inside = stays ps s t both.1.0 start both.0.1 both.1.1 in
         let End : ℕ → Type 0 = λ u. u ≡ t in
         let way : IsWay net a b (IsPlaceOfPart net part_of part) (place_or net part_of part) End (λ u. cases_eq u t) s ps = record { to = t; path = both.0.1; at_end = refl; inside = inside } in
-        let o = best_of_all net a b (IsPlaceOfPart net part_of part) (place_or net part_of part) End (λ u. cases_eq u t) (length net.transitions) (ends_below net ok) (λ u e. omega arith) no_gain s ps way in (
+        let o = best_of_all net a b (IsPlaceOfPart net part_of part) (place_or net part_of part) End (λ u. cases_eq u t)
+        (length net.transitions) (ends_below net ok) (λ u e. omega arith) no_gain s ps way in (
           reduced_time_of net a b o.best,
           record {
             attained = (o.best, subst (λ (z : ℕ). IsPathBetween net s o.best z) o.way.at_end o.way.path, o.way.inside, refl);
@@ -87,7 +88,8 @@ module _ (net : NetLists) (part_of : List ℕ) (part : ℕ) (ok : IsNet net) (st
         (λ (n : IsMember part_of part t → ⊥). (pos 0, λ m. absurd (n m)))
         (member_or part_of part t)
 
-    pub exist_from : (c : List PlaceId) → 0 < length c → IsPathBetween net s c s → All (IsPlaceOfPart net part_of part) c → time_of net c * b ≡ a * tokens_of net c → (v : ℕ → ℤ) × AreTightPotentials net part_of part a b v
+    pub exist_from : (c : List PlaceId) → 0 < length c → IsPathBetween net s c s → All (IsPlaceOfPart net part_of part) c
+        → time_of net c * b ≡ a * tokens_of net c → (v : ℕ → ℤ) × AreTightPotentials net part_of part a b v
     exist_from c some round inside attains = ((λ t. (sum_or t).0), greatest_are_tight net part_of part a b s (λ t. (sum_or t).0) c (λ t m. (sum_or t).1 m) some round inside attains)
 
 -- at the greatest ratio no circuit gains
@@ -100,7 +102,8 @@ none_gains net part_of part r g ps d i =
     omega (arith, ints, w, e)
 
 -- the greatest sums of the paths from a member
-pub begun_from : (net : NetLists) (part_of : List ℕ) (part : ℕ) → IsNet net → AreStrong net part_of → (r : Fraction) (s : ℕ) → IsMember part_of part s → IsGreatestRatio net (IsPlaceOfPart net part_of part) r
+pub begun_from : (net : NetLists) (part_of : List ℕ) (part : ℕ) → IsNet net → AreStrong net part_of → (r : Fraction) (s : ℕ)
+    → IsMember part_of part s → IsGreatestRatio net (IsPlaceOfPart net part_of part) r
     → (v : ℕ → ℤ) × ((t : ℕ) → IsMember part_of part t → IsGreatestPathTime net part_of part r.time r.tokens s t (v t))
 begun_from net part_of part ok strong r s m g = (
   (λ t. (sum_or net part_of part ok strong r.time r.tokens s m (none_gains net part_of part r g) t).0),

@@ -90,7 +90,8 @@ module _ (net : NetLists) (a b : ℕ) (Within : PlaceId → Type 0) (within : (p
 
   -- a path that begins with it is best of those
   more : (s i m : ℕ) → Outcome s (suc i) m → (qs : List PlaceId) → IsWay s (record { index = m } ∷ qs)
-      → ((rs : List PlaceId) → IsWay s (record { index = m } ∷ rs) → length rs ≤ i → reduced_time_of net a b (record { index = m } ∷ rs) ≤ℤ reduced_time_of net a b (record { index = m } ∷ qs)) → Outcome s (suc i) (suc m)
+      → ((rs : List PlaceId) → IsWay s (record { index = m } ∷ rs) → length rs ≤ i
+      → reduced_time_of net a b (record { index = m } ∷ rs) ≤ℤ reduced_time_of net a b (record { index = m } ∷ qs)) → Outcome s (suc i) (suc m)
   more s i m old qs way most = ⊎_elim
       (λ (no : NoWay s (suc i) m). inr (record {
         best = p ∷ qs;

@@ -138,7 +138,8 @@ module _ (net : NetLists) (ok : IsNet net) (live : IsLive net) (Within : PlaceId
       let listed : (ps : List PlaceId) → IsCircuit net ps → IsShortList long IsOwnCircuit own_or AtMost same either join n ps = λ ps c.
       record { low = IsPathBetween-in_range net ps c.closed.0 c.closed.0 c.closed.1; few = circuit_short net n (ends_below net ok) ps c } in
       ⊎_elim
-      (λ (no : NonePasses long IsOwnCircuit own_or AtMost same either join (IsShortList long IsOwnCircuit own_or AtMost same either join n)). inl (λ ps c i. no ps (listed ps c) (record { circuit = c; inside = i })))
+      (λ (no : NonePasses long IsOwnCircuit own_or AtMost same either
+      join (IsShortList long IsOwnCircuit own_or AtMost same either join n)). inl (λ ps c i. no ps (listed ps c) (record { circuit = c; inside = i })))
       (λ (o : IsGreatestOf long IsOwnCircuit own_or AtMost same either join (IsShortList long IsOwnCircuit own_or AtMost same either join n)).
       let best : List PlaceId = o.best in
       inr (

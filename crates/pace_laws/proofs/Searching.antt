@@ -68,10 +68,11 @@ module _ (bound : ℕ) (Passes : List PlaceId → Type 0) (passes : (ps : List P
     pub first : FirstBelow m more
 
   by_first : (k : ℕ) (before : List PlaceId) → ((p : PlaceId) → Found (GoesOn (before ++ p ∷ []) k bound)) → (m : ℕ) → Found (GoesOn before (suc k) m)
-  by_first k before rest zero = narrower (λ ps. ps ≡ before) (GoesOn before (suc k) zero) (λ ps g. g.is ∙ ap (λ (z : List PlaceId). before ++ z) (none g.more g.first) ∙ append-nil before) (one before) where
-    none : (qs : List PlaceId) → FirstBelow zero qs → qs ≡ []
-    none [] f = refl
-    none (q ∷ qs) f = absurd (omega arith)
+  by_first k before rest zero = narrower (λ ps. ps ≡ before) (GoesOn before (suc k) zero)
+      (λ ps g. g.is ∙ ap (λ (z : List PlaceId). before ++ z) (none g.more g.first) ∙ append-nil before) (one before) where
+        none : (qs : List PlaceId) → FirstBelow zero qs → qs ≡ []
+        none [] f = refl
+        none (q ∷ qs) f = absurd (omega arith)
   by_first k before rest (suc m) =
       let p : PlaceId = record { index = m } in
       let Old : List PlaceId → Type 0 = GoesOn before (suc k) m in

@@ -14,7 +14,9 @@ use Rattle.pace_laws.specs.SlowerNets.{HasSlowerPlaces, SlowerNetsHaveMore, Slow
 
 -- a factor above 0 of both sides
 pub cancel : (a b k : ℕ) → 0 < k → a * k ≤ b * k → a ≤ b
-cancel a b k p h = ⊎_elim (λ (l : b < a). let m : (b + 1) * k ≤ a * k = mul-le-mul_right k (let l : b + 1 ≤ a = omega arith in l) in let e : (b + 1) * k ≡ b * k + k = grind arith in absurd (omega arith)) (λ (l : a ≤ b). l) (cases_lt b a)
+cancel a b k p h = ⊎_elim (λ (l : b < a). let m : (b + 1) * k ≤ a * k =
+    mul-le-mul_right k (let l : b + 1 ≤ a = omega arith in l) in let e : (b + 1) * k ≡ b * k + k = grind arith in absurd (omega arith))
+    (λ (l : a ≤ b). l) (cases_lt b a)
 
 module _ (net slower : NetLists) (h : HasSlowerPlaces net slower) where
   same_path : (ps : List PlaceId) (a b : ℕ) → IsPathBetween net a ps b → IsPathBetween slower a ps b

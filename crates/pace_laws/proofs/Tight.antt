@@ -16,7 +16,8 @@ use Rattle.teg_net.specs.Certificates.{potential_at}
 use Rattle.teg_net.proofs.PathLaws.{IsPathBetween-split}
 use Rattle.teg_loops.specs.Loops.{EndsBelow, HasLoop}
 use Rattle.teg_loops.proofs.Straight.{looped}
-use Rattle.pace_laws.specs.TightPotentials.{offered, IsTightInto, AreTightPotentials, BestPotentialsAreTight, TightPotentialsTellTheRatio, TightRatiosAreOne, IsCriticalIn, CriticalPlacesAreTight, CriticalTransitionsTell, TightPotentialsArePaced}
+use Rattle.pace_laws.specs.TightPotentials.{offered, IsTightInto, AreTightPotentials, BestPotentialsAreTight, TightPotentialsTellTheRatio}
+use Rattle.pace_laws.specs.TightPotentials.{TightRatiosAreOne, IsCriticalIn, CriticalPlacesAreTight, CriticalTransitionsTell, TightPotentialsArePaced}
 use Rattle.pace_laws.specs.Eigenspaces.{IsCriticalRound}
 use Rattle.pace_laws.proofs.Slower.{bounded}
 use Rattle.pace_laws.proofs.Sums.{weight_is, weight-append, above_along, bound_ratios, told_at, greatest_are_potentials, all_left, all_right}
@@ -232,7 +233,8 @@ tell_the_ratio net part_of part t a b v ok m some h = record {
   greatest = bound_ratios net part_of part a b v h.none_above;
 }
 
-no_more : (net : NetLists) (part_of : List ℕ) (part : ℕ) (r q : Fraction) → IsLive net → IsGreatestRatio net (IsPlaceOfPart net part_of part) r → IsGreatestRatio net (IsPlaceOfPart net part_of part) q → r.time * q.tokens ≤ q.time * r.tokens
+no_more : (net : NetLists) (part_of : List ℕ) (part : ℕ) (r q : Fraction) → IsLive net
+    → IsGreatestRatio net (IsPlaceOfPart net part_of part) r → IsGreatestRatio net (IsPlaceOfPart net part_of part) q → r.time * q.tokens ≤ q.time * r.tokens
 no_more net part_of part r q live g k =
     let ps : List PlaceId = g.attained.0 in
     let c : IsCircuit net ps = g.attained.1 in

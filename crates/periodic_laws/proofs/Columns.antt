@@ -45,7 +45,9 @@ module _ (stars : StarsAreLeast gains gain_stars) (count : ℕ) (s : System) (r 
 
   column_is : (i : ℕ) → IsCanonical (column count s r i).series
   unfolding column
-  column_is i = total_is gains gains_closed gain_laws (λ j. gain_product (star_of gains gain_stars count (entry_of_places s.places) i j) (right j)) count (λ j. gains_closed.product_is _ _ (law.0 i j) (right_is j))
+  column_is i = total_is gains gains_closed gain_laws
+      (λ j. gain_product (star_of gains gain_stars count (entry_of_places s.places) i j) (right j)) count
+      (λ j. gains_closed.product_is _ _ (law.0 i j) (right_is j))
 
   pub column_solves : IsLeastSolution gains count (entry_of_places s.places) right (column count s r)
   unfolding column

@@ -89,7 +89,8 @@ start_place_holds initial p i = elim (eqb p.to.index i) as (λ b. Holds (cond b 
 pub start_holds : (initial : InitialDates) (ps : List Place) (i : ℕ) → Holds (start_of_places initial ps i) (start_at initial ps i)
 unfolding start_of_places
 start_holds initial [] i = zero_holds
-start_holds initial (p ∷ ps) i = sum_holds (start_place initial p i) (start_of_places initial ps i) (start_place_at initial p i) (start_at initial ps i) (start_place_holds initial p i) (start_holds initial ps i)
+start_holds initial (p ∷ ps) i = sum_holds (start_place initial p i) (start_of_places initial ps i) (start_place_at initial p i)
+    (start_at initial ps i) (start_place_holds initial p i) (start_holds initial ps i)
 
 -- each initial token is counted
 pub le_start : (initial : InitialDates) (ps : List Place) (i k : ℕ) → All (λ p. p.to.index ≡ i → (c : ℕ) → c < p.tokens → Le (stair c (initial p (c + 1)) k) (start_at initial ps i k)) ps
@@ -106,13 +107,15 @@ start_place_le initial p i k z h = cases (eqb p.to.index i) refl where
   cases true e = let is : p.to.index ≡ i = grind (arith, nat_tests) in tokens_le (initial p) p.tokens k z (h is)
   cases false e = early_le z
 
-pub start_le : (initial : InitialDates) (ps : List Place) (i k : ℕ) (z : Date) → All (λ p. p.to.index ≡ i → (c : ℕ) → c < p.tokens → Le (stair c (initial p (c + 1)) k) z) ps → Le (start_at initial ps i k) z
+pub start_le : (initial : InitialDates) (ps : List Place) (i k : ℕ) (z : Date)
+    → All (λ p. p.to.index ≡ i → (c : ℕ) → c < p.tokens → Le (stair c (initial p (c + 1)) k) z) ps → Le (start_at initial ps i k) z
 start_le initial [] i k z h = early_le z
 start_le initial (p ∷ ps) i k z h = later_le (start_place_le initial p i k z (h 0 p (omega arith)))
     (start_le initial ps i k z (All-tail (λ p. p.to.index ≡ i → (c : ℕ) → c < p.tokens → Le (stair c (initial p (c + 1)) k) z) p ps h))
 
 -- ---- the right side
 
-pub right_side_holds : (initial : InitialDates) (ps : List Place) (releases : ℕ → Gain) (i : ℕ) (release : ℕ → Date) → Holds (releases i) release → Holds (right_side initial ps releases i) (sum_at (start_at initial ps i) release)
+pub right_side_holds : (initial : InitialDates) (ps : List Place) (releases : ℕ → Gain) (i : ℕ) (release : ℕ → Date)
+    → Holds (releases i) release → Holds (right_side initial ps releases i) (sum_at (start_at initial ps i) release)
 unfolding right_side
 right_side_holds initial ps releases i release h = sum_holds (start_of_places initial ps i) (releases i) (start_at initial ps i) release (start_holds initial ps i) h

@@ -95,7 +95,8 @@ module _ (count : ℕ) (s : System) (r : ℕ → Gain) (of : IsSystemOf count s)
     -- the equation at each shift
     value_is : (i k : ℕ) → i < count → later_of (total_at (sides i) count k) (right_at i k) ≡ value i k
     value_is i k l =
-        let both = sum_holds (dot gains count (entry_of_places s.places i) c) (right_side s.initial s.places r i) (total_at (sides i) count) (sum_at (start_at s.initial s.places i) (λ k. s.release i (k + 1))) (dot_holds i) (right_holds i) in
+        let both = sum_holds (dot gains count (entry_of_places s.places i) c) (right_side s.initial s.places r i)
+        (total_at (sides i) count) (sum_at (start_at s.initial s.places i) (λ k. s.release i (k + 1))) (dot_holds i) (right_holds i) in
         sym (both.values k) ∙ ap (λ (g : Gain). value_at g.series k) (equal i l)
 
     -- the dating of the gains
@@ -162,7 +163,9 @@ module _ (count : ℕ) (s : System) (r : ℕ → Gain) (of : IsSystemOf count s)
           let fewer : p.tokens < k = omega arith in
           let ends = of.ends q d l in
           let in' : j < count = (let f : p.from.index < count = ends.0 in omega arith) in
-          let rise : p.tokens ≡ 0 → rank j < rank t = λ z. (let f : rank p.from.index < rank p.to.index = ranks.rise q d l z in let a : rank p.from.index ≡ rank j = ap rank from in let b : rank p.to.index ≡ rank t = ap rank to in omega arith) in
+          let rise : p.tokens ≡ 0 → rank j < rank t =
+          λ z. (let f : rank p.from.index < rank p.to.index = ranks.rise q d l z in let a : rank p.from.index ≡ rank j =
+          ap rank from in let b : rank p.to.index ≡ rank t = ap rank to in omega arith) in
           let down : size j (k - p.tokens) < size t k = falls bound k p.tokens (rank j) (rank t) fewer (ranks.below j) rise in
           let earlier : Le (dating j (k - p.tokens)) (x j (k - p.tokens)) = before j (k - p.tokens) down in' (omega arith) in
           let later : Le (value j e) (dating j (k - p.tokens)) = (value_rises j).rises e ((k - p.tokens) - 1) (omega arith) in
@@ -173,7 +176,8 @@ module _ (count : ℕ) (s : System) (r : ℕ → Gain) (of : IsSystemOf count s)
           (le_trans (le_is (sym taken)) (le_trans asked (le_is (ap (λ (z : ℕ). x z k) to))))))
           (cases_lt m (get_or s.places q d).tokens)
 
-      first_below : (t k c : ℕ) → t < count → 1 ≤ k → (q : ℕ) (d : Place) → q < length s.places → (get_or s.places q d).to.index ≡ t → c < (get_or s.places q d).tokens → Le (stair c (s.initial (get_or s.places q d) (c + 1)) (k - 1)) (x t k)
+      first_below : (t k c : ℕ) → t < count → 1 ≤ k → (q : ℕ) (d : Place) → q < length s.places → (get_or s.places q d).to.index ≡ t
+          → c < (get_or s.places q d).tokens → Le (stair c (s.initial (get_or s.places q d) (c + 1)) (k - 1)) (x t k)
       first_below t k c lt o q d l to h = ⊎_elim
           (λ (w : k - 1 < c). le_trans (le_is (stair_before c (s.initial (get_or s.places q d) (c + 1)) (k - 1) w)) (early_le (x t k)))
           (λ (w : c ≤ k - 1).

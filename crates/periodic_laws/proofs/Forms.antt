@@ -85,7 +85,8 @@ module _ (count : ℕ) (f : ℕ → Form) (canonical : (t : ℕ) → IsCanonical
         let is : IsForm (f t) = (canonical t).form in
         let low : repeat_start (f t) ≤ after = begun t l in
         let one : 1 ≤ period = values_repeat.at_least_one in
-        let none : (value_at (f t) (repeat_start (f t)) ≡ Never) ⊎ (value_at (f t) (repeat_start (f t)) ≡ Early) → step t ≡ pos 0 = λ w. ap (times (period / (f t).period)) (is.tail w).1 ∙ times_none (period / (f t).period) in
+        let none : (value_at (f t) (repeat_start (f t)) ≡ Never) ⊎ (value_at (f t) (repeat_start (f t)) ≡ Early)
+        → step t ≡ pos 0 = λ w. ap (times (period / (f t).period)) (is.tail w).1 ∙ times_none (period / (f t).period) in
         ⊎_elim
         (λ (never : IsTail (x t) after period Never). none (inl (never_start (f t) is after (values t after l ∙ never (after + 1) (omega arith) (omega arith)))))
         (λ (early : IsTail (x t) after period Early). none (inr (early_start (f t) is after low (values t after l ∙ early (after + 1) (omega arith) (omega arith)))))

@@ -64,7 +64,8 @@ moved_date gap (Some d) = ap At (omega (arith, ints))
 goes_on : (dates : List ℕ) (a : Again) → ListGoesOn dates a → (k : ℕ) → length dates ≤ k + a.every → list_at dates (Some a) (k + a.every) ≡ move (pos a.gap) (list_at dates (Some a) k)
 goes_on dates a h k l =
     let back : (k + a.every + 1) - a.every ≡ k + 1 = omega arith in
-    ap as_date ((rules dates (Some a) h).past (k + a.every + 1) (omega arith)) ∙ moved_date a.gap (list_date dates (Some a) ((k + a.every + 1) - a.every)) ∙ ap (λ (z : ℕ). move (pos a.gap) (as_date (list_date dates (Some a) z))) back
+    ap as_date ((rules dates (Some a) h).past (k + a.every + 1) (omega arith))
+    ∙ moved_date a.gap (list_date dates (Some a) ((k + a.every + 1) - a.every)) ∙ ap (λ (z : ℕ). move (pos a.gap) (as_date (list_date dates (Some a) z))) back
 
 in_order : (a b : ℕ) → a ≤ b → Le (At (pos a)) (At (pos b))
 in_order a b h = record { holds = omega (arith, ints) }

@@ -26,7 +26,8 @@ use Rattle.periodic_laws.proofs.Released.{least_of_part}
 extended_ends : (net : NetLists) → HasEndsInRange net → All (λ p. (p.from.index < length net.transitions) × (p.to.index < length net.transitions)) (extended_places net)
 extended_ends net ok = all_extended_in net (λ p. (p.from.index < length net.transitions) × (p.to.index < length net.transitions)) ok (λ t l. (l, l))
 
-system_is : (net : NetLists) (initial : InitialDates) (release : Dating) → HasEndsInRange net → ((t k : ℕ) → length net.transitions ≤ t → release t k ≡ Early) → IsSystemOf (length net.transitions) (system_with net initial release)
+system_is : (net : NetLists) (initial : InitialDates) (release : Dating) → HasEndsInRange net
+    → ((t k : ℕ) → length net.transitions ≤ t → release t k ≡ Early) → IsSystemOf (length net.transitions) (system_with net initial release)
 system_is net initial release ok none = record { ends = extended_ends net ok; own = implicit_is net; outside = none }
 
 none_outside : (net : NetLists) (u : Dating) (t k : ℕ) → length net.transitions ≤ t → at_input net t (u t k) Early ≡ Early

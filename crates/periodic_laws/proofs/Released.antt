@@ -44,7 +44,9 @@ module _ (count : ℕ) (places : List Place) (initial : InitialDates) (release :
         let p : Place = get_or places q d in
         let in' = ends q d l in
         let kept : Le _ (y p.to.index k) = record { holds = f.places k o q d l } in
-        le_trans (le_is (available_same initial (beside count y release) y p k (λ m. beside_is count y release p.from.index (k - p.tokens) in'.0))) (le_trans kept (le_is (sym (beside_is count y release p.to.index k in'.1))))).holds;
+        le_trans (le_is (available_same initial (beside count y release) y p k
+        (λ m. beside_is count y release p.from.index (k - p.tokens) in'.0)))
+        (le_trans kept (le_is (sym (beside_is count y release p.to.index k in'.1))))).holds;
     releases = λ t k o. (⊎_elim
         (λ (l : t < count). le_trans (le_is (sym (inside_is count release t k l))) (le_trans (record { holds = f.releases t k o }) (le_is (sym (beside_is count y release t k l)))))
         (λ (l : count ≤ t). le_is (sym (beside_not count y release t k l)))

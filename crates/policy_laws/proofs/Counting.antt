@@ -63,7 +63,8 @@ module _ (net : NetLists) (parts : List ℕ) (part : ℕ) (ok : IsNet net) (live
       (λ (w : IsRoundOf net parts part f.better (IsChanged parts part (chosen r) f.better) s).
       let gain = greater_ratio net parts part (chosen r) h.policy r.ratio.time r.ratio.tokens c h.circuit h.ratio.same (potential r) h.sums f.better f.improves e w.best.is w.best.through in
       inr (record {
-        ratio = ratio_less r.ratio.time r.ratio.tokens s.ratio.time s.ratio.tokens (time_of net e) (tokens_of net e) f.round.ratio.terms.some (some_token net live e w.best.is.circuit) gain f.round.ratio.same;
+        ratio = ratio_less r.ratio.time r.ratio.tokens s.ratio.time s.ratio.tokens (time_of net e)
+            (tokens_of net e) f.round.ratio.terms.some (some_token net live e w.best.is.circuit) gain f.round.ratio.same;
         circuit = circuit_less r.ratio.time r.ratio.tokens (time_of net c) (tokens_of net c) (time_of net e) (tokens_of net e) (some_token net live c h.circuit.circuit) gain h.ratio.same;
       }))
       (λ (keep : KeepsCircuit net parts part r s f.better). inl (gains net parts part r s h (home k (omega (arith, l))) f keep))
@@ -189,7 +190,8 @@ module _ (net : NetLists) (parts : List ℕ) (part : ℕ) (ok : IsNet net) (live
         ⊎_elim
         (λ (g : Gains net parts part (R k).ratio (R k) (R (k + 1))).
         let at : old.begin + (k - old.begin) ≡ k = omega (arith, in') in
-        let here : Gains net parts part (R k).ratio (R (old.begin + (k - old.begin))) (R (old.begin + (k - old.begin) + 1)) = subst (λ z. Gains net parts part (R k).ratio (R z) (R (z + 1))) (sym at) g in
+        let here : Gains net parts part (R k).ratio (R (old.begin + (k - old.begin))) (R (old.begin + (k - old.begin) + 1)) =
+        subst (λ z. Gains net parts part (R k).ratio (R z) (R (z + 1))) (sym at) g in
         let more : AllGain net parts part (R k).ratio R old.begin (suc (k - old.begin)) = one_more (R k).ratio old.begin (k - old.begin) old.kept here in
         let count : suc (k - old.begin) ≡ suc k - old.begin = omega (arith, in') in
         let ratio : (R k).ratio ≡ (R (suc k)).ratio = sym g.next ∙ ap (λ z. (R z).ratio) next in
@@ -209,7 +211,8 @@ module _ (net : NetLists) (parts : List ℕ) (part : ℕ) (ok : IsNet net) (live
         let e : List PlaceId = (R (suc k)).circuit.places.items in
         let rise : Rises net (R k) (R (suc k)) = subst (λ z. Rises net (R k) (R z)) next up in
         let higher : height k + 1 ≤ height (suc k) = level_rises D (time_of net c) (tokens_of net c) (time_of net e) (tokens_of net e)
-        (some_token net live c (is_round k (omega (arith, l))).circuit.circuit) (some_token net live e (is_round (suc k) l).circuit.circuit) (tokens_in k (omega (arith, l))) (tokens_in (suc k) l) rise.circuit in
+        (some_token net live c (is_round k (omega (arith, l))).circuit.circuit)
+        (some_token net live e (is_round (suc k) l).circuit.circuit) (tokens_in k (omega (arith, l))) (tokens_in (suc k) l) rise.circuit in
         let wide : n * (height k + 1) ≤ n * height (suc k) = mul-le-mul_left {m = height k + 1} {n = height (suc k)} n higher in
         let spread : n * (height k + 1) ≡ n * height k + n = grind arith in
         record { begin = suc k; within = omega arith; kept = λ j m. absurd (omega (arith, m)); low = omega (arith, before, wide, spread) })
@@ -230,7 +233,8 @@ one_ratio_few net part_of part rounds ok live run i k d l m same = of_one_ratio 
 
 pub few_rounds : RoundsAreFew
 few_rounds net part_of part hold tokens rounds ok live run holds marks = by_first net part_of part hold tokens rounds ok live run.run holds marks run.run.some where
-  by_first : (net : NetLists) (part_of : List ℕ) (part hold tokens : ℕ) (rounds : List Round) → IsNet net → IsLive net → IsRunTo net part_of part rounds → All (λ p. p.hold ≤ hold) net.places → All (λ p. p.tokens ≤ tokens) net.places → 0 < length rounds
+  by_first : (net : NetLists) (part_of : List ℕ) (part hold tokens : ℕ) (rounds : List Round) → IsNet net → IsLive net
+      → IsRunTo net part_of part rounds → All (λ p. p.hold ≤ hold) net.places → All (λ p. p.tokens ≤ tokens) net.places → 0 < length rounds
       → length rounds ≤ length net.transitions * most_ratios (length net.transitions * hold) (length net.transitions * tokens)
   by_first net part_of part hold tokens (r ∷ rounds) ok live run holds marks l = all_few net part_of part ok live (r ∷ rounds) run r hold tokens holds marks l
   by_first net part_of part hold tokens [] ok live run holds marks l = absurd (omega arith)

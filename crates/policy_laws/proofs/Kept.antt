@@ -47,7 +47,8 @@ module _ (net : NetLists) (parts : List ℕ) (part : ℕ) (q : Fraction) (R : �
   -- round by round potentials reach what a path has
   along : (ps : List PlaceId) (i u t : ℕ) → AllGain i (length ps) → IsPathBetween net u ps t → All (IsPlaceOfPart net parts part) ps
       → (reduced_time_of net q.time q.tokens ps +ℤ potential (R i) u) ≤ℤ potential (R (i + length ps)) t
-  along [] i u t all h inside = let e : i + 0 ≡ i = omega arith in let f : potential (R (i + 0)) t ≡ potential (R i) u = ap (λ z. potential (R z) t) e ∙ ap (potential (R i)) (sym h) in omega (arith, ints, f)
+  along [] i u t all h inside = let e : i + 0 ≡ i = omega arith in let f : potential (R (i + 0)) t ≡ potential (R i) u =
+      ap (λ z. potential (R z) t) e ∙ ap (potential (R i)) (sym h) in omega (arith, ints, f)
   along (p ∷ ps) i u t all h inside =
       let own : IsPlaceOfPart net parts part p = inside 0 p (omega arith) in
       let enters : Enters net parts part (to_of net p) p = record { inside = own; ends = refl } in
@@ -71,7 +72,8 @@ module _ (net : NetLists) (parts : List ℕ) (part : ℕ) (q : Fraction) (R : �
   last i n all = all n (omega arith)
 
   -- as many as there are transitions: then the last gains nothing
-  pub none_keep_on : (ok : IsNet net) (i n : ℕ) → length net.transitions ≡ suc n → AllGain i (suc n) → IsRound net parts part (R i) → IsRound net parts part (R (i + n + 1)) → LeadsHome net parts part (R (i + n + 1)) → ⊥
+  pub none_keep_on : (ok : IsNet net) (i n : ℕ) → length net.transitions ≡ suc n → AllGain i (suc n) → IsRound net parts part (R i)
+      → IsRound net parts part (R (i + n + 1)) → LeadsHome net parts part (R (i + n + 1)) → ⊥
   none_keep_on ok i n count all h k home =
       let g = last i n all in
       let up = g.improvable in

@@ -49,7 +49,8 @@ module _ (net : NetLists) (parts : List ℕ) (part : ℕ) where
     root = first_transition_of net r.circuit.places.items
 
     sums_at : AreSums net parts part a b (chosen s) root w
-    sums_at = subst (λ x. AreSums net parts part x.time x.tokens (chosen s) root w) keep.same_ratio (subst (λ x. AreSums net parts part s.ratio.time s.ratio.tokens (chosen s) (first_transition_of net x) w) keep.same_circuit f.round.sums)
+    sums_at = subst (λ x. AreSums net parts part x.time x.tokens (chosen s) root w) keep.same_ratio
+        (subst (λ x. AreSums net parts part s.ratio.time s.ratio.tokens (chosen s) (first_transition_of net x) w) keep.same_circuit f.round.sums)
 
     sums_by : AreSums net parts part a b f.better root w
     sums_by = record {
@@ -73,7 +74,9 @@ module _ (net : NetLists) (parts : List ℕ) (part : ℕ) where
 
     met_at : (t : ℕ) → IsMember parts part t → w t ≡ offer_of net a b w (f.better t)
     met_at t m =
-        let here : w t ≡ offer_of net s.ratio.time s.ratio.tokens w (chosen s t) = everywhere net parts part (chosen s) f.round.policy s.ratio.time s.ratio.tokens s.circuit.places.items f.round.circuit f.round.ratio.same w f.round.sums t m in
+        let here : w t ≡ offer_of net s.ratio.time s.ratio.tokens w (chosen s t) =
+        everywhere net parts part (chosen s) f.round.policy s.ratio.time s.ratio.tokens s.circuit.places.items f.round.circuit
+        f.round.ratio.same w f.round.sums t m in
         here ∙ ap (λ x. offer_of net x.time x.tokens w (chosen s t)) keep.same_ratio ∙ ap (offer_of net a b w) (keep.same_places t m)
 
     taken_at : (t : ℕ) (p : PlaceId) → IsMember parts part t → Enters net parts part t p → offer_of net a b v p ≤ℤ w t

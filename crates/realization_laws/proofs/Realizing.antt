@@ -104,13 +104,15 @@ module _ (s : ℕ → Date) (c : IsCausalPeriodic s) (name : Transition) (label 
   all_stair P from tokens (At (negsuc m)) rest all each = all
   all_stair P from tokens Never rest all each = all
 
-  all_stairs : (P : Place → Type 0) (from first n : ℕ) (rest : List Place) → All P rest → ((i m : ℕ) → i < n → s (first + i) ≡ At (pos m) → P (place from 1 m (first + i))) → All P (stairs from first n rest)
+  all_stairs : (P : Place → Type 0) (from first n : ℕ) (rest : List Place) → All P rest
+      → ((i m : ℕ) → i < n → s (first + i) ≡ At (pos m) → P (place from 1 m (first + i))) → All P (stairs from first n rest)
   unfolding stairs
   all_stairs P from first zero rest all each = all
   all_stairs P from first (suc n) rest all each =
       all_stair P from (first + n) (s (first + n)) (stairs from first n rest) (all_stairs P from first n rest all (λ i m l. each i m (omega (arith, l)))) (λ m e. each n m (omega arith) e)
 
-  all_places : (P : Place → Type 0) → P (place 0 2 0 0) → P (round 0) → ((i m : ℕ) → s i ≡ At (pos m) → P (place 0 1 m i)) → ((i m : ℕ) → c.begin ≤ i → s i ≡ At (pos m) → P (place 2 1 m i)) → All P places
+  all_places : (P : Place → Type 0) → P (place 0 2 0 0) → P (round 0) → ((i m : ℕ) → s i ≡ At (pos m) → P (place 0 1 m i))
+      → ((i m : ℕ) → c.begin ≤ i → s i ≡ At (pos m) → P (place 2 1 m i)) → All P places
   all_places P one two direct later =
       All-cons P (place 0 2 0 0) (round 0 ∷ stairs 0 0 c.begin (stairs 2 c.begin c.period [])) one
       (All-cons P (round 0) (stairs 0 0 c.begin (stairs 2 c.begin c.period [])) two
@@ -186,14 +188,17 @@ module _ (s : ℕ → Date) (c : IsCausalPeriodic s) (name : Transition) (label 
         let low : r * c.period ≤ k - 1 = div-mul-le_self (k - 1) c.period in
         let at : (i + r * c.period) + (k - 1 - r * c.period) ≡ k + i - 1 = omega (arith, one, low) in
         let there : s (i + r * c.period) ≡ At (pos (m + r * c.step)) = rounds_on r i l ∙ ap (delayed (r * c.step)) e ∙ later_number (r * c.step) m in
-        let up : IsAtMostDate (At (pos (m + r * c.step))) (s (k + i - 1)) = subst (λ d. IsAtMostDate d (s (k + i - 1))) there (subst (λ j. IsAtMostDate (s (i + r * c.period)) (s j)) at (climb_many (i + r * c.period) (k - 1 - r * c.period))) in
+        let up : IsAtMostDate (At (pos (m + r * c.step))) (s (k + i - 1)) =
+        subst (λ d. IsAtMostDate d (s (k + i - 1))) there
+        (subst (λ j. IsAtMostDate (s (i + r * c.period)) (s j)) at (climb_many (i + r * c.period) (k - 1 - r * c.period))) in
         let date : delayed m (At (pos (c.step * r))) ≡ At (pos (m + r * c.step)) = later_number m (c.step * r) ∙ ap (λ z. At (pos z)) (let z : c.step * r + m ≡ m + r * c.step = grind arith in z) in
         subst (λ d. IsAtMostDate d (s (k + i - 1))) (sym date) up
 
   greatest : (k : ℕ) (steps : List Step) → Walks net 0 1 steps 1 (k + 1) → IsAtMostDate (At (pos (walk_time net steps))) (s k)
   greatest k steps w =
       let up = walks_keep net D keeps climbs steps 0 1 1 (k + 1) (omega arith) w in
-      let date : delayed (walk_time net steps) (At (pos 0)) ≡ At (pos (walk_time net steps)) = later_number (walk_time net steps) 0 ∙ ap (λ z. At (pos z)) (let z : 0 + walk_time net steps ≡ walk_time net steps = omega arith in z) in
+      let date : delayed (walk_time net steps) (At (pos 0)) ≡ At (pos (walk_time net steps)) = later_number (walk_time net steps) 0
+      ∙ ap (λ z. At (pos z)) (let z : 0 + walk_time net steps ≡ walk_time net steps = omega arith in z) in
       let e : k + 1 - 1 ≡ k = omega arith in
       subst (λ d. IsAtMostDate d (s k)) date (subst (λ j. IsAtMostDate (delayed (walk_time net steps) (At (pos 0))) (s j)) e up)
 

@@ -1,5 +1,6 @@
 -- The earliest runs of the least dating are legal.
-use Rattle.std.proofs.Common.{ℕ, zero, suc, pos, ◌+◌, ◌-◌, ◌<◌, ◌≤◌, ◌≡◌, ◌≢◌, List, [], ◌∷◌, ◌++◌, Option, Some, None, true, false, ltb, length, take, get_or, refl, ap, subst, ◌∙◌, arith, inl, inr, ⊎_elim}
+use Rattle.std.proofs.Common.{ℕ, zero, suc, pos, ◌+◌, ◌-◌, ◌<◌, ◌≤◌, ◌≡◌, ◌≢◌, List, [], ◌∷◌, ◌++◌, Option, Some, None, true, false, ltb, length}
+use Rattle.std.proofs.Common.{take, get_or, refl, ap, subst, ◌∙◌, arith, inl, inr, ⊎_elim}
 use Rattle.std.specs.Prelude.{◌⊎◌}
 use Rattle.std.proofs.lemmas.Bool.{cases_eq, cases_lt, cases_Bool}
 use Rattle.std.proofs.lemmas.Bool.Decides.{nat_tests}
@@ -20,7 +21,8 @@ use Rattle.teg_model.proofs.Tokens.{implicit_after}
 use Rattle.teg_model.proofs.DateFunctions.{Dating}
 use Rattle.run_laws.specs.declared.fired.Fired.{Fired}
 use Rattle.run_laws.specs.Runs.{dates_of_transition, next_number, firing_date, token_date, IsThereBy, last_date, IsNotBefore}
-use Rattle.run_laws.specs.EarliestRuns.{Numbered, date_of_firing, IsBeforeDate, ComesBeforeByNumber, ComesBefore, IsFiringUpTo, IsRunInOrder, RisesAlong, EarliestRunsAreLegal, PartsOfEarliestRunsAreLegal}
+use Rattle.run_laws.specs.EarliestRuns.{Numbered, date_of_firing, IsBeforeDate, ComesBeforeByNumber, ComesBefore, IsFiringUpTo, IsRunInOrder}
+use Rattle.run_laws.specs.EarliestRuns.{RisesAlong, EarliestRunsAreLegal, PartsOfEarliestRunsAreLegal}
 use Rattle.run_laws.proofs.Dates.{dates_of_own, dates_of_other, get_there, get_last}
 use Rattle.run_laws.proofs.Prefixes.{no_firing, legal_take}
 use Rattle.run_laws.proofs.Least.{firing_push, last_push, get_pushed, get_push_left}
@@ -166,7 +168,8 @@ number_is net x rank most fs run before n date f o h l e =
     let dated = never_not_at (date_of_firing x g) date (rw e at climbs) in
     let up2 : IsFiringUpTo net most g = record { transition_in = up.transition_in; first = omega (arith, q); last = omega (arith, up.last) } in
     let less : g.number < own.number = omega (arith, q) in
-    let comes : ComesBefore x rank g own = ⊎_elim (λ (s : date_of_firing x g ≡ date_of_firing x own). inr (s, inl less)) (λ (s : IsBeforeDate (date_of_firing x g) (date_of_firing x own)). inl s) (same_or_before (date_of_firing x g) (date_of_firing x own) climbs) in
+    let comes : ComesBefore x rank g own = ⊎_elim (λ (s : date_of_firing x g ≡ date_of_firing x own). inr (s, inl less))
+    (λ (s : IsBeforeDate (date_of_firing x g) (date_of_firing x own)). inl s) (same_or_before (date_of_firing x g) (date_of_firing x own) climbs) in
     let at = stands_before net x rank most fs run o n g l up2 dated comes in
     let there = rw at.2 at (h.complete at.0 at.1).1 in
     let in' = (get_there (dates_of_transition before t) (k - 1 - 1) (h.complete at.0 at.1).0 there).0 in
@@ -189,9 +192,11 @@ after_hold h d date a e l =
     let at : IsAtMostDate (delayed h (At (pos d))) (At (pos date)) = rw e at l in
     omega (arith, ints, at)
 
-token_in_order : (net : NetLists) (x : Dating) (rank : ℕ → ℕ) (most : ℕ) (fs : List Numbered) (run before : List Fired) (n date : ℕ) → IsNet net → IsFeasibleUnder net (listed_releases net) x → RisesAlong net rank
+token_in_order : (net : NetLists) (x : Dating) (rank : ℕ → ℕ) (most : ℕ) (fs : List Numbered) (run before : List Fired) (n date : ℕ)
+    → IsNet net → IsFeasibleUnder net (listed_releases net) x → RisesAlong net rank
     → IsRunInOrder net x rank most fs run → Placed x fs before n → n < length fs → date_of_firing x (get_or fs n no_number) ≡ At (pos date)
-    → (i : ℕ) (d : Place) → i < length net.places → (get_or net.places i d).to.index ≡ (get_or fs n no_number).transition → IsThereBy date (token_date before (get_or net.places i d) (get_or fs n no_number).number)
+    → (i : ℕ) (d : Place) → i < length net.places → (get_or net.places i d).to.index ≡ (get_or fs n no_number).transition
+    → IsThereBy date (token_date before (get_or net.places i d) (get_or fs n no_number).number)
 token_in_order net x rank most fs run before n date ok f rises o h l e i d m to =
     let own : Numbered = get_or fs n no_number in
     let k : ℕ = own.number in
@@ -203,7 +208,8 @@ token_in_order net x rank most fs run before n date ok f rises o h l e i d m to 
     let less : p.tokens < k = grind (arith, nat_tests) in
     let g : Numbered = record { transition = p.from.index; number = k - p.tokens } in
     let held : IsAtMostDate (delayed p.hold (date_of_firing x g)) (At (pos date)) = rw q at asked in
-    let low : IsAtMostDate (date_of_firing x g) (At (pos date)) = at_most_trans (date_of_firing x g) (delayed p.hold (date_of_firing x g)) (At (pos date)) (delayed_later p.hold (date_of_firing x g)) held in
+    let low : IsAtMostDate (date_of_firing x g) (At (pos date)) =
+    at_most_trans (date_of_firing x g) (delayed p.hold (date_of_firing x g)) (At (pos date)) (delayed_later p.hold (date_of_firing x g)) held in
     let up2 : IsFiringUpTo net most g = record { transition_in = (ok.each_place i d m).from_in; first = omega (arith, less); last = omega (arith, up.last) } in
     let by_number : ComesBeforeByNumber rank g own =
     ⊎_elim
@@ -215,7 +221,8 @@ token_in_order net x rank most fs run before n date ok f rises o h l e i d m to 
     inr (a, inl b))
     (cases_lt 0 p.tokens) in
     let comes : ComesBefore x rank g own =
-    ⊎_elim (λ (s : date_of_firing x g ≡ date_of_firing x own). inr (s, by_number)) (λ (s : IsBeforeDate (date_of_firing x g) (date_of_firing x own)). inl s) (same_or_before (date_of_firing x g) (date_of_firing x own) (rw e low)) in
+    ⊎_elim (λ (s : date_of_firing x g ≡ date_of_firing x own). inr (s, by_number))
+    (λ (s : IsBeforeDate (date_of_firing x g) (date_of_firing x own)). inl s) (same_or_before (date_of_firing x g) (date_of_firing x own) (rw e low)) in
     let at = stands_before net x rank most fs run o n g l up2 (never_not_at (date_of_firing x g) date low) comes in
     let done = h.complete at.0 at.1 in
     let there : firing_date before p.from.index (k - p.tokens) ≡ Some done.0 = rw at.2 at done.1 in

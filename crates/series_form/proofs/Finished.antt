@@ -1,5 +1,6 @@
 -- How an operation ends: by the first values of its function, and the value after them.
-use Rattle.std.proofs.Common.{◌≡◌, refl, ap, arith, ℕ, ℤ, pos, zero, suc, ◌+◌, ◌*◌, ◌-◌, ◌/◌, ◌%◌, ◌≤◌, ◌<◌, sym, ◌∙◌, subst, ⊎_elim, ◌⊎◌, List, [], ◌∷◌, ◌++◌, length, get_or, false, ltb, Result, Ok, Err}
+use Rattle.std.proofs.Common.{◌≡◌, refl, ap, arith, ℕ, ℤ, pos, zero, suc, ◌+◌, ◌*◌, ◌-◌, ◌/◌, ◌%◌, ◌≤◌, ◌<◌, sym, ◌∙◌, subst, ⊎_elim, ◌⊎◌, List, []}
+use Rattle.std.proofs.Common.{◌∷◌, ◌++◌, length, get_or, false, ltb, Result, Ok, Err}
 use Rattle.std.specs.Int.RustNames.{unsigned_abs}
 use Rattle.std.proofs.lemmas.Int.{unsigned_abs-mul}
 use Rattle.std.proofs.lemmas.Bool.{cases_lt}
@@ -100,7 +101,9 @@ module _ (s : ℕ → Date) (r : NeedPlan) (l : List Date) (next : Date) (h : Is
 
   value : (k : ℕ) → IsMagnitudeUpTo greatest_listed (get_or l k Early)
   value k = ⊎_elim
-      (λ w. subst (λ (z : Date). IsMagnitudeUpTo greatest_listed z) (sym (ap (λ (z : List Date). get_or z k Early) h.values ∙ table_at s (need_of r) k (omega (arith, tabled_length)))) (h.bounded k (omega (arith, tabled_length))))
+      (λ w. subst (λ (z : Date). IsMagnitudeUpTo greatest_listed z)
+      (sym (ap (λ (z : List Date). get_or z k Early) h.values ∙ table_at s (need_of r) k (omega (arith, tabled_length))))
+      (h.bounded k (omega (arith, tabled_length))))
       (λ w. subst (λ (z : Date). IsMagnitudeUpTo greatest_listed z) (sym (get_or-eq_default l Early {n = k} w)) tt)
       (cases_lt k (length l))
 
@@ -113,16 +116,26 @@ module _ (s : ℕ → Date) (r : NeedPlan) (l : List Date) (next : Date) (h : Is
   pub tabled_moderate : IsModerate (form_before l r.turn next)
   tabled_moderate = record {
     values = λ k. up_to_more greatest_listed greatest_moderate (get_or l k Early) (omega arith) (value k);
-    step = let u : unsigned_abs (gap (get_or l (length l - r.turn) Early) next) ≤ greatest_listed + greatest_listed = gap_up_to greatest_listed (get_or l (length l - r.turn) Early) next (value (length l - r.turn)) after in omega arith;
+    step = let u : unsigned_abs (gap (get_or l (length l - r.turn) Early) next) ≤ greatest_listed + greatest_listed =
+        gap_up_to greatest_listed (get_or l (length l - r.turn) Early) next (value (length l - r.turn)) after in omega arith;
   }
 
   pub tabled_begins : need_of r ≤ 20000 → IsBeginning l r.turn next
   tabled_begins short =
       let e : length l ≡ r.from + r.turn = tabled_length in
-      record { positive = h.serves.turns; fits = omega arith; short = omega arith; moderate = tabled_moderate; moderate_next = tabled_next; rising = tabled_rises; goes_on = tabled_values (length l) ∙ ap s tabled_length ∙ sym h.next_is }
+      record {
+        positive = h.serves.turns;
+        fits = omega arith;
+        short = omega arith;
+        moderate = tabled_moderate;
+        moderate_next = tabled_next;
+        rising = tabled_rises;
+        goes_on = tabled_values (length l) ∙ ap s tabled_length ∙ sym h.next_is;
+      }
 
   -- the answer of a call that ends by the table
-  pub tabled_answer : (is : Form → Type 0) (x : Result Form SeriesRefused) → ((f : Form) → HasValues f s → is f) → need_of r ≤ 20000 → IsShortestSeries (value_at (form_before l r.turn next)) x → AnswersOf is (need_of r) (need_of r) x
+  pub tabled_answer : (is : Form → Type 0) (x : Result Form SeriesRefused) → ((f : Form) → HasValues f s → is f) → need_of r ≤ 20000
+      → IsShortestSeries (value_at (form_before l r.turn next)) x → AnswersOf is (need_of r) (need_of r) x
   tabled_answer is (Ok f) has short e = (e.0, has f (λ k. e.1 k ∙ tabled_values k), short)
   tabled_answer is (Err (TooLong n)) has short e = absurd e
   tabled_answer is (Err (TooGreat v)) has short e = (short, record { form = e.form; canonical = e.canonical; values = has e.form (λ k. e.values k ∙ tabled_values k); number = e.number })
@@ -131,7 +144,8 @@ module _ (s : ℕ → Date) (r : NeedPlan) (l : List Date) (next : Date) (h : Is
 -- ---- the model
 
 -- an answer of the function's values is one of the function's canonical form
-pub model_answer : (s : ℕ → Date) (f : Form) (is : Form → Type 0) (need carried : ℕ) (x : Result Form SeriesRefused) → IsCanonical f → HasValues f s → ((g : Form) → is g → HasValues g s) → AnswersOf is need carried x → AnswersForm need f x
+pub model_answer : (s : ℕ → Date) (f : Form) (is : Form → Type 0) (need carried : ℕ) (x : Result Form SeriesRefused) → IsCanonical f
+    → HasValues f s → ((g : Form) → is g → HasValues g s) → AnswersOf is need carried x → AnswersForm need f x
 model_answer s f is need carried (Ok g) cf same has h =
     let e : g ≡ f = one_canonical g f h.0.canonical cf (λ k. has g h.1 k ∙ sym (same k)) in
     (e, record { short = h.2; small = subst (λ (z : Form). HasSmallNumbers z) e h.0.small })

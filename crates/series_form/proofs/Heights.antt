@@ -59,7 +59,9 @@ module _ (f g : Form) (isf : IsForm f) (isg : IsForm g) (numbers : AreNumberSeri
   -- a height less what the first has at the place is a lead
   height_lead : (place j : ℕ) → height_past f g place j -ℤ integer_of_date (value_at f (later_start f g + place)) ≡ lead_past f g (place + j * f.period)
   height_lead place j =
-      let e : lead_past f g (place + j * f.period) ≡ integer_of_date (value_at g (later_start f g + (place + j * f.period))) -ℤ integer_of_date (value_at f (later_start f g + (place + j * f.period))) = lead_is (place + j * f.period) in
+      let e : lead_past f g (place + j * f.period) ≡ integer_of_date
+      (value_at g (later_start f g + (place + j * f.period))) -ℤ integer_of_date
+      (value_at f (later_start f g + (place + j * f.period))) = lead_is (place + j * f.period) in
       let h : integer_of_date (value_at f (later_start f g + (place + j * f.period))) ≡ integer_of_date (value_at f (later_start f g + place)) +ℤ times j f.step = first_later place j in
       omega (arith, ints)
 
@@ -69,7 +71,8 @@ module _ (f g : Form) (isf : IsForm f) (isg : IsForm g) (numbers : AreNumberSeri
       (λ less.
       let t : ltb place f.period ≡ true = grind (arith, nat_tests) in
       let on : place + width_of f g - f.period + suc j * f.period ≡ place + j * f.period + width_of f g = omega arith in
-      let far : integer_of_date (value_at g (later_start f g + (place + width_of f g - f.period + suc j * f.period))) ≡ integer_of_date (value_at g (later_start f g + (place + j * f.period))) +ℤ climb_of f g =
+      let far : integer_of_date (value_at g (later_start f g + (place + width_of f g - f.period + suc j * f.period))) ≡ integer_of_date
+      (value_at g (later_start f g + (place + j * f.period))) +ℤ climb_of f g =
       ap (λ (z : ℕ). integer_of_date (value_at g (later_start f g + z))) on ∙ second_later (place + j * f.period) in
       rw t (omega (arith, ints)))
       (λ more.
@@ -83,7 +86,8 @@ module _ (f g : Form) (isf : IsForm f) (isg : IsForm g) (numbers : AreNumberSeri
   height_here : (place : ℕ) → height_past f g place 0 ≡ integer_of_date (value_at g (later_start f g + place))
   height_here place =
       let on : place + 0 * f.period ≡ place = omega arith in
-      let e : integer_of_date (value_at g (later_start f g + (place + 0 * f.period))) ≡ integer_of_date (value_at g (later_start f g + place)) = ap (λ (z : ℕ). integer_of_date (value_at g (later_start f g + z))) on in
+      let e : integer_of_date (value_at g (later_start f g + (place + 0 * f.period))) ≡ integer_of_date
+      (value_at g (later_start f g + place)) = ap (λ (z : ℕ). integer_of_date (value_at g (later_start f g + z))) on in
       omega (arith, ints)
 
   -- the reach of the place before
@@ -115,7 +119,8 @@ module _ (f g : Form) (isf : IsForm f) (isg : IsForm g) (numbers : AreNumberSeri
   reach_first place low = record {
     within = low;
     reached = (0, sym (height_here place));
-    greatest = λ j l. let z : j ≡ 0 = omega arith in let e : height_past f g place j ≡ integer_of_date (value_at g (later_start f g + place)) = ap (height_past f g place) z ∙ height_here place in rw e (omega (arith, ints));
+    greatest = λ j l. let z : j ≡ 0 = omega arith in let e : height_past f g place j ≡ integer_of_date
+        (value_at g (later_start f g + place)) = ap (height_past f g place) z ∙ height_here place in rw e (omega (arith, ints));
   }
 
   -- ---- leads on the common period
@@ -126,8 +131,10 @@ module _ (f g : Form) (isf : IsForm f) (isg : IsForm g) (numbers : AreNumberSeri
       let vf : (v : ℤ) × (value_at f (later_start f g + i) ≡ At v) = first_number i in
       let vg : (v : ℤ) × (value_at g (later_start f g + i) ≡ At v) = second_number i in
       let on : later_start f g + (i + period_with f g) ≡ later_start f g + i + period_with f g = omega arith in
-      let wf : value_at f (later_start f g + (i + period_with f g)) ≡ At (vf.0 +ℤ rise_of f g) = ap (value_at f) on ∙ (rise_repeats f g isf).at (later_start f g + i) (omega arith) ∙ ap (move (rise_of f g)) vf.1 in
-      let wg : value_at g (later_start f g + (i + period_with f g)) ≡ At (vg.0 +ℤ fall_of f g) = ap (value_at g) on ∙ (fall_repeats f g isg).at (later_start f g + i) (omega arith) ∙ ap (move (fall_of f g)) vg.1 in
+      let wf : value_at f (later_start f g + (i + period_with f g)) ≡ At (vf.0 +ℤ rise_of f g) = ap (value_at f) on
+      ∙ (rise_repeats f g isf).at (later_start f g + i) (omega arith) ∙ ap (move (rise_of f g)) vf.1 in
+      let wg : value_at g (later_start f g + (i + period_with f g)) ≡ At (vg.0 +ℤ fall_of f g) = ap (value_at g) on
+      ∙ (fall_repeats f g isg).at (later_start f g + i) (omega arith) ∙ ap (move (fall_of f g)) vg.1 in
       let here : lead_past f g i ≡ vg.0 -ℤ vf.0 = ap (λ (d : Date). gap d (value_at g (later_start f g + i))) vf.1 ∙ ap (gap (At vf.0)) vg.1 in
       let there : lead_past f g (i + period_with f g) ≡ (vg.0 +ℤ fall_of f g) -ℤ (vf.0 +ℤ rise_of f g) =
       ap (λ (d : Date). gap d (value_at g (later_start f g + (i + period_with f g)))) wf ∙ ap (gap (At (vf.0 +ℤ rise_of f g))) wg in
@@ -165,7 +172,8 @@ module _ (f g : Form) (isf : IsForm f) (isg : IsForm g) (numbers : AreNumberSeri
       omega (arith, ints)
 
   -- and no lead from its place within its periods is greater
-  pub reach_leads : (m place : ℕ) (height : ℤ) → IsReach f g m place height → (j : ℕ) → j ≤ m → lead_past f g (place + j * f.period) ≤ℤ (height -ℤ integer_of_date (value_at f (later_start f g + place)))
+  pub reach_leads : (m place : ℕ) (height : ℤ) → IsReach f g m place height → (j : ℕ) → j ≤ m
+      → lead_past f g (place + j * f.period) ≤ℤ (height -ℤ integer_of_date (value_at f (later_start f g + place)))
   reach_leads m place height is j l =
       let h : height_past f g place j -ℤ integer_of_date (value_at f (later_start f g + place)) ≡ lead_past f g (place + j * f.period) = height_lead place j in
       let low : height_past f g place j ≤ℤ height = is.greatest j l in
@@ -174,7 +182,8 @@ module _ (f g : Form) (isf : IsForm f) (isg : IsForm g) (numbers : AreNumberSeri
 -- a lead on the list is moderate
 pub gap_moderate : (f g : Form) (k : ℕ) → IsSeries f → IsSeries g → k ≤ most_covering_shifts → unsigned_abs (gap (value_at f k) (value_at g k)) ≤ greatest_moderate
 gap_moderate f g k sf sg w =
-    let low = gap_up_to (greatest_value + most_covering_shifts * greatest_value) (value_at f k) (value_at g k) (value_up_to f sf k most_covering_shifts w) (value_up_to g sg k most_covering_shifts w) in
+    let low = gap_up_to (greatest_value + most_covering_shifts * greatest_value) (value_at f k) (value_at g k)
+    (value_up_to f sf k most_covering_shifts w) (value_up_to g sg k most_covering_shifts w) in
     omega arith
 
 -- the greatest of numbers is one of them
@@ -287,7 +296,8 @@ led_on f g start m place height known best isf isg numbers gain low led is at e 
     (λ (less : place < f.period).
     let t : ltb place f.period ≡ true = grind (arith, nat_tests) in
     let x : ℤ = height -ℤ integer_of_date (value_at f (later_start f g + place)) in
-    let b : best ≡ int_max known (height -ℤ integer_of_date (value_at f (later_start f g + place))) = e ∙ ap (λ z. cond z (int_max known (height -ℤ integer_of_date (value_at f (later_start f g + place)))) known) t in
+    let b : best ≡ int_max known (height -ℤ integer_of_date (value_at f (later_start f g + place))) = e
+    ∙ ap (λ z. cond z (int_max known (height -ℤ integer_of_date (value_at f (later_start f g + place)))) known) t in
     let top : (height -ℤ integer_of_date (value_at f (later_start f g + place))) ≤ℤ lead_of f g = reach_below f g isf isg numbers gain (m + 1) place height is in
     further (omega (arith, ints, clamps)) (omega (arith, ints, clamps))
     (λ p j w l same. let q : p ≡ place = same_place p place ((m + 1) * f.period) (width_of f g) (omega (arith, covers_it f g isf isg)) is.within (same ∙ sym at) in

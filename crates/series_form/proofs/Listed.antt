@@ -1,5 +1,6 @@
 -- Values of the list of a form, and those of one period past it, with numbers of any size.
-use Rattle.std.proofs.Common.{◌≡◌, refl, ap, sym, ◌∙◌, subst, arith, ℕ, ℤ, pos, negsuc, zero, suc, ◌+◌, ◌-◌, ◌≤◌, ◌<◌, ◌+ℤ◌, ◌-ℤ◌, ◌≤ℤ◌, ◌⊎◌, inl, inr, ⊎_elim, List, length, get_or, FitsSigned, Bool, true, false}
+use Rattle.std.proofs.Common.{◌≡◌, refl, ap, sym, ◌∙◌, subst, arith, ℕ, ℤ, pos, negsuc, zero, suc, ◌+◌, ◌-◌, ◌≤◌, ◌<◌, ◌+ℤ◌, ◌-ℤ◌, ◌≤ℤ◌, ◌⊎◌, inl}
+use Rattle.std.proofs.Common.{inr, ⊎_elim, List, length, get_or, FitsSigned, Bool, true, false}
 use Rattle.std.specs.Int.{w128}
 use Rattle.std.proofs.lemmas.Int.{ints}
 use Rattle.dioid.specs.declared.dates.Date.{Date}
@@ -80,7 +81,9 @@ moved_over x j a b = same_test (date_eqb b (move (x -ℤ j) a)) (date_eqb (move 
     (λ h. eqb_complete b (move (x -ℤ j) a) (move_between j x b a (sym (eqb_sound (move x a) (move j b) h))))
 
 -- the function of a list that never falls, nor at the end of its first period, never falls
-module _ (l : List Date) (n : ℕ) (x : ℤ) (pos_n : 0 < n) (fits : n ≤ length l) (up : (k : ℕ) → k + 1 < length l → Le (get_or l k Early) (get_or l (k + 1) Early)) (again : Le (get_or l (length l - 1) Early) (move x (get_or l (length l - n) Early))) where
+module _ (l : List Date) (n : ℕ) (x : ℤ) (pos_n : 0 < n) (fits : n ≤ length l)
+    (up : (k : ℕ) → k + 1 < length l → Le (get_or l k Early) (get_or l (k + 1) Early))
+    (again : Le (get_or l (length l - 1) Early) (move x (get_or l (length l - n) Early))) where
   ups : (m k : ℕ) → k < m → Le (V l n x k) (V l n x (k + 1))
   ups zero k w = absurd (omega arith)
   ups (suc m) k w = ⊎_elim

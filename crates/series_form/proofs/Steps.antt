@@ -25,7 +25,8 @@ start_found f n x p q low all none =
     let found : starts f n x p (least_start_of f p n x) ≡ true = first_holds (starts f n x p) 0 p last in
     ⊎_elim
     (λ less. absurd (
-    let yes : moves f n x (q - 1) ≡ true = eqb_complete (f ((q - 1) + n)) (move x (f (q - 1))) (test_sound f n x (least_start_of f p n x) (p - least_start_of f p n x) found (q - 1) (omega arith) (omega arith)) in
+    let yes : moves f n x (q - 1) ≡ true = eqb_complete (f ((q - 1) + n)) (move x (f (q - 1)))
+    (test_sound f n x (least_start_of f p n x) (p - least_start_of f p n x) found (q - 1) (omega arith) (omega arith)) in
     let no : moves f n x (q - 1) ≡ false = none (omega arith) in
     let c : true ≡ false = sym yes ∙ no in cc))
     (λ more. omega arith)

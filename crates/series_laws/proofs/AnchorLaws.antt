@@ -40,7 +40,8 @@ module _ (f : Form) (is : IsForm f) (some : (c : ℕ) → value_at f c ≡ Never
   stepped m a Early known old = old
   stepped m a Never known old = old
   stepped m a (At v) known old = by_beats (beats a (suc m) v) refl where
-    by_found : (b : Bool) → a.found ≡ b → cond b (int_lt (times (suc m) a.value) (times a.shift v)) (not (int_lt (times a.shift v) (times (suc m) a.value))) ≡ true → IsLeast f (record { found = true; shift = suc m; value = v })
+    by_found : (b : Bool) → a.found ≡ b → cond b (int_lt (times (suc m) a.value) (times a.shift v))
+        (not (int_lt (times a.shift v) (times (suc m) a.value))) ≡ true → IsLeast f (record { found = true; shift = suc m; value = v })
     by_found true g h d u pos_d low e =
         strict a.shift (suc m) d a.value v u pos_d
         (number a.shift (value_at f d) u (times d a.value) e (known.cheap d pos_d (omega arith)))
@@ -54,7 +55,8 @@ module _ (f : Form) (is : IsForm f) (some : (c : ℕ) → value_at f c ≡ Never
         let with_period : times (suc m) f.step ≤ℤ times f.period v = subst (λ (z : ℕ). times (suc m) f.step ≤ℤ times z v) p with_step in
         strict_first f.period (suc m) d f.step v u (omega arith) lesser with_period
 
-    by_beats : (t : Bool) → beats a (suc m) v ≡ t → (cond t (record { found = true; shift = suc m; value = v }) a).found ≡ true → IsLeast f (cond t (record { found = true; shift = suc m; value = v }) a)
+    by_beats : (t : Bool) → beats a (suc m) v ≡ t → (cond t (record { found = true; shift = suc m; value = v }) a).found ≡ true
+        → IsLeast f (cond t (record { found = true; shift = suc m; value = v }) a)
     by_beats true h = λ _. by_found a.found refl h
     by_beats false h = old
 

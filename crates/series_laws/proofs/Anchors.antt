@@ -14,7 +14,8 @@ use Rattle.series_laws.specs.Periodic.{Repeats, times}
 use Rattle.series_laws.proofs.Repeating.{times_add, by_steps}
 use Rattle.series_laws.specs.SeriesStars.{total_of_parts, sum_of_values, ArePositive, IsStarAt, scaled}
 use Rattle.series_laws.proofs.StarsRepeat.{star_repeats, scaled_product, scaled_zero, scaled_le_back, scaled_move, times_over, times_swap}
-use Rattle.series_laws.proofs.Items.{Item, lengths, worths, StepFree, Fit, lengths_append, worths_append, fit_first, fit_second, fit_join, free_first, free_second, free_join, lengths_most, Run, run_of, realised, Cores, cores_of}
+use Rattle.series_laws.proofs.Items.{Item, lengths, worths, StepFree, Fit, lengths_append, worths_append, fit_first, fit_second, fit_join, free_first}
+use Rattle.series_laws.proofs.Items.{free_second, free_join, lengths_most, Run, run_of, realised, Cores, cores_of}
 use Rattle.dioid.proofs.Moves.{product_is_move}
 use Rattle.series_laws.proofs.Items.Item.{part, step}
 
@@ -42,7 +43,8 @@ module _ (s : ℕ → Date) (n : ℕ) (x : ℤ) (b : ℕ) (a : ℤ) (pos_b : 0 <
 
   anchors_worths : (q : ℕ) (l : List Item) → worths s n x (anchors q l) ≡ move (times q a) (worths s n x l)
   anchors_worths zero l = sym (move_zero (worths s n x l))
-  anchors_worths (suc q) l = ap (λ z. date_product z (worths s n x (anchors q l))) anchor ∙ product_is_move a (worths s n x (anchors q l)) ∙ ap (move a) (anchors_worths q l) ∙ move_move (times q a) a (worths s n x l)
+  anchors_worths (suc q) l = ap (λ z. date_product z (worths s n x (anchors q l))) anchor
+      ∙ product_is_move a (worths s n x (anchors q l)) ∙ ap (move a) (anchors_worths q l) ∙ move_move (times q a) a (worths s n x l)
 
   anchors_free : (q : ℕ) (l : List Item) → StepFree s n x l → StepFree s n x (anchors q l)
   anchors_free zero l h = h
@@ -55,7 +57,8 @@ module _ (s : ℕ → Date) (n : ℕ) (x : ℤ) (b : ℕ) (a : ℤ) (pos_b : 0 <
   module _ (star : ℕ → Date) (p : ℕ) (is : (k : ℕ) → IsStarAt s k (star k)) (repeats : Repeats s p n x) (pos_n : 0 < n) (near : b ≤ p + n)
       (cheap : (c : ℕ) → 0 < c → c ≤ p + n → Le (scaled b (s c)) (At (times c a))) (slow : times b x ≤ℤ times n a) where
     anchored_up : (k : ℕ) (l : List ℕ) → ArePositive l → total_of_parts l ≡ k → Le (move a (sum_of_values s l)) (star (k + b))
-    anchored_up k l pos_l e = le_trans (le_is (sym (product_is_move a (sum_of_values s l)) ∙ ap (λ z. date_product z (sum_of_values s l)) (sym anchor))) ((is (k + b)).below (b ∷ l) (pos_b, pos_l) (omega arith))
+    anchored_up k l pos_l e = le_trans (le_is (sym (product_is_move a (sum_of_values s l))
+        ∙ ap (λ z. date_product z (sum_of_values s l)) (sym anchor))) ((is (k + b)).below (b ∷ l) (pos_b, pos_l) (omega arith))
 
     by_run : (k : ℕ) (l : List ℕ) → total_of_parts l ≡ k + b → (cores : Cores s n x p l) → Run s n x b cores.items → Le (sum_of_values s l) (move a (star k))
     by_run k l e cores run =
@@ -145,13 +148,15 @@ module _ (s : ℕ → Date) (p n w : ℕ) (x : ℤ) (repeats : Repeats s p n x) 
     parts = l;
     positive = pos_l;
     long = omega arith;
-    worth = le_trans (product_le (le_trans (le_is (ap s e ∙ repeats.at 0 u)) (move_le x at_zero)) (le_refl (sum_of_values s l))) (le_is (product_move_left x (At (pos 0)) (sum_of_values s l) ∙ ap (move x) (one_times (sum_of_values s l))));
+    worth = le_trans (product_le (le_trans (le_is (ap s e ∙ repeats.at 0 u)) (move_le x at_zero)) (le_refl (sum_of_values s l)))
+        (le_is (product_move_left x (At (pos 0)) (sum_of_values s l) ∙ ap (move x) (one_times (sum_of_values s l))));
   }
   shortened_head c l pos_l (suc d) e u = record {
     parts = suc d ∷ l;
     positive = (omega arith, pos_l);
     long = omega arith;
-    worth = le_is (ap (λ (z : ℕ). date_product (s z) (sum_of_values s l)) e ∙ ap (λ z. date_product z (sum_of_values s l)) (repeats.at (suc d) u) ∙ product_move_left x (s (suc d)) (sum_of_values s l));
+    worth = le_is (ap (λ (z : ℕ). date_product (s z) (sum_of_values s l)) e
+        ∙ ap (λ z. date_product z (sum_of_values s l)) (repeats.at (suc d) u) ∙ product_move_left x (s (suc d)) (sum_of_values s l));
   }
 
   shortened : (l : List ℕ) → ArePositive l → Shorter l ⊎ AllBelow l

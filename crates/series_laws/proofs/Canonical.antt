@@ -10,7 +10,8 @@ use Rattle.dioid.proofs.Moves.{at_inj, move_zero, move_swap}
 use Rattle.series_laws.specs.Periodic.{Rising, Repeats}
 use Rattle.series_laws.proofs.Repeating.{repeats_is, by_steps}
 use Rattle.series_laws.specs.SeriesForms.{Form, size_of, repeat_start, value_at, IsForm, HasValues, IsCanonical, gap, repeats_test, least_period_of, least_start_of, canonical_of}
-use Rattle.series_laws.proofs.FormValues.{value_in, value_repeats, pulled_back, early_all, step_is_gap, table_length, same_lists, form_values, test_sound, test_complete, first_ge, first_le, first_holds}
+use Rattle.series_laws.proofs.FormValues.{value_in, value_repeats, pulled_back, early_all, step_is_gap, table_length, same_lists, form_values}
+use Rattle.series_laws.proofs.FormValues.{test_sound, test_complete, first_ge, first_le, first_holds}
 
 -- ---- the canonical form
 
@@ -157,7 +158,9 @@ one_canonical f g cf cg same =
           let ag : Repeats (value_at g) (repeat_start g) g.period g.step = value_repeats g cg.form.period_positive cg.form.period_fits in
           let eg : value_at g (repeat_start g) ≡ d = ap (value_at g) (sym start) ∙ sym (same (repeat_start f)) ∙ e in
           let next : move f.step d ≡ move g.step d =
-          ap (move f.step) (sym e) ∙ sym (af.at (repeat_start f) (omega arith)) ∙ same (repeat_start f + f.period) ∙ ap (value_at g) (let u : repeat_start f + f.period ≡ repeat_start g + g.period = omega arith in u) ∙ ag.at (repeat_start g) (omega arith) ∙ ap (move g.step) eg in
+          ap (move f.step) (sym e) ∙ sym (af.at (repeat_start f) (omega arith)) ∙ same (repeat_start f + f.period)
+          ∙ ap (value_at g) (let u : repeat_start f + f.period ≡ repeat_start g + g.period = omega arith in u)
+          ∙ ag.at (repeat_start g) (omega arith) ∙ ap (move g.step) eg in
           by_value d e eg next where
             by_value : (d : Date) → value_at f (repeat_start f) ≡ d → value_at g (repeat_start g) ≡ d → move f.step d ≡ move g.step d → f.step ≡ g.step
             by_value Early e eg next = (cf.form.tail (inr e)).1 ∙ sym (cg.form.tail (inr eg)).1
@@ -167,7 +170,14 @@ one_canonical f g cf cg same =
 -- ---- constant functions
 
 pub constant_is : (d : Date) → move (pos 0) d ≡ d → IsCanonical (record { values = d ∷ []; period = 1; step = pos 0 }) × HasValues (record { values = d ∷ []; period = 1; step = pos 0 }) (λ _. d)
-constant_is d e = (record { form = form; least_period = λ g is _. is.period_positive; least_size = λ g is _ _. let h : g.period ≤ size_of g = is.period_fits in let p : 0 < g.period = is.period_positive in omega arith }, values) where
+constant_is d e = (
+  record {
+    form = form;
+    least_period = λ g is _. is.period_positive;
+    least_size = λ g is _ _. let h : g.period ≤ size_of g = is.period_fits in let p : 0 < g.period = is.period_positive in omega arith;
+  },
+  values,
+) where
   values : HasValues (record { values = d ∷ []; period = 1; step = pos 0 }) (λ _. d)
   values = form_values (λ _. d) 0 1 (pos 0) (omega arith) (record { at = λ k w. sym e })
 

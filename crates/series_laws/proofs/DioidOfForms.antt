@@ -82,7 +82,8 @@ forms_product_assoc : (a b c : Form) → IsCanonical a → IsCanonical b → IsC
 forms_product_assoc a b c ca cb cc' =
     let ab : IsCanonical (form_product a b) = form_product_is a b ca.form cb.form in
     let bc : IsCanonical (form_product b c) = form_product_is b c cb.form cc'.form in
-    by_path (form_product (form_product a b) c) (form_product a (form_product b c)) (product_at (product_at (value_at a) (value_at b)) (value_at c)) (product_at (value_at a) (product_at (value_at b) (value_at c)))
+    by_path (form_product (form_product a b) c) (form_product a (form_product b c))
+    (product_at (product_at (value_at a) (value_at b)) (value_at c)) (product_at (value_at a) (product_at (value_at b) (value_at c)))
     (form_product_is (form_product a b) c ab.form cc'.form) (form_product_is a (form_product b c) ca.form bc.form)
     (product_path (form_product a b) c ab.form cc'.form ∙ ap (λ (z : ℕ → Date). product_at z (value_at c)) (product_path a b ca.form cb.form))
     (product_path a (form_product b c) ca.form bc.form ∙ ap (product_at (value_at a)) (product_path b c cb.form cc'.form))
@@ -97,10 +98,13 @@ forms_distribute a b c ca cb cc' =
     let bc : IsCanonical (form_sum b c) = form_sum_is b c cb.form cc'.form in
     let ab : IsCanonical (form_product a b) = form_product_is a b ca.form cb.form in
     let ac : IsCanonical (form_product a c) = form_product_is a c ca.form cc'.form in
-    by_path (form_product a (form_sum b c)) (form_sum (form_product a b) (form_product a c)) (product_at (value_at a) (sum_at (value_at b) (value_at c))) (sum_at (product_at (value_at a) (value_at b)) (product_at (value_at a) (value_at c)))
+    by_path (form_product a (form_sum b c)) (form_sum (form_product a b) (form_product a c))
+    (product_at (value_at a) (sum_at (value_at b) (value_at c))) (sum_at (product_at (value_at a) (value_at b)) (product_at (value_at a) (value_at c)))
     (form_product_is a (form_sum b c) ca.form bc.form) (form_sum_is (form_product a b) (form_product a c) ab.form ac.form)
     (product_path a (form_sum b c) ca.form bc.form ∙ ap (product_at (value_at a)) (sum_path b c cb.form cc'.form))
-    (sum_path (form_product a b) (form_product a c) ab.form ac.form ∙ ap (λ (z : ℕ → Date). sum_at z (value_at (form_product a c))) (product_path a b ca.form cb.form) ∙ ap (sum_at (product_at (value_at a) (value_at b))) (product_path a c ca.form cc'.form))
+    (sum_path (form_product a b) (form_product a c) ab.form ac.form
+    ∙ ap (λ (z : ℕ → Date). sum_at z (value_at (form_product a c))) (product_path a b ca.form cb.form)
+    ∙ ap (sum_at (product_at (value_at a) (value_at b))) (product_path a c ca.form cc'.form))
     (product_sum (value_at a) (value_at b) (value_at c))
 
 forms_distribute_right : (a b c : Form) → IsCanonical a → IsCanonical b → IsCanonical c → form_product (form_sum a b) c ≡ form_sum (form_product a c) (form_product b c)
@@ -125,7 +129,8 @@ form_laws = record {
   product_assoc = forms_product_assoc;
   left_distributes = forms_distribute;
   right_distributes = forms_distribute_right;
-  zero_neutral = λ a ca. one_canonical (form_sum early_form a) a (form_sum_is early_form a early_is.form ca.form) ca (λ k. form_sum_values early_form a early_is.form ca.form k ∙ ap (λ z. later_of z (value_at a k)) (early_values k));
+  zero_neutral = λ a ca. one_canonical (form_sum early_form a) a (form_sum_is early_form a early_is.form ca.form) ca
+      (λ k. form_sum_values early_form a early_is.form ca.form k ∙ ap (λ z. later_of z (value_at a k)) (early_values k));
   zero_absorbs_left = absorbs;
   zero_absorbs_right = λ a ca. forms_commute a early_form ca early_is ∙ absorbs a ca;
   one_neutral_left = one_neutral;
@@ -139,8 +144,10 @@ form_star_laws = record { star_is = λ a ca. form_star_is a ca.form; solves = so
       let cs : IsCanonical (form_star a) = form_star_is a ca.form in
       let sb : IsCanonical (form_product (form_star a) b) = form_product_is (form_star a) b cs.form cb.form in
       let asb : IsCanonical (form_product a (form_product (form_star a) b)) = form_product_is a (form_product (form_star a) b) ca.form sb.form in
-      let p : value_at (form_product (form_star a) b) ≡ product_at (star_at (value_at a)) (value_at b) = product_path (form_star a) b cs.form cb.form ∙ ap (λ (z : ℕ → Date). product_at z (value_at b)) (star_path a ca.form) in
-      let q : value_at (form_product a (form_product (form_star a) b)) ≡ product_at (value_at a) (product_at (star_at (value_at a)) (value_at b)) = product_path a (form_product (form_star a) b) ca.form sb.form ∙ ap (product_at (value_at a)) p in
+      let p : value_at (form_product (form_star a) b) ≡ product_at (star_at (value_at a)) (value_at b) =
+      product_path (form_star a) b cs.form cb.form ∙ ap (λ (z : ℕ → Date). product_at z (value_at b)) (star_path a ca.form) in
+      let q : value_at (form_product a (form_product (form_star a) b)) ≡ product_at (value_at a)
+      (product_at (star_at (value_at a)) (value_at b)) = product_path a (form_product (form_star a) b) ca.form sb.form ∙ ap (product_at (value_at a)) p in
       at_most_is (form_sum (form_product a (form_product (form_star a) b)) b) (form_product (form_star a) b) (form_sum_is (form_product a (form_product (form_star a) b)) b asb.form cb.form) sb
       (λ k. le_trans (le_is (form_sum_values (form_product a (form_product (form_star a) b)) b asb.form cb.form k ∙ ap (λ (z : ℕ → Date). later_of (z k) (value_at b k)) q))
       (le_trans (star_solves (value_at a) (value_at b) ca.form.rising k) (le_is (sym (ap (λ (z : ℕ → Date). z k) p)))))
@@ -151,9 +158,11 @@ form_star_laws = record { star_is = λ a ca. form_star_is a ca.form; solves = so
       let sb : IsCanonical (form_product (form_star a) b) = form_product_is (form_star a) b cs.form cb.form in
       let ax : IsCanonical (form_product a x) = form_product_is a x ca.form cx.form in
       let axb : IsCanonical (form_sum (form_product a x) b) = form_sum_is (form_product a x) b ax.form cb.form in
-      let p : value_at (form_product (form_star a) b) ≡ product_at (star_at (value_at a)) (value_at b) = product_path (form_star a) b cs.form cb.form ∙ ap (λ (z : ℕ → Date). product_at z (value_at b)) (star_path a ca.form) in
+      let p : value_at (form_product (form_star a) b) ≡ product_at (star_at (value_at a)) (value_at b) =
+      product_path (form_star a) b cs.form cb.form ∙ ap (λ (z : ℕ → Date). product_at z (value_at b)) (star_path a ca.form) in
       let holds : (k : ℕ) → Le (later_of (product_at (value_at a) (value_at x) k) (value_at b k)) (value_at x k) = λ k.
-      le_trans (le_is (sym (form_sum_values (form_product a x) b ax.form cb.form k ∙ ap (λ z. later_of z (value_at b k)) (form_product_values a x ca.form cx.form k)))) (is_at_most (form_sum (form_product a x) b) x axb cx h k) in
+      le_trans (le_is (sym (form_sum_values (form_product a x) b ax.form cb.form k
+      ∙ ap (λ z. later_of z (value_at b k)) (form_product_values a x ca.form cx.form k)))) (is_at_most (form_sum (form_product a x) b) x axb cx h k) in
       at_most_is (form_product (form_star a) b) x sb cx (λ k. le_trans (le_is (ap (λ (z : ℕ → Date). z k) p)) (star_least (value_at a) (value_at b) (value_at x) cx.form.rising holds k))
 
 pub form_residual_laws : ResidualLaws IsCanonical form_sum form_product form_left form_least
@@ -169,7 +178,8 @@ form_residual_laws = record {
       let ab : IsCanonical (form_left a b) = form_left_is a b ca.form cb.form in
       at_most_is x (form_left a b) cx ab (λ k. le_trans
       ((left_is a b ca.form cb.form k).greatest (value_at x k) (λ i. to_left (value_at a i)
-      (le_trans (le_product (value_at a) (value_at x) i k (k + i) (omega arith)) (le_trans (le_is (sym (form_product_values a x ca.form cx.form (k + i)))) (is_at_most (form_product a x) b ax cb h (k + i))))))
+      (le_trans (le_product (value_at a) (value_at x) i k (k + i) (omega arith))
+      (le_trans (le_is (sym (form_product_values a x ca.form cx.form (k + i)))) (is_at_most (form_product a x) b ax cb h (k + i))))))
       (le_is (sym (form_left_values a b ca.form cb.form k))))
 
   from : (a x b : Form) → IsCanonical a → IsCanonical x → IsCanonical b → IsAtMost form_sum x (form_left a b) → IsAtMost form_sum (form_product a x) b

@@ -37,8 +37,11 @@ value_placed f pos_n fits m r k low e =
     (λ short.
     let none : m ≡ 0 = no_turns m f.period r (omega arith) in
     let here : k ≡ repeat_start f + r = omega (arith, ap (λ (z : ℕ). z * f.period) none) in
-    value_in f k short ∙ ap (λ (z : ℕ). get_or f.values z Early) here ∙ sym (move_zero (get_or f.values (repeat_start f + r) Early)) ∙ ap (λ (z : ℕ). move (times z f.step) (get_or f.values (repeat_start f + r) Early)) (sym none))
-    (λ long. value_past f k long ∙ ap (λ (z : ℕ). move (times z f.step) (get_or f.values (repeat_start f + (k - repeat_start f) % f.period) Early)) q ∙ ap (λ (z : ℕ). move (times m f.step) (get_or f.values (repeat_start f + z) Early)) t)
+    value_in f k short ∙ ap (λ (z : ℕ). get_or f.values z Early) here ∙ sym (move_zero (get_or f.values (repeat_start f + r) Early))
+    ∙ ap (λ (z : ℕ). move (times z f.step) (get_or f.values (repeat_start f + r) Early)) (sym none))
+    (λ long. value_past f k long ∙ ap (λ (z : ℕ). move (times z f.step)
+    (get_or f.values (repeat_start f + (k - repeat_start f) % f.period) Early)) q
+    ∙ ap (λ (z : ℕ). move (times m f.step) (get_or f.values (repeat_start f + z) Early)) t)
     (cases_lt k (size_of f))
 
 pub value_repeats : (f : Form) → 0 < f.period → f.period ≤ size_of f → Repeats (value_at f) (repeat_start f) f.period f.step
@@ -165,7 +168,8 @@ test_complete f n x p (suc m) h =
 pub test_fails : (f : ℕ → Date) (n : ℕ) (x : ℤ) (p m i : ℕ) → i < m → date_eqb (f (p + i + n)) (move x (f (p + i))) ≡ false → repeats_test f n x p m ≡ false
 test_fails f n x p m i w h = by_bool (repeats_test f n x p m) refl where
   by_bool : (b : Bool) → repeats_test f n x p m ≡ b → repeats_test f n x p m ≡ false
-  by_bool true e = absurd (let c : date_eqb (f (p + i + n)) (move x (f (p + i))) ≡ true = eqb_complete (f (p + i + n)) (move x (f (p + i))) (test_sound f n x p m e (p + i) (omega arith) (omega arith)) in let d : true ≡ false = sym c ∙ h in cc)
+  by_bool true e = absurd (let c : date_eqb (f (p + i + n)) (move x (f (p + i))) ≡ true =
+      eqb_complete (f (p + i + n)) (move x (f (p + i))) (test_sound f n x p m e (p + i) (omega arith) (omega arith)) in let d : true ≡ false = sym c ∙ h in cc)
   by_bool false e = e
 
 pub first_ge : (t : ℕ → Bool) (a m : ℕ) → a ≤ first_holding t a m

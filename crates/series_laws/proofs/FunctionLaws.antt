@@ -88,7 +88,8 @@ module _ (s b x : ℕ → Date) (up : Rising x) (solves : (k : ℕ) → Le (late
   list_solves : (l : List ℕ) (j k : ℕ) → total_of_parts l + j ≡ k → Le (date_product (sum_of_values s l) (b j)) (x k)
   list_solves [] j k e = le_trans (le_is (one_times (b j))) (le_trans (at_b j) (up.rises j k (omega arith)))
   list_solves (c ∷ l) j k e =
-      le_trans (le_is (times_assoc (s c) (sum_of_values s l) (b j))) (le_trans (product_le (le_refl (s c)) (list_solves l j (total_of_parts l + j) refl)) (at_s c (total_of_parts l + j) k (omega arith)))
+      le_trans (le_is (times_assoc (s c) (sum_of_values s l) (b j)))
+      (le_trans (product_le (le_refl (s c)) (list_solves l j (total_of_parts l + j) refl)) (at_s c (total_of_parts l + j) k (omega arith)))
 
   parts_least : (i j k : ℕ) → i + j ≡ k → Le (date_product (parts_star s i) (b j)) (x k)
   parts_least i j k e =
@@ -110,7 +111,8 @@ module _ (s b x : ℕ → Date) (up : Rising x) (solves : (k : ℕ) → Le (late
     by_x Early e some = absurd (some (le_antisym (le_trans (at_b j) (le_is e)) (early_le (b j))))
     by_x (At v) e some = absurd (⊎_elim
         (λ never. let h : Le Never (At v) = le_trans (le_is (sym (ap (λ z. date_product z (x j)) never ∙ ap (date_product Never) e))) (le_trans again (le_is e)) in h.holds)
-        (λ number. let h : Le (At (pos (suc number.0) +ℤ v)) (At v) = le_trans (le_is (sym (ap (λ z. date_product z (x j)) number.1 ∙ ap (date_product (At (pos (suc number.0)))) e))) (le_trans again (le_is e)) in
+        (λ number. let h : Le (At (pos (suc number.0) +ℤ v)) (At v) =
+        le_trans (le_is (sym (ap (λ z. date_product z (x j)) number.1 ∙ ap (date_product (At (pos (suc number.0)))) e))) (le_trans again (le_is e)) in
         let q : (pos (suc number.0) +ℤ v) ≤ℤ v = h.holds in absurd (omega (arith, ints)))
         above)
     by_x Never e some = full e

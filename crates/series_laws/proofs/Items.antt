@@ -1,5 +1,6 @@
 -- A list of parts, with its long parts written as a core and steps.
-use Rattle.std.proofs.Common.{◌≡◌, refl, ap, arith, ℕ, ℤ, pos, zero, suc, ◌+◌, ◌*◌, ◌-◌, ◌/◌, ◌%◌, ◌≤◌, ◌<◌, sym, ◌∙◌, subst, ⊎_elim, ◌⊎◌, inl, inr, List, [], ◌∷◌, ◌++◌, take, drop, length, length-drop}
+use Rattle.std.proofs.Common.{◌≡◌, refl, ap, arith, ℕ, ℤ, pos, zero, suc, ◌+◌, ◌*◌, ◌-◌, ◌/◌, ◌%◌, ◌≤◌, ◌<◌, sym, ◌∙◌, subst, ⊎_elim, ◌⊎◌, inl, inr}
+use Rattle.std.proofs.Common.{List, [], ◌∷◌, ◌++◌, take, drop, length, length-drop}
 use Rattle.std.proofs.lemmas.Int.{ints}
 use Rattle.std.proofs.lemmas.Bool.{cases_lt}
 use Rattle.std.proofs.lemmas.List.{take-append-drop, length-take-le}
@@ -195,7 +196,8 @@ module _ (s : ℕ → Date) (n : ℕ) (x : ℤ) where
     pub worth : date_product (s core) (worths items) ≡ sum_of_values s l
 
   -- a long part: its core, and then the steps
-  unrolled : (p c : ℕ) (l : List ℕ) (items : List Item) → Repeats s p n x → 0 < n → p + n < c → Fit (p + n) items → lengths items ≡ total_of_parts l → worths items ≡ sum_of_values s l → Cores p (c ∷ l)
+  unrolled : (p c : ℕ) (l : List ℕ) (items : List Item) → Repeats s p n x → 0 < n → p + n < c → Fit (p + n) items
+      → lengths items ≡ total_of_parts l → worths items ≡ sum_of_values s l → Cores p (c ∷ l)
   unrolled p c l items repeats pos_n far fit long worth =
       let w : ℕ = c - suc p in
       let m : ℕ = w / n in
@@ -213,7 +215,8 @@ module _ (s : ℕ → Date) (n : ℕ) (x : ℤ) where
         fit = steps_fit m (p + n) items pos_n (omega arith) fit;
         tail = inr (omega arith);
         long = let e : lengths (steps m items) ≡ m * n + lengths items = steps_lengths m items in omega arith;
-        worth = ap (date_product (s core)) (steps_worths m items) ∙ product_move_right (times m x) (s core) (worths items) ∙ sym (product_move_left (times m x) (s core) (worths items)) ∙ ap (λ z. date_product z (worths items)) (sym high) ∙ ap (date_product (s c)) worth;
+        worth = ap (date_product (s core)) (steps_worths m items) ∙ product_move_right (times m x) (s core) (worths items)
+            ∙ sym (product_move_left (times m x) (s core) (worths items)) ∙ ap (λ z. date_product z (worths items)) (sym high) ∙ ap (date_product (s c)) worth;
       }
 
   pub cores_of : (p c : ℕ) (l : List ℕ) → Repeats s p n x → 0 < n → 0 < c → ArePositive l → Cores p (c ∷ l)

@@ -63,7 +63,8 @@ start_least f is q m y o a =
     let p : ℕ = f.period in
     let early : Repeats (value_at f) q p f.step = pulled_back (value_at f) q m (repeat_start f) p y f.step o a (own_repeats f is.form) in
     let g : Form = canonical_of (value_at f) q p in
-    let one : g ≡ f = one_canonical g f (canonical_is (value_at f) q p f.step is.form.rising is.form.period_positive early) is (canonical_values (value_at f) q p f.step is.form.rising is.form.period_positive early) in
+    let one : g ≡ f = one_canonical g f (canonical_is (value_at f) q p f.step is.form.rising is.form.period_positive early) is
+    (canonical_values (value_at f) q p f.step is.form.rising is.form.period_positive early) in
     let short : size_of g ≤ q + p = canonical_short (value_at f) q p f.step is.form.rising is.form.period_positive early in
     let same : size_of g ≡ size_of f = ap (λ (z : Form). size_of z) one in
     omega arith

@@ -104,12 +104,14 @@ left_is_by_slopes : (f g : Form) → IsForm f → IsForm g → (tail_of f ≡ Ea
 left_is_by_slopes f g isf isg some k Equal h = decided f g (rise_of f g) isf isg (equal_repeats f g isf isg h) (omega (arith, ints)) k
 left_is_by_slopes f g isf isg some k Second h = cases (tail_of f) (tail_of g) refl refl h where
   never : tail_of g ≡ Never → IsLeftAt (value_at f) (value_at g) k (left_over f g k)
-  never e = decided f g (rise_of f g) isf isg (record { at = λ j w. tail_never g isg e (j + period_with f g) (omega arith) ∙ ap (move (rise_of f g)) (sym (tail_never g isg e j w)) }) (omega (arith, ints)) k
+  never e = decided f g (rise_of f g) isf isg (record
+      { at = λ j w. tail_never g isg e (j + period_with f g) (omega arith) ∙ ap (move (rise_of f g)) (sym (tail_never g isg e j w)) }) (omega (arith, ints)) k
 
   cases : (a b : Date) → tail_of f ≡ a → tail_of g ≡ b → slopes_by a b (rise_of f g -ℤ fall_of f g) ≡ Second → IsLeftAt (value_at f) (value_at g) k (left_over f g k)
   cases Early b ea eb h = absurd (some ea)
   cases (At s) Early ea eb h = absurd cc
-  cases (At s) (At t) ea eb h = let low : ((rise_of f g -ℤ fall_of f g) +ℤ pos 1) ≤ℤ pos 0 = sign_not_first (rise_of f g -ℤ fall_of f g) h in decided f g (fall_of f g) isf isg (fall_repeats f g isg) (omega (arith, ints)) k
+  cases (At s) (At t) ea eb h = let low : ((rise_of f g -ℤ fall_of f g) +ℤ pos 1) ≤ℤ pos 0 =
+      sign_not_first (rise_of f g -ℤ fall_of f g) h in decided f g (fall_of f g) isf isg (fall_repeats f g isg) (omega (arith, ints)) k
   cases (At s) Never ea eb h = never eb
   cases Never Early ea eb h = absurd cc
   cases Never (At t) ea eb h = absurd cc
@@ -119,16 +121,19 @@ left_is_by_slopes f g isf isg some k First h = cases (tail_of f) (tail_of g) ref
   cases Early Early ea eb h = absurd cc
   cases Early (At t) ea eb h = absurd cc
   cases Early Never ea eb h = absurd cc
-  cases (At s) Early ea eb h = early_below (value_at f) (value_at g) k (repeat_start f) (ap (λ z. date_left z (value_at g (k + repeat_start f))) ea ∙ ap (date_left (At s)) (tail_early g isg eb (k + repeat_start f)))
+  cases (At s) Early ea eb h = early_below (value_at f) (value_at g) k (repeat_start f)
+      (ap (λ z. date_left z (value_at g (k + repeat_start f))) ea ∙ ap (date_left (At s)) (tail_early g isg eb (k + repeat_start f)))
   cases (At s) (At t) ea eb h =
       let p : ℕ = later_start f g in
       let sign : (n : ℕ) × (rise_of f g -ℤ fall_of f g ≡ pos (suc n)) = sign_first (rise_of f g -ℤ fall_of f g) h in
       let vs : (x : ℤ) × (value_at f p ≡ At x) = tail_number f s isf ea p (omega arith) in
       let vt : (x : ℤ) × (value_at g (k + p) ≡ At x) = tail_number g t isg eb (k + p) (omega arith) in
       let zs : rise_of f g -ℤ fall_of f g ≡ pos (suc sign.0) = sign.1 in
-      unbounded (value_at f) (value_at g) p (period_with f g) k (rise_of f g) (fall_of f g) vs.0 vt.0 (repeats_later p (omega arith) (rise_repeats f g isf)) (repeats_later p (omega arith) (fall_repeats f g isg)) (omega (arith, ints)) vs.1 vt.1
+      unbounded (value_at f) (value_at g) p (period_with f g) k (rise_of f g) (fall_of f g) vs.0 vt.0
+      (repeats_later p (omega arith) (rise_repeats f g isf)) (repeats_later p (omega arith) (fall_repeats f g isg)) (omega (arith, ints)) vs.1 vt.1
   cases (At s) Never ea eb h = absurd cc
-  cases Never Early ea eb h = early_below (value_at f) (value_at g) k (repeat_start f) (ap (λ z. date_left z (value_at g (k + repeat_start f))) ea ∙ ap (date_left Never) (tail_early g isg eb (k + repeat_start f)))
+  cases Never Early ea eb h = early_below (value_at f) (value_at g) k (repeat_start f)
+      (ap (λ z. date_left z (value_at g (k + repeat_start f))) ea ∙ ap (date_left Never) (tail_early g isg eb (k + repeat_start f)))
   cases Never (At t) ea eb h =
       let p : ℕ = later_start f g in
       let vt : (x : ℤ) × (value_at g (k + p) ≡ At x) = tail_number g t isg eb (k + p) (omega arith) in

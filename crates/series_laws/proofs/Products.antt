@@ -18,7 +18,8 @@ use Rattle.series_laws.specs.declared.plans.Slopes.{Slopes}
 use Rattle.series_laws.specs.declared.plans.Slopes.TheVariants.{Equal, First, Second}
 use Rattle.series_laws.specs.Needs.{plan, period_with, rise_of, fall_of, tail_of, slopes_by, slopes_of, ceiling}
 use Rattle.series_laws.specs.ProductNeeds.{lifts_of, waits_of, product_first, product_first_by, product_by_slopes, product_plan_by, product_plan, form_product}
-use Rattle.series_laws.proofs.Sums.{Serves, served_is, served_values, serves_same, form_repeats_own, common_positive, rise_repeats, fall_repeats, tail_early, tail_number, ceiling_enough, sign_first, equal_repeats, second_first}
+use Rattle.series_laws.proofs.Sums.{Serves, served_is, served_values, serves_same, form_repeats_own, common_positive, rise_repeats, fall_repeats}
+use Rattle.series_laws.proofs.Sums.{tail_early, tail_number, ceiling_enough, sign_first, equal_repeats, second_first}
 
 pub product_rises : (s t : ℕ → Date) → Rising s → Rising t → Rising (product_at s t)
 product_rises s t a b = record {
@@ -55,7 +56,8 @@ first_serves f g isf isg h = cases (tail_of f) (tail_of g) refl refl h where
   cases (At s) Early ea eb h = record {
     turns = isf.period_positive;
     step = pos 0;
-    repeats = let none : (k : ℕ) → product_at (value_at f) (value_at g) k ≡ Early = λ k. product_commutes (value_at f) (value_at g) k ∙ early_product (value_at g) (value_at f) (tail_early g isg eb) k in
+    repeats = let none : (k : ℕ) → product_at (value_at f) (value_at g) k ≡ Early = λ k. product_commutes (value_at f) (value_at g) k
+        ∙ early_product (value_at g) (value_at f) (tail_early g isg eb) k in
         record { at = λ k w. none (k + f.period) ∙ ap (move (pos 0)) (sym (none k)) };
   }
   cases (At s) (At t) ea eb h =
@@ -88,7 +90,8 @@ first_serves f g isf isg h = cases (tail_of f) (tail_of g) refl refl h where
       let fits : f.period ≤ size_of f = isf.period_fits in
       let never : (k : ℕ) → repeat_start f + repeat_start g ≤ k → product_at (value_at f) (value_at g) k ≡ Never = λ k w.
       let v : (x : ℤ) × (value_at g (k - repeat_start f) ≡ At x) = tail_number g t isg eb (k - repeat_start f) (omega arith) in
-      never_le (le_trans (le_is (sym (ap (λ z. date_product z (value_at g (k - repeat_start f))) ea ∙ ap (date_product Never) v.1))) (le_product (value_at f) (value_at g) (repeat_start f) (k - repeat_start f) k (omega arith))) in
+      never_le (le_trans (le_is (sym (ap (λ z. date_product z (value_at g (k - repeat_start f))) ea ∙ ap (date_product Never) v.1)))
+      (le_product (value_at f) (value_at g) (repeat_start f) (k - repeat_start f) k (omega arith))) in
       record { turns = omega arith; step = pos 0; repeats = record { at = λ k w. never (k + 1) (omega arith) ∙ ap (move (pos 0)) (sym (never k (omega arith))) } }
   cases Never Never ea eb h = absurd cc
 

@@ -88,7 +88,9 @@ product_repeats_moved s t p n q g x a far better = record {
 pub moved_without_loss : (s t : ℕ → Date) (p q r w : ℕ) (x y : ℤ) → Rising s → Repeats s p w x → Repeats t q (r + w) y → p ≤ r → y ≤ℤ x
     → (i j : ℕ) → q ≤ j → Le (date_product (s i) (t (j + (r + w)))) (date_product (s (i + (r + w))) (t j))
 moved_without_loss s t p q r w x y up a b far h i j u =
-    let lifted : Le (move y (s i)) (s (i + (r + w))) = le_trans (le_trans (move_further (s i) h) (move_le x (up.rises i (i + r) (omega arith)))) (le_is (sym (a.at (i + r) (omega arith)) ∙ ap s (omega arith))) in
+    let lifted : Le (move y (s i)) (s (i + (r + w))) =
+    le_trans (le_trans (move_further (s i) h) (move_le x (up.rises i (i + r) (omega arith))))
+    (le_is (sym (a.at (i + r) (omega arith)) ∙ ap s (omega arith))) in
     le_trans
     (le_is (ap (date_product (s i)) (b.at j u) ∙ product_move_right y (s i) (t j) ∙ sym (product_move_left y (s i) (t j))))
     (product_le lifted (le_refl (t j)))

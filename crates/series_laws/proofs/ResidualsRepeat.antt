@@ -58,4 +58,5 @@ left_decided s t p l k x y a b h = first_decide (λ i. date_left (s i) (t (k + i
     let d : Date = date_left (s i) (t (k + i)) in
     le_trans (le_is (sym (move_zero d)))
     (le_trans (move_further d (let f : pos 0 ≤ℤ (y -ℤ x) = omega (arith, ints) in f))
-    (le_is (sym (left_of_move x y (s i) (t (k + i))) ∙ ap (λ z. date_left z (move y (t (k + i)))) (sym (a.at i w)) ∙ ap (date_left (s (i + suc l))) (sym (b.at (k + i) (omega arith)) ∙ ap t (omega arith))))))
+    (le_is (sym (left_of_move x y (s i) (t (k + i))) ∙ ap (λ z. date_left z (move y (t (k + i)))) (sym (a.at i w))
+    ∙ ap (date_left (s (i + suc l))) (sym (b.at (k + i) (omega arith)) ∙ ap t (omega arith))))))

@@ -20,7 +20,8 @@ use Rattle.series_laws.proofs.FormValues.{form_values}
 use Rattle.series_laws.specs.declared.plans.NeedPlan.{NeedPlan}
 use Rattle.series_laws.specs.Needs.{plan, need_of, tail_of, greatest_int, sum_plan, form_sum}
 use Rattle.series_laws.specs.declared.plans.Anchor.{Anchor}
-use Rattle.series_laws.specs.ProductNeeds.{beats, anchor_step, anchor_upto, anchor_of, natural_of, loss_of_part, worst_loss, anchored_plan, own_plan_by, own_plan, one_shift, at_least, star_plan, star_plan_by, form_star}
+use Rattle.series_laws.specs.ProductNeeds.{beats, anchor_step, anchor_upto, anchor_of, natural_of, loss_of_part, worst_loss, anchored_plan}
+use Rattle.series_laws.specs.ProductNeeds.{own_plan_by, own_plan, one_shift, at_least, star_plan, star_plan_by, form_star}
 use Rattle.series_laws.proofs.Sums.{Serves, served_is, served_values, form_repeats_own, tail_never, tail_early, tail_number, le_greatest_int, form_sum_is, form_sum_values}
 
 -- u / b is at most a / c, and so on: ratios
@@ -74,7 +75,8 @@ module _ (f : Form) (is : IsForm f) where
     );
   }
 
-  replaced : (m : ℕ) (a : Anchor) (v : ℤ) → AnchorIs f m a → value_at f (suc m) ≡ At v → times (suc m) a.value ≤ℤ times a.shift v → AnchorIs f (suc m) (record { found = true; shift = suc m; value = v })
+  replaced : (m : ℕ) (a : Anchor) (v : ℤ) → AnchorIs f m a → value_at f (suc m) ≡ At v → times (suc m) a.value ≤ℤ times a.shift v
+      → AnchorIs f (suc m) (record { found = true; shift = suc m; value = v })
   replaced m a v old e h = record {
     positive = omega arith;
     slow = ratio_trans a.shift (suc m) f.period f.step a.value v old.positive old.slow h;
@@ -93,20 +95,24 @@ module _ (f : Form) (is : IsForm f) where
   stepped m a (At v) old e some = by_found a.found (beats a (suc m) v) refl refl where
     by_found : (b t : Bool) → a.found ≡ b → beats a (suc m) v ≡ t → AnchorIs f (suc m) (cond (beats a (suc m) v) (record { found = true; shift = suc m; value = v }) a)
     by_found true true g h = rw h (replaced m a v old e
-        (let k : int_lt (times (suc m) a.value) (times a.shift v) ≡ true = sym (ap (λ (z : Bool). cond z (int_lt (times (suc m) a.value) (times a.shift v)) (not (int_lt (times a.shift v) (times (suc m) a.value)))) g) ∙ h in
+        (let k : int_lt (times (suc m) a.value) (times a.shift v) ≡ true =
+        sym (ap (λ (z : Bool). cond z (int_lt (times (suc m) a.value) (times a.shift v)) (not (int_lt (times a.shift v) (times (suc m) a.value)))) g) ∙ h in
         let l : (times (suc m) a.value +ℤ pos 1) ≤ℤ times a.shift v = is_lt (times (suc m) a.value) (times a.shift v) k in omega (arith, ints)))
     by_found true false g h = rw h (kept m a old
-        (let k : int_lt (times (suc m) a.value) (times a.shift v) ≡ false = sym (ap (λ (z : Bool). cond z (int_lt (times (suc m) a.value) (times a.shift v)) (not (int_lt (times a.shift v) (times (suc m) a.value)))) g) ∙ h in
+        (let k : int_lt (times (suc m) a.value) (times a.shift v) ≡ false =
+        sym (ap (λ (z : Bool). cond z (int_lt (times (suc m) a.value) (times a.shift v)) (not (int_lt (times a.shift v) (times (suc m) a.value)))) g) ∙ h in
         le_trans (le_is (ap (scaled a.shift) e)) (record { holds = not_lt (times (suc m) a.value) (times a.shift v) k }))
         (λ n. absurd (let c : true ≡ false = sym g ∙ n in cc)))
     by_found false true g h = rw h (replaced m a v old e
-        (let k : not (int_lt (times a.shift v) (times (suc m) a.value)) ≡ true = sym (ap (λ (z : Bool). cond z (int_lt (times (suc m) a.value) (times a.shift v)) (not (int_lt (times a.shift v) (times (suc m) a.value)))) g) ∙ h in
+        (let k : not (int_lt (times a.shift v) (times (suc m) a.value)) ≡ true =
+        sym (ap (λ (z : Bool). cond z (int_lt (times (suc m) a.value) (times a.shift v)) (not (int_lt (times a.shift v) (times (suc m) a.value)))) g) ∙ h in
         not_lt (times a.shift v) (times (suc m) a.value) (not_true (int_lt (times a.shift v) (times (suc m) a.value)) k))) where
           not_true : (b : Bool) → not b ≡ true → b ≡ false
           not_true true q = cc
           not_true false q = refl
     by_found false false g h = rw h
-        (let k : not (int_lt (times a.shift v) (times (suc m) a.value)) ≡ false = sym (ap (λ (z : Bool). cond z (int_lt (times (suc m) a.value) (times a.shift v)) (not (int_lt (times a.shift v) (times (suc m) a.value)))) g) ∙ h in
+        (let k : not (int_lt (times a.shift v) (times (suc m) a.value)) ≡ false =
+        sym (ap (λ (z : Bool). cond z (int_lt (times (suc m) a.value) (times a.shift v)) (not (int_lt (times a.shift v) (times (suc m) a.value)))) g) ∙ h in
         let l : (times a.shift v +ℤ pos 1) ≤ℤ times (suc m) a.value = is_lt (times a.shift v) (times (suc m) a.value) (not_false (int_lt (times a.shift v) (times (suc m) a.value)) k) in
         let p : a.shift ≡ f.period = (old.when_not g).0 in
         let q : a.value ≡ f.step = (old.when_not g).1 in
@@ -217,7 +223,8 @@ module _ (g : Form) (is : IsForm g) (star : ℕ → Date) (stars : (k : ℕ) →
         let i : ℕ = c - repeat_start g in
         let here : repeat_start g + i ≡ c = omega arith in
         let v : (x : ℤ) × (value_at g c ≡ At x) = number c u in
-        let most : loss_of_part g (repeat_start g + i) ≤ℤ greatest_int (λ i. loss_of_part g (repeat_start g + i)) (g.period - 1) = le_greatest_int (λ i. loss_of_part g (repeat_start g + i)) (g.period - 1) i (omega arith) in
+        let most : loss_of_part g (repeat_start g + i) ≤ℤ greatest_int (λ i. loss_of_part g (repeat_start g + i)) (g.period - 1) =
+        le_greatest_int (λ i. loss_of_part g (repeat_start g + i)) (g.period - 1) i (omega arith) in
         let up : greatest_int (λ i. loss_of_part g (repeat_start g + i)) (g.period - 1) ≤ℤ pos (worst_loss g) = le_natural (greatest_int (λ i. loss_of_part g (repeat_start g + i)) (g.period - 1)) in
         let same : loss_of_part g (repeat_start g + i) ≡ times c g.step -ℤ times g.period v.0 = ap (loss_of_part g) here ∙ ap (λ d. gap (scaled g.period d) (At (times c g.step))) v.1 in
         let mine : Le (At (times c g.step -ℤ pos (worst_loss g))) (At (times g.period v.0)) = record { holds = omega (arith, ints) } in
@@ -264,7 +271,8 @@ parts_serves f is low =
     let g : Form = form_sum f one_shift in
     let isg : IsForm g = (form_sum_is f one_shift is one_shift_is).form in
     let values : (k : ℕ) → value_at g k ≡ with_one (value_at f) k = λ k. form_sum_values f one_shift is one_shift_is k ∙ ap (later_of (value_at f k)) (one_shift_values k) in
-    let stars : (k : ℕ) → IsStarAt (value_at g) k (parts_star (value_at f) k) = λ k. same_star (with_one (value_at f)) (value_at g) k (parts_star (value_at f) k) (λ j. sym (values j)) (with_one_is (value_at f) is.rising k) in
+    let stars : (k : ℕ) → IsStarAt (value_at g) k (parts_star (value_at f) k) =
+    λ k. same_star (with_one (value_at f)) (value_at g) k (parts_star (value_at f) k) (λ j. sym (values j)) (with_one_is (value_at f) is.rising k) in
     at_least_serves (parts_star (value_at f)) (need_of (sum_plan f one_shift)) (own_plan g)
     (own_serves g isg (parts_star (value_at f)) stars
     (le_trans (le_later_right (value_at f 1) (At (pos 0))) (le_is (sym (values 1))))

@@ -31,7 +31,8 @@ power_below : (s : ℕ → Date) (m k : ℕ) (y : Date) → ((l : List ℕ) → 
 power_below s zero zero y h = h [] tt refl
 power_below s zero (suc k) y h = early_le y
 power_below s (suc m) k y h = product_at_le (positive_part s) (power_at s m) k y (λ i j e. by_part i j e (λ z g. power_below s m j z g)) where
-  by_part : (i j : ℕ) → i + j ≡ k → ((z : Date) → ((l : List ℕ) → ArePositive l → total_of_parts l ≡ j → Le (sum_of_values s l) z) → Le (power_at s m j) z) → Le (date_product (positive_part s i) (power_at s m j)) y
+  by_part : (i j : ℕ) → i + j ≡ k → ((z : Date) → ((l : List ℕ) → ArePositive l → total_of_parts l ≡ j → Le (sum_of_values s l) z)
+      → Le (power_at s m j) z) → Le (date_product (positive_part s i) (power_at s m j)) y
   by_part zero j e rest = early_le y
   by_part (suc c) j e rest = from_left (s (suc c)) (rest (date_left (s (suc c)) y) (λ l a g. to_left (s (suc c)) (h (suc c ∷ l) (omega arith, a) (omega arith))))
 
@@ -42,7 +43,9 @@ length_total (c ∷ l) a = let e : length l ≤ total_of_parts l = length_total 
 pub parts_star_is : (s : ℕ → Date) (k : ℕ) → IsStarAt s k (parts_star s k)
 parts_star_is s k = record {
   zero_below = le_later_left (At (pos 0)) (greatest_of_first (λ m. power_at s m k) k);
-  below = λ l a e. le_trans (parts_below_power s l k a e) (le_trans (le_greatest (λ m. power_at s m k) k (length l) (let h : length l ≤ total_of_parts l = length_total l a in omega arith)) (le_later_right (At (pos 0)) (greatest_of_first (λ m. power_at s m k) k)));
+  below = λ l a e. le_trans (parts_below_power s l k a e)
+      (le_trans (le_greatest (λ m. power_at s m k) k (length l) (let h : length l ≤ total_of_parts l = length_total l a in omega arith))
+      (le_later_right (At (pos 0)) (greatest_of_first (λ m. power_at s m k) k)));
   least = λ y z h. later_le z (greatest_le (λ m. power_at s m k) k y (λ m _. power_below s m k y h));
 }
 
@@ -51,14 +54,16 @@ parts_star_is s k = record {
 -- a part put before
 pub part_more : (s : ℕ → Date) → Rising s → (c j k : ℕ) → 0 < c → c + j ≡ k → Le (date_product (s c) (parts_star s j)) (parts_star s k)
 part_more s up c j k h e = from_left (s c) ((parts_star_is s j).least (date_left (s c) (parts_star s k))
-    (to_left (s c) (le_trans (le_is (times_one (s c))) (le_trans (up.rises c k (omega arith)) (le_trans (le_is (sym (times_one (s k)))) ((parts_star_is s k).below (k ∷ []) (omega arith, tt) (omega arith))))))
+    (to_left (s c) (le_trans (le_is (times_one (s c)))
+    (le_trans (up.rises c k (omega arith)) (le_trans (le_is (sym (times_one (s k)))) ((parts_star_is s k).below (k ∷ []) (omega arith, tt) (omega arith))))))
     (λ l a g. to_left (s c) ((parts_star_is s k).below (c ∷ l) (h, a) (omega arith))))
 
 pub star_rises : (s : ℕ → Date) → Rising s → (j k : ℕ) → j ≤ k → Le (parts_star s j) (parts_star s k)
 star_rises s up j k w = (parts_star_is s j).least (parts_star s k) ((parts_star_is s k).zero_below) (longer) where
   longer : (l : List ℕ) → ArePositive l → total_of_parts l ≡ j → Le (sum_of_values s l) (parts_star s k)
   longer [] a e = (parts_star_is s k).zero_below
-  longer (c ∷ l) a e = le_trans (product_le (up.rises c (c + (k - j)) (omega arith)) (le_refl (sum_of_values s l))) ((parts_star_is s k).below ((c + (k - j)) ∷ l) (let h : 0 < c = a.0 in omega arith, a.1) (omega arith))
+  longer (c ∷ l) a e = le_trans (product_le (up.rises c (c + (k - j)) (omega arith)) (le_refl (sum_of_values s l)))
+      ((parts_star_is s k).below ((c + (k - j)) ∷ l) (let h : 0 < c = a.0 in omega arith, a.1) (omega arith))
 
 -- Its star is that of s: each list is at most the star of s.
 pub list_below : (s : ℕ → Date) → Rising s → (l : List ℕ) (k : ℕ) → ArePositive l → total_of_parts l ≡ k → Le (sum_of_values (with_one s) l) (parts_star s k)
@@ -102,7 +107,8 @@ first_parts_is s star up (suc k) old = record { zero_below = le_later_left (At (
   least : (y : Date) → Le (At (pos 0)) y → ((l : List ℕ) → ArePositive l → total_of_parts l ≡ suc k → Le (sum_of_values s l) y) → Le (first_parts s star (suc k)) y
   least y z h = later_le z (greatest_le (λ c. date_product (s (suc c)) (star (k - c))) k y (λ c w.
       from_left (s (suc c)) ((old (k - c) (omega arith)).least (date_left (s (suc c)) y)
-      (to_left (s (suc c)) (le_trans (le_is (times_one (s (suc c)))) (le_trans (up.rises (suc c) (suc k) (omega arith)) (le_trans (le_is (sym (times_one (s (suc k))))) (h (suc k ∷ []) (omega arith, tt) (omega arith))))))
+      (to_left (s (suc c)) (le_trans (le_is (times_one (s (suc c))))
+      (le_trans (up.rises (suc c) (suc k) (omega arith)) (le_trans (le_is (sym (times_one (s (suc k))))) (h (suc k ∷ []) (omega arith, tt) (omega arith))))))
       (λ l a e. to_left (s (suc c)) (h (suc c ∷ l) (omega arith, a) (omega arith))))))
 
 later_either : (a b : Date) → (later_of a b ≡ a) ⊎ (later_of a b ≡ b)
@@ -118,7 +124,9 @@ later_either Never b = inl refl
 pub greatest_reached : (f : ℕ → Date) (n : ℕ) → (j : ℕ) × (j ≤ n) × (greatest_of_first f n ≡ f j)
 greatest_reached f zero = (0, omega arith, refl)
 greatest_reached f (suc n) = one_of (greatest_of_first f n) (f (suc n)) (greatest_reached f n) refl where
-  one_of : (a b : Date) → ((j : ℕ) × (j ≤ n) × (greatest_of_first f n ≡ f j)) → later_of (greatest_of_first f n) (f (suc n)) ≡ later_of (greatest_of_first f n) (f (suc n)) → (j : ℕ) × (j ≤ suc n) × (later_of (greatest_of_first f n) (f (suc n)) ≡ f j)
+  one_of : (a b : Date) → ((j : ℕ) × (j ≤ n) × (greatest_of_first f n ≡ f j))
+      → later_of (greatest_of_first f n) (f (suc n)) ≡ later_of (greatest_of_first f n) (f (suc n)) → (j : ℕ) × (j ≤ suc n)
+      × (later_of (greatest_of_first f n) (f (suc n)) ≡ f j)
   one_of a b old _ = ⊎_elim
       (λ e. (old.0, let w : old.0 ≤ n = old.1 in omega arith, e ∙ old.2))
       (λ e. (suc n, omega arith, e))
@@ -141,7 +149,8 @@ reached_by s (suc m) k = by_split (greatest_reached (λ i. date_product (positiv
 
 pub parts_star_greatest : (s : ℕ → Date) (k : ℕ) → IsGreatestStarSum s k (parts_star s k)
 parts_star_greatest s k = record { zero_below = (parts_star_is s k).zero_below; below = (parts_star_is s k).below; reached = by_power (greatest_reached (λ m. power_at s m k) k) } where
-  by_power : ((m : ℕ) × (m ≤ k) × (greatest_of_first (λ m. power_at s m k) k ≡ power_at s m k)) → (parts_star s k ≡ At (pos 0)) ⊎ ((l : List ℕ) × ArePositive l × (total_of_parts l ≡ k) × (sum_of_values s l ≡ parts_star s k))
+  by_power : ((m : ℕ) × (m ≤ k) × (greatest_of_first (λ m. power_at s m k) k ≡ power_at s m k)) → (parts_star s k ≡ At (pos 0))
+      ⊎ ((l : List ℕ) × ArePositive l × (total_of_parts l ≡ k) × (sum_of_values s l ≡ parts_star s k))
   by_power (m, w, e) = ⊎_elim
       (λ low. inl low)
       (λ high. ⊎_elim
@@ -151,7 +160,8 @@ parts_star_greatest s k = record { zero_below = (parts_star_is s k).zero_below; 
       (later_either (At (pos 0)) (greatest_of_first (λ m. power_at s m k) k))
 
 pub greatest_sum_star : (s : ℕ → Date) (k : ℕ) (x : Date) → IsGreatestStarSum s k x → x ≡ parts_star s k
-greatest_sum_star s k x h = le_antisym (⊎_elim (λ e. le_trans (le_is e) (parts_star_is s k).zero_below) (λ some. le_trans (le_is (sym some.3)) ((parts_star_is s k).below some.0 some.1 some.2)) h.reached)
+greatest_sum_star s k x h = le_antisym (⊎_elim (λ e. le_trans (le_is e) (parts_star_is s k).zero_below)
+    (λ some. le_trans (le_is (sym some.3)) ((parts_star_is s k).below some.0 some.1 some.2)) h.reached)
     ((parts_star_is s k).least x h.zero_below h.below)
 
 pub star_words : (s : ℕ → Date) (k : ℕ) → IsStarOf s k (star_at s k)

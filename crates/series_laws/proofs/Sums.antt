@@ -19,7 +19,9 @@ use Rattle.series_laws.specs.SeriesForms.{Form, repeat_start, value_at, IsForm, 
 use Rattle.series_laws.proofs.FormValues.{value_repeats, early_all, first_ge, first_le, first_holds}
 use Rattle.dioid.proofs.Moves.{moved_to_never}
 use Rattle.series_laws.proofs.Canonical.{canonical_values, canonical_is}
-use Rattle.series_laws.specs.Needs.{plan, form_by, turns_of, common, period_with, rise_of, fall_of, tail_of, by_sign, slopes_by, slopes_of, greatest_int, ceiling, later_start, lead_of, periods_behind, crossing, crossing_by, sum_plan, sum_plan_by, least_plan, least_plan_by, form_sum, form_least}
+use Rattle.series_laws.specs.Needs.{plan, form_by, turns_of, common, period_with, rise_of, fall_of, tail_of, by_sign, slopes_by, slopes_of}
+use Rattle.series_laws.specs.Needs.{greatest_int, ceiling, later_start, lead_of, periods_behind, crossing, crossing_by, sum_plan, sum_plan_by}
+use Rattle.series_laws.specs.Needs.{least_plan, least_plan_by, form_sum, form_least}
 use Rattle.series_laws.specs.declared.plans.NeedPlan.{NeedPlan}
 use Rattle.series_laws.specs.declared.plans.Slopes.{Slopes}
 use Rattle.series_laws.specs.declared.plans.Slopes.TheVariants.{Equal, First, Second}
@@ -158,7 +160,8 @@ crossing_le f g isf isg h = cases (tail_of f) (tail_of g) refl refl h where
       let vf : (x : ℤ) × (value_at f j ≡ At x) = tail_number f s isf ea j (omega arith) in
       let vg : (x : ℤ) × (value_at g j ≡ At x) = tail_number g t isg eb j (omega arith) in
       let low : gap (value_at f (p + i)) (value_at g (p + i)) ≤ℤ lead_of f g = le_greatest_int (λ i. gap (value_at f (p + i)) (value_at g (p + i))) (l - 1) i (omega arith) in
-      let same : gap (value_at f (p + i)) (value_at g (p + i)) ≡ vg.0 -ℤ vf.0 = ap (λ (m : ℕ). gap (value_at f m) (value_at g m)) here ∙ ap (λ d. gap d (value_at g j)) vf.1 ∙ ap (gap (At vf.0)) vg.1 in
+      let same : gap (value_at f (p + i)) (value_at g (p + i)) ≡ vg.0 -ℤ vf.0 = ap (λ (m : ℕ). gap (value_at f m) (value_at g m)) here
+      ∙ ap (λ d. gap d (value_at g j)) vf.1 ∙ ap (gap (At vf.0)) vg.1 in
       let first_value : Le (At vg.0) (move (times (periods_behind f g) gain) (At vf.0)) = record { holds = omega (arith, ints) } in
       le_trans (le_is vg.1) (le_trans first_value (le_is (ap (move (times (periods_behind f g) gain)) (sym vf.1)))))
       k w

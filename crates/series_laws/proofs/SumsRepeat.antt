@@ -25,7 +25,8 @@ gains : (s t : ℕ → Date) (p l : ℕ) (x y g : ℤ) → Repeats s p l x → R
 gains s t p l x y g a b e zero q w h k u = let f : Le (t k) (move (pos 0) (s k)) = h k (omega arith) in rw (move_zero (s k)) at f
 gains s t p l x y g a b e (suc m) q w h k u = gains s t p l x y g a b e m (q + l) (omega arith)
     (λ j v. le_trans (le_is (repeats_from b j (omega arith))) (le_trans (move_le y (h (j - l) (omega arith)))
-    (le_is (move_move (times (suc m) g) y (s (j - l)) ∙ ap (λ (z : ℤ). move z (s (j - l))) (omega (arith, ints)) ∙ sym (move_move x (times m g) (s (j - l))) ∙ ap (move (times m g)) (sym (repeats_from a j (omega arith)))))))
+    (le_is (move_move (times (suc m) g) y (s (j - l)) ∙ ap (λ (z : ℤ). move z (s (j - l))) (omega (arith, ints))
+    ∙ sym (move_move x (times m g) (s (j - l))) ∙ ap (move (times m g)) (sym (repeats_from a j (omega arith)))))))
     k (omega arith)
 
 -- The lead of t on one period is at most m gains, so s is the greater one m periods later.

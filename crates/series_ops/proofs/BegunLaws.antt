@@ -48,7 +48,8 @@ pub begun_window : (n : ℕ) (r q l m : List Date) (p k : ℕ) → IsPieceBegun 
     → later_of (greatest_from (split_of (value_listed l) (value_listed m) k) 0 (places_to n p k)) (value_listed q k) ≡ window (value_listed l) (value_listed m) 0 p k
 begun_window n r q l m p k h e w =
     let own : k < length r = subst (λ (z : List Date). k < length z) e w in
-    let here : value_listed q k ≡ window (value_listed l) (value_listed (take n m)) 0 p k = ap (λ (z : List Date). value_listed z k) e ∙ listed_is (window (value_listed l) (value_listed (take n m)) 0 p) (length r) r h.sums k own in
+    let here : value_listed q k ≡ window (value_listed l) (value_listed (take n m)) 0 p k = ap (λ (z : List Date). value_listed z k) e
+    ∙ listed_is (window (value_listed l) (value_listed (take n m)) 0 p) (length r) r h.sums k own in
     ap (later_of (greatest_from (split_of (value_listed l) (value_listed m) k) 0 (places_to n p k))) here
     ∙ window_near (value_listed l) (value_listed m) (value_listed (take n m)) n p k
     (λ i u. get_or-take n m i Early u)

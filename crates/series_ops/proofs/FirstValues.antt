@@ -55,7 +55,8 @@ module _ (s : ℕ → Date) (n : ℕ) (l : List Date) (e : l ≡ table s (n + 1)
       let k : length l - 1 ≡ n = (let w : length l ≡ n + 1 = whole in omega arith) in
       ap (λ (z : ℕ). get_or l z Early) k ∙ ap (λ (z : List Date). get_or z n Early) e ∙ table_at s (n + 1) n (omega arith)
 
-pub listed_tabled : (s : ℕ → Date) (r : NeedPlan) (l : List Date) → Rising s → Serves s r → l ≡ table s (need_of r + 1) → ((k : ℕ) → k ≤ need_of r → IsMagnitudeUpTo greatest_listed (s k)) → IsTabled s r (all_but_last l) (last_value l)
+pub listed_tabled : (s : ℕ → Date) (r : NeedPlan) (l : List Date) → Rising s → Serves s r → l ≡ table s (need_of r + 1)
+    → ((k : ℕ) → k ≤ need_of r → IsMagnitudeUpTo greatest_listed (s k)) → IsTabled s r (all_but_last l) (last_value l)
 listed_tabled s r l up serves e low = record { rising = up; serves = serves; values = begun s (need_of r) l e; next_is = ends s (need_of r) l e; bounded = low }
 
 -- ---- lists of two series

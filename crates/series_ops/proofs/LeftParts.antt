@@ -1,6 +1,7 @@
 -- The residual by the list of the first series: below its start the values themselves, from there on the residual by
 -- the star of its period.
-use Rattle.std.proofs.Common.{◌≡◌, refl, ap, arith, ℕ, ℤ, pos, zero, suc, ◌+◌, ◌*◌, ◌-◌, ◌≤◌, ◌<◌, ◌-ℤ◌, sym, ◌∙◌, subst, ⊎_elim, List, [], ◌∷◌, ◌++◌, length, get_or, true, false, ltb, cond, Bool, to_z, of_z}
+use Rattle.std.proofs.Common.{◌≡◌, refl, ap, arith, ℕ, ℤ, pos, zero, suc, ◌+◌, ◌*◌, ◌-◌, ◌≤◌, ◌<◌, ◌-ℤ◌, sym, ◌∙◌, subst, ⊎_elim, List, [], ◌∷◌, ◌++◌}
+use Rattle.std.proofs.Common.{length, get_or, true, false, ltb, cond, Bool, to_z, of_z}
 use Rattle.std.specs.Int.RustNames.{unsigned_abs}
 use Rattle.std.specs.Int.{w128}
 use Rattle.std.proofs.lemmas.Int.{ints, clamps, to_z-of_z}
@@ -140,7 +141,8 @@ listed_star l r n x t h e = record {
       let few : ltb (length r - 1 - j) n ≡ true = grind (arith, nat_tests) in
       let here : length l - 1 - (length r - 1 - j) ≡ j = omega arith in
       h.at (length r - 1 - j) (omega arith)
-      ∙ ap (λ (z : Bool). cond z (get_or l (length l - 1 - (length r - 1 - j)) Early) (earlier_of (get_or l (length l - 1 - (length r - 1 - j)) Early) (date_left (At x) (get_or r (length r - 1 - j - n) Early)))) few
+      ∙ ap (λ (z : Bool). cond z (get_or l (length l - 1 - (length r - 1 - j)) Early)
+      (earlier_of (get_or l (length l - 1 - (length r - 1 - j)) Early) (date_left (At x) (get_or r (length r - 1 - j - n) Early)))) few
       ∙ ap (λ (z : ℕ). get_or l z Early) here ∙ e j w;
   before = λ j w.
       let size : length r ≡ length l = h.size in
@@ -148,7 +150,8 @@ listed_star l r n x t h e = record {
       let here : length l - 1 - (length r - 1 - j) ≡ j = omega arith in
       let there : length r - 1 - j - n ≡ length r - 1 - (j + n) = omega arith in
       h.at (length r - 1 - j) (omega arith)
-      ∙ ap (λ (z : Bool). cond z (get_or l (length l - 1 - (length r - 1 - j)) Early) (earlier_of (get_or l (length l - 1 - (length r - 1 - j)) Early) (date_left (At x) (get_or r (length r - 1 - j - n) Early)))) many
+      ∙ ap (λ (z : Bool). cond z (get_or l (length l - 1 - (length r - 1 - j)) Early)
+      (earlier_of (get_or l (length l - 1 - (length r - 1 - j)) Early) (date_left (At x) (get_or r (length r - 1 - j - n) Early)))) many
       ∙ ap (λ (z : ℕ). earlier_of (get_or l z Early) (date_left (At x) (get_or r (length r - 1 - j - n) Early))) here
       ∙ ap (λ (z : ℕ). earlier_of (get_or l j Early) (date_left (At x) (get_or r z Early))) there
       ∙ ap (λ (z : Date). earlier_of z (date_left (At x) (get_or r (length r - 1 - (j + n)) Early))) (e j (omega arith));

@@ -1,5 +1,6 @@
 -- Residuals by greatest sums: the residual is the conjugate of the sum with the conjugate.
-use Rattle.std.proofs.Common.{◌≡◌, refl, ap, arith, ℕ, ℤ, pos, zero, suc, ◌+◌, ◌-◌, ◌≤◌, ◌<◌, ◌-ℤ◌, sym, ◌∙◌, ⊎_elim, List, [], ◌∷◌, ◌++◌, subst, length, get_or, map, reverse, drop, take, true, false, cond, ltb, Bool}
+use Rattle.std.proofs.Common.{◌≡◌, refl, ap, arith, ℕ, ℤ, pos, zero, suc, ◌+◌, ◌-◌, ◌≤◌, ◌<◌, ◌-ℤ◌, sym, ◌∙◌, ⊎_elim, List, [], ◌∷◌, ◌++◌, subst}
+use Rattle.std.proofs.Common.{length, get_or, map, reverse, drop, take, true, false, cond, ltb, Bool}
 use Rattle.std.specs.Int.RustNames.{unsigned_abs}
 use Rattle.std.proofs.lemmas.Int.{ints, clamps}
 use Rattle.std.proofs.lemmas.Bool.{cases_lt}
@@ -76,7 +77,8 @@ conjugated_more l m i d w e ed =
     ∙ ap (λ (z : Date). take i m ++ z ∷ []) back
     ∙ sym (take_more m i Early w)
 
-pub turned_more : (l m : List Date) (i : ℕ) (d : Date) → i < length m → conjugates_reversed l ≡ drop (length m - i) m → d ≡ conjugate_of (get_or m (length m - 1 - i) Early) → conjugates_reversed (l ++ d ∷ []) ≡ drop (length m - (i + 1)) m
+pub turned_more : (l m : List Date) (i : ℕ) (d : Date) → i < length m → conjugates_reversed l ≡ drop (length m - i) m
+    → d ≡ conjugate_of (get_or m (length m - 1 - i) Early) → conjugates_reversed (l ++ d ∷ []) ≡ drop (length m - (i + 1)) m
 turned_more l m i d w e ed =
     let back : conjugate_of d ≡ get_or m (length m - 1 - i) Early = ap conjugate_of ed ∙ conjugate_twice (get_or m (length m - 1 - i) Early) in
     let next : length m - 1 - i + 1 ≡ length m - i = omega arith in

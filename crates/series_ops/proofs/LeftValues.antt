@@ -123,7 +123,8 @@ bounded f g sf sg short k w = by_tail (tail_of f) refl where
   by_tail (At s) e = by_slopes (λ h. absurd (let c : At s ≡ Early = sym e ∙ h in cc)) (slopes_of f g) refl
   by_tail Never e = by_slopes (λ h. absurd (let c : Never ≡ Early = sym e ∙ h in cc)) (slopes_of f g) refl
 
-pub left_tabled : (f g : Form) (r : NeedPlan) (l : List Date) → IsSeries f → IsSeries g → r ≡ left_plan f g → need_of r ≤ 20000 → l ≡ table (residual_at f g) (need_of r + 1) → IsTabled (residual_at f g) r (all_but_last l) (last_value l)
+pub left_tabled : (f g : Form) (r : NeedPlan) (l : List Date) → IsSeries f → IsSeries g → r ≡ left_plan f g → need_of r ≤ 20000
+    → l ≡ table (residual_at f g) (need_of r + 1) → IsTabled (residual_at f g) r (all_but_last l) (last_value l)
 left_tabled f g r l sf sg e short items = listed_tabled (residual_at f g) r l
     (left_rises f g sf.canonical.form sg.canonical.form)
     (subst (λ (z : NeedPlan). Serves (residual_at f g) z) (sym e) (left_serves f g sf.canonical.form sg.canonical.form))

@@ -156,9 +156,11 @@ turns_doubled s t p m n w v k x again fits room =
 
 pub window_up_to : (l m : List Date) (p n a b c : ℕ) (k : ℕ) → AreUpTo a l → AreUpTo b m → a + b ≤ c → IsMagnitudeUpTo c (window (value_listed l) (value_listed m) p n k)
 window_up_to l m p n a b c k hl hm w = up_to_more (a + b) c (window (value_listed l) (value_listed m) p n k) w
-    (greatest_from_up_to (split_of (value_listed l) (value_listed m) k) p (places_to p n k) (a + b) (λ j u. added_up_to a b (value_listed l (p + j)) (value_listed m (k - (p + j))) (hl (p + j)) (hm (k - (p + j)))))
+    (greatest_from_up_to (split_of (value_listed l) (value_listed m) k) p (places_to p n k) (a + b)
+    (λ j u. added_up_to a b (value_listed l (p + j)) (value_listed m (k - (p + j))) (hl (p + j)) (hm (k - (p + j)))))
 
-pub windows_up_to : (l m r : List Date) (p n q : ℕ) → AreUpTo greatest_value_ahead l → AreUpTo greatest_listed m → r ≡ table (window (value_listed l) (value_listed m) p n) q → AreUpTo greatest_moderate r
+pub windows_up_to : (l m r : List Date) (p n q : ℕ) → AreUpTo greatest_value_ahead l → AreUpTo greatest_listed m
+    → r ≡ table (window (value_listed l) (value_listed m) p n) q → AreUpTo greatest_moderate r
 windows_up_to l m r p n q hl hm e = all_up_to greatest_moderate (window (value_listed l) (value_listed m) p n) q r e (λ k w.
     window_up_to l m p n greatest_value_ahead greatest_listed greatest_moderate k hl hm (omega arith))
 

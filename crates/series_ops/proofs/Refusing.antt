@@ -23,7 +23,9 @@ great f v need (inr h) fits =
     let high : greatest_value < unsigned_abs v = h.great in
     absurd (omega arith)
 
-pub gain_refused : {M : Type 0} (need : ℕ) (f : Form) (value : M) (why : SeriesRefused) (r : Refused) → series.AnswersForm need f (Err why) → IsElementRefusal why r → Answers true (Fits need f) value (Err r)
-gain_refused {M} need f value (TooLong n) r h e = subst (λ (z : Refused). Answers true (Fits need f) value (Err z)) (sym e) (λ fits. let a : need ≤ 20000 = fits.short in let b : 20000 < need = h in absurd (omega arith))
+pub gain_refused : {M : Type 0} (need : ℕ) (f : Form) (value : M) (why : SeriesRefused) (r : Refused)
+    → series.AnswersForm need f (Err why) → IsElementRefusal why r → Answers true (Fits need f) value (Err r)
+gain_refused {M} need f value (TooLong n) r h e = subst (λ (z : Refused). Answers true (Fits need f) value (Err z)) (sym e)
+    (λ fits. let a : need ≤ 20000 = fits.short in let b : 20000 < need = h in absurd (omega arith))
 gain_refused {M} need f value (TooGreat v) r h e = subst (λ (z : Refused). Answers true (Fits need f) value (Err z)) (sym e) (λ fits. great f v need h.1 fits)
 gain_refused {M} need f value OutOfMemory r h e = subst (λ (z : Refused). Answers true (Fits need f) value (Err z)) (sym e) (search rules)

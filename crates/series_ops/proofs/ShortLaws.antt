@@ -24,23 +24,29 @@ pub shorts_pushed : (l n m : List ℤ) (d : Date) → AreShortOf l n → length 
 shorts_pushed l n m d h e low way = ⊎_elim
     (λ same. subst (λ (z : List ℤ). AreShortOf z (n ++ cell_of_date d ∷ [])) (sym same) (shorts_kept l n (cell_of_date d) h))
     (λ more. subst (λ (z : List ℤ). AreShortOf z (n ++ cell_of_date d ∷ [])) (sym more.0) (record {
-      fits = let a : length (l ++ short_of d ∷ []) ≡ length l + 1 = length-append l (short_of d ∷ []) in let b : length (n ++ cell_of_date d ∷ []) ≡ length n + 1 = length-append n (cell_of_date d ∷ []) in omega arith;
+      fits = let a : length (l ++ short_of d ∷ []) ≡ length l + 1 =
+          length-append l (short_of d ∷ []) in let b : length (n ++ cell_of_date d ∷ []) ≡ length n + 1 = length-append n (cell_of_date d ∷ []) in omega arith;
       short = cells_more short_scale l (short_of d) h.short (is_cell short_scale d more.1);
       same = λ k w. ⊎_elim
-          (λ here. ap date_of_short_cell (get_or_append_left l (short_of d ∷ []) (pos 0) k here) ∙ h.same k here ∙ ap date_of_far_cell (sym (get_or_append_left n (cell_of_date d ∷ []) (pos 0) k (omega arith))))
+          (λ here. ap date_of_short_cell (get_or_append_left l (short_of d ∷ []) (pos 0) k here) ∙ h.same k here
+          ∙ ap date_of_far_cell (sym (get_or_append_left n (cell_of_date d ∷ []) (pos 0) k (omega arith))))
           (λ last.
           let a : length (l ++ short_of d ∷ []) ≡ length l + 1 = length-append l (short_of d ∷ []) in
           let at : length l ≡ k = omega arith in
           let there : length n ≡ k = omega arith in
-          ap date_of_short_cell (get_or_push l (short_of d) (pos 0) k at) ∙ kept short_scale d more.1 ∙ sym (kept long_scale d low) ∙ ap date_of_far_cell (sym (get_or_push n (cell_of_date d) (pos 0) k there)))
+          ap date_of_short_cell (get_or_push l (short_of d) (pos 0) k at) ∙ kept short_scale d more.1 ∙ sym (kept long_scale d low)
+          ∙ ap date_of_far_cell (sym (get_or_push n (cell_of_date d) (pos 0) k there)))
           (cases_lt k (length l));
     }))
     way
 
 -- their splits are those of the dates
 pub short_splits : (l r n o : List ℤ) (k p m : ℕ) → AreShortOf l n → AreShortOf r o → p + m ≤ length l → k < length r
-    → greatest_from (split_of (value_listed (map date_of_short_cell l)) (value_listed (map date_of_short_cell r)) k) p m ≡ greatest_from (split_of (value_listed (map date_of_far_cell n)) (value_listed (map date_of_far_cell o)) k) p m
-short_splits l r n o k p m hl hr wl wr = greatest_same (split_of (value_listed (map date_of_short_cell l)) (value_listed (map date_of_short_cell r)) k) (split_of (value_listed (map date_of_far_cell n)) (value_listed (map date_of_far_cell o)) k) p p m (λ j w.
+    → greatest_from (split_of (value_listed (map date_of_short_cell l)) (value_listed (map date_of_short_cell r)) k) p m ≡ greatest_from
+    (split_of (value_listed (map date_of_far_cell n)) (value_listed (map date_of_far_cell o)) k) p m
+short_splits l r n o k p m hl hr wl wr = greatest_same
+    (split_of (value_listed (map date_of_short_cell l)) (value_listed (map date_of_short_cell r)) k)
+    (split_of (value_listed (map date_of_far_cell n)) (value_listed (map date_of_far_cell o)) k) p p m (λ j w.
     let a : length l ≤ length n = hl.fits in
     let b : length r ≤ length o = hr.fits in
     let first : value_listed (map date_of_short_cell l) (p + j) ≡ value_listed (map date_of_far_cell n) (p + j) =

@@ -110,16 +110,20 @@ parted_listed f t k p d ep ed =
 
 -- the splits whose first part is in the tail and in the list
 tail_listed : (f : Form) (t : ℕ → Date) (k : ℕ) → f.period ≤ size_of f
-    → greatest_from (split_of (value_listed f.values) t k) (repeat_start f) (places_to (repeat_start f) f.period k) ≡ greatest_from (split_of (value_at f) t k) (repeat_start f) (places_to (repeat_start f) f.period k)
-tail_listed f t k fits = let inside : repeat_start f + places_to (repeat_start f) f.period k ≤ size_of f = omega arith in listed_splits f t k (repeat_start f) (places_to (repeat_start f) f.period k) inside
+    → greatest_from (split_of (value_listed f.values) t k) (repeat_start f) (places_to (repeat_start f) f.period k) ≡ greatest_from
+    (split_of (value_at f) t k) (repeat_start f) (places_to (repeat_start f) f.period k)
+tail_listed f t k fits = let inside : repeat_start f + places_to (repeat_start f) f.period k ≤ size_of f =
+    omega arith in listed_splits f t k (repeat_start f) (places_to (repeat_start f) f.period k) inside
 
 -- below a period they are all
-pub tail_begun : (f : Form) (t : ℕ → Date) (k : ℕ) → f.period ≤ size_of f → k < f.period → greatest_from (split_of (value_listed f.values) t k) (repeat_start f) (places_to (repeat_start f) f.period k) ≡ tail_product f t k
+pub tail_begun : (f : Form) (t : ℕ → Date) (k : ℕ) → f.period ≤ size_of f → k < f.period
+    → greatest_from (split_of (value_listed f.values) t k) (repeat_start f) (places_to (repeat_start f) f.period k) ≡ tail_product f t k
 tail_begun f t k fits w = tail_listed f t k fits ∙ sym (product_begun (value_at f) t (repeat_start f) f.period k w)
 
 -- from there on the others are those of a period before, a step later
 pub tail_carried : (f : Form) (t : ℕ → Date) (k : ℕ) (l : List Date) → 0 < f.period → f.period ≤ size_of f → l ≡ table (tail_product f t) k → f.period ≤ k
-    → later_of (greatest_from (split_of (value_listed f.values) t k) (repeat_start f) (places_to (repeat_start f) f.period k)) (date_product (At f.step) (value_listed l (k - f.period))) ≡ tail_product f t k
+    → later_of (greatest_from (split_of (value_listed f.values) t k) (repeat_start f) (places_to (repeat_start f) f.period k))
+    (date_product (At f.step) (value_listed l (k - f.period))) ≡ tail_product f t k
 tail_carried f t k l pos_n fits e w =
     let before : date_product (At f.step) (value_listed l (k - f.period)) ≡ move f.step (tail_product f t (k - f.period)) =
     product_is_move f.step (value_listed l (k - f.period)) ∙ ap (move f.step) (listed_is (tail_product f t) k l e (k - f.period) (omega arith)) in

@@ -1,5 +1,6 @@
 -- The star by its first values.
-use Rattle.std.proofs.Common.{◌≡◌, refl, ap, arith, ℕ, ℤ, pos, negsuc, zero, suc, ◌+◌, ◌*◌, ◌-◌, ◌≤◌, ◌<◌, ◌+ℤ◌, ◌-ℤ◌, sym, ◌∙◌, subst, ⊎_elim, ◌⊎◌, inl, inr, List, [], ◌∷◌, length, get_or, take, true, false, ltb, cond, Result, Ok, Err, to_z, of_z}
+use Rattle.std.proofs.Common.{◌≡◌, refl, ap, arith, ℕ, ℤ, pos, negsuc, zero, suc, ◌+◌, ◌*◌, ◌-◌, ◌≤◌, ◌<◌, ◌+ℤ◌, ◌-ℤ◌, sym, ◌∙◌, subst, ⊎_elim, ◌⊎◌}
+use Rattle.std.proofs.Common.{inl, inr, List, [], ◌∷◌, length, get_or, take, true, false, ltb, cond, Result, Ok, Err, to_z, of_z}
 use Rattle.std.specs.Int.{w128}
 use Rattle.std.proofs.lemmas.Int.{to_z-of_z, ints}
 use Rattle.std.specs.Int.RustNames.{unsigned_abs}
@@ -84,9 +85,11 @@ module _ (f : Form) (h : IsSeries f) (l : List Date) (e : l ≡ table (later_par
 
   -- the sums whose first part is in the tail, by the star so far
   pub later_tails : (k : ℕ) (m : List Date) → m ≡ table (parts_star (value_at f)) (k + 1) → (i : ℕ) → i ≤ k → tail_product later (value_listed m) i ≡ tail_product later (parts_star (value_at f)) i
-  later_tails k m em i w = product_from_same (value_at later) (value_listed m) (parts_star (value_at f)) (repeat_start later) i (λ j u. listed_is (parts_star (value_at f)) (k + 1) m em j (omega arith))
+  later_tails k m em i w = product_from_same (value_at later) (value_listed m) (parts_star (value_at f)) (repeat_start later) i
+      (λ j u. listed_is (parts_star (value_at f)) (k + 1) m em j (omega arith))
 
-  pub later_carried : (k : ℕ) (m d : List Date) → m ≡ table (parts_star (value_at f)) (k + 1) → d ≡ table (tail_product later (parts_star (value_at f))) k → d ≡ table (tail_product later (value_listed m)) k
+  pub later_carried : (k : ℕ) (m d : List Date) → m ≡ table (parts_star (value_at f)) (k + 1)
+      → d ≡ table (tail_product later (parts_star (value_at f))) k → d ≡ table (tail_product later (value_listed m)) k
   later_carried k m d em ed = ed ∙ table_same (tail_product later (parts_star (value_at f))) (tail_product later (value_listed m)) k (λ i w. sym (later_tails k m em i (omega arith)))
 
   pub later_tails_up : (k : ℕ) (d : List Date) → k ≤ 20000 → d ≡ table (tail_product later (parts_star (value_at f))) k → AreUpTo greatest_moderate d
@@ -103,7 +106,8 @@ module _ (f : Form) (h : IsSeries f) (l : List Date) (e : l ≡ table (later_par
       let from : p ≡ repeat_start later = ep ∙ (let u : length l ≡ size_of f = later_size in omega arith) in
       ap (later_of (At (pos 0))) (parted_listed later (value_listed m) k p d from ed
       ∙ ap (λ (z : ℕ → Date). product_at z (value_listed m) k) later_is
-      ∙ product_same (later_part (value_at f)) (value_listed m) (later_part (value_at f)) (parts_star (value_at f)) k (λ i u. refl) (λ i u. listed_is (parts_star (value_at f)) (k + 1) m em i (omega arith)))
+      ∙ product_same (later_part (value_at f)) (value_listed m) (later_part (value_at f)) (parts_star (value_at f)) k (λ i u. refl)
+      (λ i u. listed_is (parts_star (value_at f)) (k + 1) m em i (omega arith)))
       ∙ star_first (value_at f) h.canonical.form.rising (suc k)
 
 pub star_tabled : (f : Form) (r : NeedPlan) (l : List Date) → IsSeries f → Le (value_at f 0) (At (pos 0)) → r ≡ star_plan f → need_of r ≤ 20000 → l ≡ table (parts_star (value_at f)) (need_of r + 1)
@@ -147,7 +151,8 @@ moved_to m (At s) (At t) h k = let e : s +ℤ (t -ℤ s) ≡ t = omega (arith, i
 moved_to m (At s) Never h k = let e : s +ℤ pos 0 ≡ s = omega (arith, ints) in subst (λ (z : ℤ). unsigned_abs z ≤ m) (sym e) h
 moved_to m Never b h k = tt
 
-pub begun_up_to : (m : ℕ) (l : List Date) (n : ℕ) (next : Date) → 0 < n → n ≤ length l → AreUpTo m l → IsMagnitudeUpTo m next → (k : ℕ) → k ≤ length l → IsMagnitudeUpTo m (value_at (form_before l n next) k)
+pub begun_up_to : (m : ℕ) (l : List Date) (n : ℕ) (next : Date) → 0 < n → n ≤ length l → AreUpTo m l → IsMagnitudeUpTo m next → (k : ℕ)
+    → k ≤ length l → IsMagnitudeUpTo m (value_at (form_before l n next) k)
 begun_up_to m l n next pos_n fits low last k w = ⊎_elim
     (λ short. subst (λ (z : Date). IsMagnitudeUpTo m z) (sym (value_in (form_before l n next) k short)) (low k))
     (λ long.
@@ -159,7 +164,8 @@ begun_up_to m l n next pos_n fits low last k w = ⊎_elim
     subst (λ (z : Date). IsMagnitudeUpTo m z) (sym e) (moved_to m (get_or l (length l - n) Early) next (low (length l - n)) last))
     (cases_lt k (length l))
 
-pub part_step : (m : ℕ) (l : List Date) (n : ℕ) (next : Date) (g : Form) → 0 < n → n ≤ length l → AreUpTo m l → IsMagnitudeUpTo m next → IsCanonical g → HasValues g (value_at (form_before l n next)) → size_of g ≤ length l → unsigned_abs g.step ≤ m + m
+pub part_step : (m : ℕ) (l : List Date) (n : ℕ) (next : Date) (g : Form) → 0 < n → n ≤ length l → AreUpTo m l → IsMagnitudeUpTo m next
+    → IsCanonical g → HasValues g (value_at (form_before l n next)) → size_of g ≤ length l → unsigned_abs g.step ≤ m + m
 part_step m l n next g pos_n fits low last cg has short = step_of_tail g m cg (λ k w.
     subst (λ (z : Date). IsMagnitudeUpTo m z) (sym (has k)) (begun_up_to m l n next pos_n fits low last k (omega arith)))
 
@@ -170,7 +176,8 @@ taken_up_to m k l fits low i = ⊎_elim
     (cases_lt i k)
 
 -- what the plan by the canonical part asks
-pub part_ready : (l m : List Date) (n : ℕ) (next : Date) (s : Shape) → IsBeginning l n next → IsCanonicalPart l n next s → AreUpTo greatest_value_ahead l → IsMagnitudeUpTo greatest_value_ahead next → m ≡ take s.size l
+pub part_ready : (l m : List Date) (n : ℕ) (next : Date) (s : Shape) → IsBeginning l n next → IsCanonicalPart l n next s
+    → AreUpTo greatest_value_ahead l → IsMagnitudeUpTo greatest_value_ahead next → m ≡ take s.size l
     → (0 < s.period) × (length m ≤ 20000) × (s.period ≤ length m) × (unsigned_abs (to_z w128 (of_z w128 s.step)) ≤ greatest_part_value) × AreUpTo greatest_part_value m
 part_ready l m n next s b h low last e =
     let size : length (take s.size l) ≡ s.size = length-take-le s.size l h.fits in

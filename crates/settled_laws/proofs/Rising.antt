@@ -16,7 +16,8 @@ use Rattle.settled_laws.proofs.Settling.{available_again}
 use Rattle.settled_laws.proofs.Tails.{never_past, early_past}
 
 -- a date that falls behind at each period is overtaken
-overtaken : (s : System) (x : Dating) (after period most : ℕ) (step : ℕ → ℤ) → IsFeasibleIn s x → Repeats x after period step → (i : ℕ) → i < length s.places → (get_or s.places i no_place).tokens ≤ most
+overtaken : (s : System) (x : Dating) (after period most : ℕ) (step : ℕ → ℤ) → IsFeasibleIn s x → Repeats x after period step → (i : ℕ)
+    → i < length s.places → (get_or s.places i no_place).tokens ≤ most
     → (step (get_or s.places i no_place).to.index +ℤ pos 1) ≤ℤ step (get_or s.places i no_place).from.index
     → (n k : ℕ) (a b : ℤ) → after + most < k → available s x (get_or s.places i no_place) k ≡ At a → x (get_or s.places i no_place).to.index k ≡ At b → b ≤ℤ (a +ℤ pos n) → ⊥
 overtaken s x after period most step f h i within few steep zero k a b l ea eb gap =

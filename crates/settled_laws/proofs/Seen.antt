@@ -72,7 +72,8 @@ gone_repeats x after end period step o fits h = record {
       (cases_lt end (k + period));
 }
 
-climbs_to : (x y : Dating) (after end period : ℕ) (step : ℕ → ℤ) → Climbing x → Repeats y after period step → after + period < end → ((t k : ℕ) → k ≤ end → y t k ≡ x t k) → (n t k : ℕ) → k ≤ n → 1 ≤ k → IsAtMostDate (y t k) (y t (k + 1))
+climbs_to : (x y : Dating) (after end period : ℕ) (step : ℕ → ℤ) → Climbing x → Repeats y after period step → after + period < end
+    → ((t k : ℕ) → k ≤ end → y t k ≡ x t k) → (n t k : ℕ) → k ≤ n → 1 ≤ k → IsAtMostDate (y t k) (y t (k + 1))
 climbs_to x y after end period step c r fits h zero t k l o = absurd (omega arith)
 climbs_to x y after end period step c r fits h (suc n) t k l o =
     let one = r.at_least_one in
@@ -96,7 +97,8 @@ abbrev pub IsAlike : System → Dating → ℕ → ℕ → (ℕ → ℤ) → ℕ
 IsAlike s x after period step t = HasNoRelease s t ⊎ (FollowsRelease s x t × ((k : ℕ) → after < k → s.release t (k + period) ≡ move (step t) (s.release t k)))
 
 pub accepted_repeats :
-    (s : System) (bound : ℕ) (r : ℕ → ℕ) (after period most : ℕ) (step : ℕ → ℤ) → AreRanks s.places bound r → Climbing (least_over s bound r) → 1 ≤ period → 1 ≤ most → All (λ p. p.tokens ≤ most) s.places
+    (s : System) (bound : ℕ) (r : ℕ → ℕ) (after period most : ℕ) (step : ℕ → ℤ) → AreRanks s.places bound r
+    → Climbing (least_over s bound r) → 1 ≤ period → 1 ≤ most → All (λ p. p.tokens ≤ most) s.places
     → ((t k : ℕ) → after < k → k + period ≤ after + most + period + period → least_over s bound r t (k + period) ≡ move (step t) (least_over s bound r t k))
     → All (IsRisingAt (least_over s bound r) (after + most + period + period) step) s.places
     → ((t : ℕ) → IsAlike s (least_over s bound r) after period step t)
@@ -179,7 +181,8 @@ form_is_rising_at s x after period most end step f c tokens h l i within =
     e)
     (form_is_rising s x after period most step f c tokens h i within)
 
-pub form_is_alike : (s : System) (x : Dating) (after period : ℕ) (step : ℕ → ℤ) (t : ℕ) → HasNoRelease s t ⊎ FollowsRelease s x t → Repeats x after period step → (k : ℕ) → after < k → s.release t (k + period) ≡ move (step t) (s.release t k)
+pub form_is_alike : (s : System) (x : Dating) (after period : ℕ) (step : ℕ → ℤ) (t : ℕ) → HasNoRelease s t ⊎ FollowsRelease s x t
+    → Repeats x after period step → (k : ℕ) → after < k → s.release t (k + period) ≡ move (step t) (s.release t k)
 form_is_alike s x after period step t k h i l =
     let one = h.at_least_one in
     ⊎_elim

@@ -42,7 +42,8 @@ attained_is_least s bound r y rr f all =
     only_least_in s y (least_over s bound r) (tight_is_least_in s y bound r rr f tight) (least_over_is_least s bound r rr)
 
 -- when the tokens of a place are available past the window
-pub available_again : (s : System) (y : Dating) (after period most : ℕ) (step : ℕ → ℤ) → Repeats y after period step → (p : Place) (k : ℕ) → p.tokens ≤ most → after + most < k → available s y p (k + period) ≡ move (step p.from.index) (available s y p k)
+pub available_again : (s : System) (y : Dating) (after period most : ℕ) (step : ℕ → ℤ) → Repeats y after period step
+    → (p : Place) (k : ℕ) → p.tokens ≤ most → after + most < k → available s y p (k + period) ≡ move (step p.from.index) (available s y p k)
 available_again s y after period most step h p k few l =
     let now : ltb p.tokens k ≡ true = grind (arith, nat_tests) in
     let next : ltb p.tokens (k + period) ≡ true = grind (arith, nat_tests) in
@@ -78,7 +79,8 @@ rising_at s y after most step p k h few l =
     b)
     h
 
-feasible_on : (s : System) (x y : Dating) (after period most : ℕ) (step : ℕ → ℤ) → IsFeasibleIn s x → IsSeen s x y after period most step → (n k : ℕ) → k ≤ n → 1 ≤ k → All (λ p. IsAtMostDate (available s y p k) (y p.to.index k)) s.places
+feasible_on : (s : System) (x y : Dating) (after period most : ℕ) (step : ℕ → ℤ) → IsFeasibleIn s x
+    → IsSeen s x y after period most step → (n k : ℕ) → k ≤ n → 1 ≤ k → All (λ p. IsAtMostDate (available s y p k) (y p.to.index k)) s.places
 feasible_on s x y after period most step f h zero k l o i d within = absurd (omega arith)
 feasible_on s x y after period most step f h (suc n) k l o i d within =
     let p : Place = get_or s.places i d in
@@ -117,8 +119,10 @@ attained_more s x y after period most step f h t k i l a =
     let its : available s y p (j + period) ≡ move (step p.from.index) (available s y p j) = available_again s y after period most step h.repeats p j few (omega arith) in
     let rise = rising_at s y after most step p j (h.rises i no_place a.within) few (omega arith) in
     let twice = moved_again (step p.from.index) (step p.to.index) (available s y p j) (y p.to.index j) before rise (sym own ∙ (attained_here ∙ its)) in
-    let own2 : y p.to.index ((j + period) + period) ≡ move (step p.to.index) (move (step p.to.index) (y p.to.index j)) = h.repeats.again p.to.index (j + period) (omega arith) ∙ ap (move (step p.to.index)) own in
-    let its2 : available s y p ((j + period) + period) ≡ move (step p.from.index) (move (step p.from.index) (available s y p j)) = available_again s y after period most step h.repeats p (j + period) few (omega arith) ∙ ap (move (step p.from.index)) its in
+    let own2 : y p.to.index ((j + period) + period) ≡ move (step p.to.index) (move (step p.to.index) (y p.to.index j)) =
+    h.repeats.again p.to.index (j + period) (omega arith) ∙ ap (move (step p.to.index)) own in
+    let its2 : available s y p ((j + period) + period) ≡ move (step p.from.index) (move (step p.from.index) (available s y p j)) =
+    available_again s y after period most step h.repeats p (j + period) few (omega arith) ∙ ap (move (step p.from.index)) its in
     let there : y p.to.index (k + period) ≡ available s y p (k + period) = subst (λ z. y p.to.index (z + period) ≡ available s y p (z + period)) k_is (own2 ∙ (twice ∙ sym its2)) in
     record { within = a.within; ends = a.ends; same = sym (ap (λ z. y z (k + period)) a.ends) ∙ there }
 

@@ -100,7 +100,8 @@ tail_on f after period s d one stays h tail (suc n) k l m =
     (λ (q : k ≤ after + period). tail k m q)
     (cases_lt (after + period) k)
 
-tail_stays : (f : ℕ → Date) (after from period : ℕ) (s : ℤ) (d : Date) → 1 ≤ period → after ≤ from → move s d ≡ d → move (pos 0) d ≡ d → RowRepeats f after period s → IsTail f after period d → RowRepeats f from period (pos 0)
+tail_stays : (f : ℕ → Date) (after from period : ℕ) (s : ℤ) (d : Date) → 1 ≤ period → after ≤ from → move s d ≡ d → move (pos 0) d ≡ d
+    → RowRepeats f after period s → IsTail f after period d → RowRepeats f from period (pos 0)
 tail_stays f after from period s d one low stays stays' h tail k l =
     let all : (j : ℕ) → after < j → f j ≡ d = λ j m. tail_on f after period s d one stays h tail j j (omega arith) m in
     all (k + period) (omega arith) ∙ (sym stays' ∙ ap (move (pos 0)) (sym (all k (omega arith))))
@@ -139,7 +140,9 @@ made_is_shortest c x after period s stands least_p least_a = (
 pub shortest_exists : (c : ℕ) (x : Dating) (g : SettledForm) → StandsFor c g x → (f : SettledForm) × IsShortestForm c f x × IsSettlingLength c x (settled_length f)
 shortest_exists c x g h =
     let one = h.repeats.at_least_one in
-    let best : HasLeastPeriod c x g.after g.period = least_from c x g.after g.period (step_of_form g) h.repeats (g.period - 1) 1 (omega arith) (omega arith) (λ j s l r. absurd (let two = r.at_least_one in omega arith)) in
+    let best : HasLeastPeriod c x g.after g.period =
+    least_from c x g.after g.period (step_of_form g) h.repeats (g.period - 1) 1 (omega arith) (omega arith)
+    (λ j s l r. absurd (let two = r.at_least_one in omega arith)) in
     let s : ℕ → ℤ = neat_step x g.after best.period g.period in
     let low : HasLeastAfter c x g.after best.period s = lowest c x best.period s g.after best.repeats in
     made_is_shortest c x low.after best.period s
@@ -235,7 +238,8 @@ shortest_is_one c x climbs f g a b =
     same_list Early (row_of f t) (row_of g t) (omega (arith, wide, wide', long))
     (λ i m.
     let back : (i + 1) - 1 ≡ i = omega arith in
-    let here : row_date f t (i + 1) ≡ row_date g t (i + 1) = a.stands.dates t (i + 1) in' (omega arith) (omega (arith, wide)) ∙ sym (b.stands.dates t (i + 1) in' (omega arith) (omega (arith, wide, long))) in
+    let here : row_date f t (i + 1) ≡ row_date g t (i + 1) = a.stands.dates t (i + 1) in' (omega arith) (omega (arith, wide))
+    ∙ sym (b.stands.dates t (i + 1) in' (omega arith) (omega (arith, wide, long))) in
     rw back at here)) in
     let steps_are : f.steps ≡ g.steps = same_list (pos 0) f.steps g.steps (fs.steps_are ∙ sym gs.steps_are)
     (λ t l.

@@ -44,8 +44,10 @@ tight_or_not net b period step (c ∷ cs) all =
     ⊎_elim
     (λ (t : Tight net b period step). inl t)
     (λ (rest : period * sum_by (λ x. time_of net x) cs + length cs ≤ step * sum_by (λ x. tokens_of net x) cs).
-    let time : period * sum_by (λ x. time_of net x) (c ∷ cs) ≡ period * time_of net c + period * sum_by (λ x. time_of net x) cs = ap (λ z. period * z) (sum_by-cons (λ x. time_of net x) c cs) ∙ times_add period (time_of net c) (sum_by (λ x. time_of net x) cs) in
-    let tokens : step * sum_by (λ x. tokens_of net x) (c ∷ cs) ≡ step * tokens_of net c + step * sum_by (λ x. tokens_of net x) cs = ap (λ z. step * z) (sum_by-cons (λ x. tokens_of net x) c cs) ∙ times_add step (tokens_of net c) (sum_by (λ x. tokens_of net x) cs) in
+    let time : period * sum_by (λ x. time_of net x) (c ∷ cs) ≡ period * time_of net c + period * sum_by (λ x. time_of net x) cs =
+    ap (λ z. period * z) (sum_by-cons (λ x. time_of net x) c cs) ∙ times_add period (time_of net c) (sum_by (λ x. time_of net x) cs) in
+    let tokens : step * sum_by (λ x. tokens_of net x) (c ∷ cs) ≡ step * tokens_of net c + step * sum_by (λ x. tokens_of net x) cs =
+    ap (λ z. step * z) (sum_by-cons (λ x. tokens_of net x) c cs) ∙ times_add step (tokens_of net c) (sum_by (λ x. tokens_of net x) cs) in
     inr (omega arith))
     (tight_or_not net b period step cs (λ i d m. all (suc i) d (omega arith))))
     (λ (l : step * tokens_of net c ≤ period * time_of net c). inl (c, all 0 c (omega arith), l))
@@ -90,12 +92,15 @@ too_far nu step within c j k0 at s nexts tq mq times tokens many t q constant n1
     let p1 : nu * c + nu * (j * step) ≡ nu * at + (nu * tq + nu * times) =
     sym (times_add nu c (j * step)) ∙ (ap (λ z. nu * z) e1 ∙ (times_add nu at (tq + times) ∙ ap (λ z. nu * at + z) (times_add nu tq times))) in
     let p2 : step * k0 + step * (j * nu) ≡ (step * s + (step * mq + step * tokens)) + step * nexts =
-    sym (times_add step k0 (j * nu)) ∙ (ap (λ z. step * z) e2 ∙ (times_add step (s + (mq + tokens)) nexts ∙ ap (λ z. z + step * nexts) (times_add step s (mq + tokens) ∙ ap (λ z. step * s + z) (times_add step mq tokens)))) in
+    sym (times_add step k0 (j * nu)) ∙ (ap (λ z. step * z) e2
+    ∙ (times_add step (s + (mq + tokens)) nexts ∙ ap (λ z. z + step * nexts)
+    (times_add step s (mq + tokens) ∙ ap (λ z. step * s + z) (times_add step mq tokens)))) in
     let same : nu * (j * step) ≡ step * (j * nu) = grind arith in
     let wide_q = times_le nu tq q tq_in in
     let lacks : step * s + step * nexts + many ≤ nu * at + bound = omega (arith, p1, p2, same, e3, wide_q) in
     let more = times_le within (step * s + step * nexts + many) (nu * at + bound) lacks in
-    let left : within * (step * s + step * nexts + many) ≡ (within * (step * s) + within * (step * nexts)) + within * many = times_add within (step * s + step * nexts) many ∙ ap (λ z. z + within * many) (times_add within (step * s) (step * nexts)) in
+    let left : within * (step * s + step * nexts + many) ≡ (within * (step * s) + within * (step * nexts)) + within * many =
+    times_add within (step * s + step * nexts) many ∙ ap (λ z. z + within * many) (times_add within (step * s) (step * nexts)) in
     let right : within * (nu * at + bound) ≡ within * (nu * at) + within * bound = times_add within (nu * at) bound in
     let all : s + within * (step * nexts) + within * many ≤ d = omega (arith, more, left, right, e4) in
     let many_in : many ≤ within * many = at_least within many w1 in
@@ -126,7 +131,8 @@ go_round_or {W} net ok live u x h b k0 nu c step within constant l o n1 s1 w1 go
     let cs = parts.1 in
     let is : IsSplit net w.from path.places b qs cs = parts.2 in
     let start : IsNumberStart (start_of_firing net u w.from w.number) (walk_time net w.steps) (c + j * step) =
-    number_start (start_of_firing net u w.from w.number) (walk_time net w.steps) (c + j * step) (from_zero net u w.from w.number) (ap (delayed (walk_time net w.steps)) (sym w.starts) ∙ (sym w.is ∙ goes j)) in
+    number_start (start_of_firing net u w.from w.number) (walk_time net w.steps) (c + j * step) (from_zero net u w.from w.number)
+    (ap (delayed (walk_time net w.steps)) (sym w.starts) ∙ (sym w.is ∙ goes j)) in
     ⊎_elim
     (λ (tight : Tight net b nu step). inl tight)
     (λ (lacks : nu * sum_by (λ y. time_of net y) cs + length cs ≤ step * sum_by (λ y. tokens_of net y) cs).
@@ -136,7 +142,8 @@ go_round_or {W} net ok live u x h b k0 nu c step within constant l o n1 s1 w1 go
     sum_small (λ y. tokens_of net y) t cs (λ i e m. tokens_round net (get_or cs i e) ok (is.rounds i e m).circuit) in
     ⊎_elim
     (λ (kept : w.number + within * (nu * start.at) ≤ within * (step * w.number) + constant).
-    let far = too_far nu step within c j k0 start.at w.number path.nexts (time_of net qs) (tokens_of net qs) (sum_by (λ y. time_of net y) cs) (sum_by (λ y. tokens_of net y) cs) (length cs) t q constant n1 s1 w1
+    let far = too_far nu step within c j k0 start.at w.number path.nexts (time_of net qs) (tokens_of net qs)
+    (sum_by (λ y. time_of net y) cs) (sum_by (λ y. tokens_of net y) cs) (length cs) t q constant n1 s1 w1
     (omega (arith, start.sum, path.time, time)) (omega (arith, path.number, tokens)) lacks
     kept
     (time_straight net qs w.from b ok l is.path) (tokens_straight net qs w.from b ok l is.path) each in

@@ -22,7 +22,8 @@ pub rule_of : (dates : List ℕ) (o : Option Again) (again : Again) → o ≡ So
 rule_of dates o again e h = subst (λ z. EndsOrGoesOn dates z) e h
 
 -- it grows by its gap in each round
-pub list_grows : (l : InputList) (again : Again) (u : ℕ → Option ℕ) → IsInputDates l u → l.again ≡ Some again → ListGoesOn l.dates again → (i : ℕ) → (v : ℕ) × (u (length l.dates + i * again.every) ≡ Some v) × (i * again.gap ≤ v)
+pub list_grows : (l : InputList) (again : Again) (u : ℕ → Option ℕ) → IsInputDates l u → l.again ≡ Some again → ListGoesOn l.dates again
+    → (i : ℕ) → (v : ℕ) × (u (length l.dates + i * again.every) ≡ Some v) × (i * again.gap ≤ v)
 list_grows l again u h e g zero =
     let is : length l.dates + 0 * again.every ≡ length l.dates = grind arith in
     let none : 0 * again.gap ≡ 0 = grind arith in

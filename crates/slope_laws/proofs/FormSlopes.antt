@@ -54,7 +54,11 @@ forms_have_slopes net ok live x h t after period step l some again =
       slope = λ not_never.
           let date = number_from (x t (after + 1)) (not_before_zero net (listed_releases net) x h.feasible t (after + 1) l (omega arith)) (λ e. not_never (begun e)) in
           let next : x t ((after + 1) + period) ≡ At (pos date.0 +ℤ step) = again (after + 1) (omega arith) ∙ ap (move step) date.1 in
-          let up : IsAtMostDate (At (pos date.0)) (At (pos date.0 +ℤ step)) = at_most_trans (At (pos date.0)) (x t (after + 1)) (At (pos date.0 +ℤ step)) (at_most_is (At (pos date.0)) (x t (after + 1)) (sym date.1)) (at_most_trans (x t (after + 1)) (x t ((after + 1) + period)) (At (pos date.0 +ℤ step)) (climb_many x t climbs (after + 1) period (omega arith)) (at_most_is (x t ((after + 1) + period)) (At (pos date.0 +ℤ step)) next)) in
+          let up : IsAtMostDate (At (pos date.0)) (At (pos date.0 +ℤ step)) =
+          at_most_trans (At (pos date.0)) (x t (after + 1)) (At (pos date.0 +ℤ step))
+          (at_most_is (At (pos date.0)) (x t (after + 1)) (sym date.1))
+          (at_most_trans (x t (after + 1)) (x t ((after + 1) + period)) (At (pos date.0 +ℤ step))
+          (climb_many x t climbs (after + 1) period (omega arith)) (at_most_is (x t ((after + 1) + period)) (At (pos date.0 +ℤ step)) next)) in
           let s = step_from step date.0 up in
           let grows : GrowsBy x t after period s.0 = record {
             some = some;

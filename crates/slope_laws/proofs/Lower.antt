@@ -18,7 +18,8 @@ use Rattle.slope_laws.proofs.Sums.{times_add, times_le}
 use Rattle.slope_laws.proofs.BestWalks.{GoesBy}
 
 -- what a dating carries along a path
-pub path_keeps : (net : NetLists) (x : ℕ → ℕ → Date) → IsNet net → Keeps net x → (ps : List PlaceId) (a b s : ℕ) → 1 ≤ s → IsPathBetween net a ps b → IsAtMostDate (delayed (time_of net ps) (x a s)) (x b (s + tokens_of net ps))
+pub path_keeps : (net : NetLists) (x : ℕ → ℕ → Date) → IsNet net → Keeps net x → (ps : List PlaceId) (a b s : ℕ) → 1 ≤ s
+    → IsPathBetween net a ps b → IsAtMostDate (delayed (time_of net ps) (x a s)) (x b (s + tokens_of net ps))
 path_keeps net x ok c [] a b s o h =
     let is : s + 0 ≡ s = omega arith in
     rw (is, delayed_not (x a s), h) (at_most_refl (x b s))
@@ -72,7 +73,8 @@ lower x b k0 nu c step s0 gain each climbs o n1 s1 goes grows =
     (λ r.
     let m : ℕ = s0 + r * each in
     let far : (s0 + (r * nu) * each) + (k0 + s0 * nu - s0) ≡ k0 + m * nu = reach_is s0 r nu each k0 n1 in
-    let up = at_most_trans (At (pos ((r * nu) * gain))) (x b (s0 + (r * nu) * each)) (x b ((s0 + (r * nu) * each) + (k0 + s0 * nu - s0))) (grows (r * nu)) (climb_many x b climbs (s0 + (r * nu) * each) (k0 + s0 * nu - s0) (omega arith)) in
+    let up = at_most_trans (At (pos ((r * nu) * gain))) (x b (s0 + (r * nu) * each))
+    (x b ((s0 + (r * nu) * each) + (k0 + s0 * nu - s0))) (grows (r * nu)) (climb_many x b climbs (s0 + (r * nu) * each) (k0 + s0 * nu - s0) (omega arith)) in
     let there : IsAtMostDate (At (pos ((r * nu) * gain))) (At (pos (c + m * step))) = rw (far, goes m) at up in
     let low : (r * nu) * gain ≤ c + m * step = omega (arith, ints, there) in
     let left : (r * nu) * gain ≡ r * (nu * gain) = grind arith in
@@ -80,7 +82,8 @@ lower x b k0 nu c step s0 gain each climbs o n1 s1 goes grows =
     omega (arith, low, left, right))
 
 -- a transition on a circuit grows by the time in each so many tokens
-pub round_grows : (net : NetLists) (x : ℕ → ℕ → Date) → IsNet net → Keeps net x → (ps : List PlaceId) (a : ℕ) → IsPathBetween net a ps a → IsAtMostDate (At (pos 0)) (x a 1) → (i : ℕ) → IsAtMostDate (At (pos (i * time_of net ps))) (x a (1 + i * tokens_of net ps))
+pub round_grows : (net : NetLists) (x : ℕ → ℕ → Date) → IsNet net → Keeps net x → (ps : List PlaceId) (a : ℕ) → IsPathBetween net a ps a
+    → IsAtMostDate (At (pos 0)) (x a 1) → (i : ℕ) → IsAtMostDate (At (pos (i * time_of net ps))) (x a (1 + i * tokens_of net ps))
 round_grows net x ok c ps a h zero' zero =
     let none : 0 * time_of net ps ≡ 0 = grind arith in
     let is : 1 + 0 * tokens_of net ps ≡ 1 = grind arith in
@@ -96,7 +99,9 @@ round_grows net x ok c ps a h zero' (suc i) =
     rw (date, is) (at_most_trans (delayed (time_of net ps) (At (pos (i * time_of net ps)))) (delayed (time_of net ps) (x a s)) (x a (s + tokens_of net ps)) up on)
 
 -- what grows at a grows at b
-pub carried : (net : NetLists) (x : ℕ → ℕ → Date) → IsNet net → Keeps net x → (qs : List PlaceId) (a b s gain each : ℕ) → 1 ≤ s → IsPathBetween net a qs b → ((i : ℕ) → IsAtMostDate (At (pos (i * gain))) (x a (s + i * each))) → (i : ℕ) → IsAtMostDate (At (pos (i * gain))) (x b ((s + tokens_of net qs) + i * each))
+pub carried : (net : NetLists) (x : ℕ → ℕ → Date) → IsNet net → Keeps net x → (qs : List PlaceId) (a b s gain each : ℕ) → 1 ≤ s
+    → IsPathBetween net a qs b → ((i : ℕ) → IsAtMostDate (At (pos (i * gain))) (x a (s + i * each))) → (i : ℕ)
+    → IsAtMostDate (At (pos (i * gain))) (x b ((s + tokens_of net qs) + i * each))
 carried net x ok c qs a b s gain each o h grows i =
     let on = path_keeps net x ok c qs a b (s + i * each) (omega arith) h in
     let later = at_most_trans (x a (s + i * each)) (delayed (time_of net qs) (x a (s + i * each))) (x b ((s + i * each) + tokens_of net qs)) (delayed_later (time_of net qs) (x a (s + i * each))) on in

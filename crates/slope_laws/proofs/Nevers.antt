@@ -51,7 +51,8 @@ never_none l again u h e g (suc n) s m o is =
     ⊎_elim
     (λ (q : s ≤ length l.dates). some_is_not (get_or l.dates (s - 1) 0) (sym (h.listed s o q) ∙ is))
     (λ (q : length l.dates < s).
-    never_none l again u h e g n (s - again.every) (omega (arith, g.some, g.enough)) (omega (arith, g.enough)) (moved_none again.gap (u (s - again.every)) (sym (goes_past (length l.dates) l.again again u e h.past s q) ∙ is)))
+    never_none l again u h e g n (s - again.every) (omega (arith, g.some, g.enough)) (omega (arith, g.enough))
+    (moved_none again.gap (u (s - again.every)) (sym (goes_past (length l.dates) l.again again u e h.past s q) ∙ is)))
     (le_or_lt s (length l.dates))
 
 -- an input whose date is never has a list that ends

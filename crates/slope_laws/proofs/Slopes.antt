@@ -54,7 +54,8 @@ attained_at net ok live x h b after nu step l g =
     ⊎_elim
     (λ (e : step ≡ 0). inl e)
     (λ (e : step ≢ 0).
-    inr (go_round_or net ok live (listed_releases net) x h b (after + 1) nu g.date step greatest_every (most_input_dates + greatest_every * (nu * greatest_input_date)) l (omega arith) g.some (omega arith) (omega arith) (goes_by x b after nu step g)
+    inr (go_round_or net ok live (listed_releases net) x h b (after + 1) nu g.date step greatest_every
+    (most_input_dates + greatest_every * (nu * greatest_input_date)) l (omega arith) g.some (omega arith) (omega arith) (goes_by x b after nu step g)
     (λ a s date in' o reaches start. start_behind net ok b nu step (omega arith) a s date o reaches start)))
     (cases_eq step 0)
 
@@ -63,7 +64,8 @@ towards_in : (net : NetLists) → IsNet net → (ps : List PlaceId) (a : ℕ) �
 towards_in net ok [] a h l = absurd (omega arith)
 towards_in net ok (p ∷ ps) a h l = rw h.1 at (ok.each_place p.index no_place h.0).from_in
 
-pub slopes_are_greatest : (net : NetLists) → IsNet net → IsLive net → (x : ℕ → ℕ → Date) → IsLeastDating net x → (b after period step : ℕ) → b < length net.transitions → GrowsBy x b after period step → IsSlope net b period step
+pub slopes_are_greatest : (net : NetLists) → IsNet net → IsLive net → (x : ℕ → ℕ → Date) → IsLeastDating net x
+    → (b after period step : ℕ) → b < length net.transitions → GrowsBy x b after period step → IsSlope net b period step
 slopes_are_greatest net ok live x h b after nu step l g =
     let f = h.feasible in
     let c : Keeps net x = least_keeps net x h in

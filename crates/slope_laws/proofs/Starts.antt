@@ -39,7 +39,8 @@ early_behind nu step s date s1 d =
     omega (arith, one, own)
 
 -- a list that goes on more slowly falls behind
-share_on : (l : InputList) (again : Again) (u : ℕ → Option ℕ) (nu step : ℕ) → 1 ≤ step → IsInputDates l u → l.again ≡ Some again → ListGoesOn l.dates again → All (λ d. d ≤ greatest_input_date) l.dates → nu * again.gap < step * again.every
+share_on : (l : InputList) (again : Again) (u : ℕ → Option ℕ) (nu step : ℕ) → 1 ≤ step → IsInputDates l u → l.again ≡ Some again
+    → ListGoesOn l.dates again → All (λ d. d ≤ greatest_input_date) l.dates → nu * again.gap < step * again.every
     → (n s v : ℕ) → s < n → 1 ≤ s → u s ≡ Some v → Behind nu step s v
 share_on l again u nu step s1 h e g small slow zero s v m o is = absurd (omega arith)
 share_on l again u nu step s1 h e g small slow (suc n) s v m o is =
@@ -61,7 +62,8 @@ share_on l again u nu step s1 h e g small slow (suc n) s v m o is =
     (le_or_lt s long)
 
 -- an input with a list
-list_start : (net : NetLists) → IsNet net → (b nu step s date : ℕ) (l : InputList) → 1 ≤ step → 1 ≤ s → Contains net.inputs l → Reaches net l.transition.index b → input_date net l.transition.index s ≡ Some date
+list_start : (net : NetLists) → IsNet net → (b nu step s date : ℕ) (l : InputList) → 1 ≤ step → 1 ≤ s → Contains net.inputs l
+    → Reaches net l.transition.index b → input_date net l.transition.index s ≡ Some date
     → Behind nu step s date ⊎ KeepsUp net b nu step
 list_start net ok b nu step s date l s1 o has reaches given =
     let u : ℕ → Option ℕ = input_date net l.transition.index in
@@ -104,7 +106,8 @@ same_number : (m n : ℕ) → At (pos m) ≡ At (pos n) → m ≡ n
 same_number m n e = omega (arith, ints, at_most_is (At (pos m)) (At (pos n)) e, at_most_is (At (pos n)) (At (pos m)) (sym e))
 
 -- the start of a firing is a ready date, or 0, or the release of an input
-pub start_behind : (net : NetLists) → IsNet net → (b nu step : ℕ) → 1 ≤ step → (a s date : ℕ) → 1 ≤ s → Reaches net a b → start_of_firing net (listed_releases net) a s ≡ At (pos date) → Behind nu step s date ⊎ KeepsUp net b nu step
+pub start_behind : (net : NetLists) → IsNet net → (b nu step : ℕ) → 1 ≤ step → (a s date : ℕ) → 1 ≤ s → Reaches net a b
+    → start_of_firing net (listed_releases net) a s ≡ At (pos date) → Behind nu step s date ⊎ KeepsUp net b nu step
 start_behind net ok b nu step s1 a s date o reaches start =
     let ready : ℕ = start_date net a s in
     let release : Date = at_input net a (listed_releases net a s) Early in

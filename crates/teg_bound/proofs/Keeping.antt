@@ -95,7 +95,8 @@ module _ (net : NetLists) (r : Fraction) (h : IsAlone net r) where
   some_time : (r.time == 0) ≡ false → 1 ≤ r.time
   some_time e = ⊎_elim (λ (z : r.time ≡ 0). let no : true ≡ false = sym (eq-eqb r.time 0 z) ∙ e in cc) (λ (ne : r.time ≢ 0). omega arith) (cases_eq r.time 0)
 
-  keeps_moving : (hold tokens : ℕ) → All (λ p. p.hold ≤ hold) net.places → All (λ p. p.tokens ≤ tokens) net.places → 1 ≤ tokens → 1 ≤ r.time → FormsKeepBound net r (bound_of (length net.transitions) hold tokens r.time r.tokens)
+  keeps_moving : (hold tokens : ℕ) → All (λ p. p.hold ≤ hold) net.places → All (λ p. p.tokens ≤ tokens) net.places → 1 ≤ tokens
+      → 1 ≤ r.time → FormsKeepBound net r (bound_of (length net.transitions) hold tokens r.time r.tokens)
   keeps_moving hold tokens holds marks one some x least f shortest =
       let law = forms_keep_the_bound net hold tokens r.time r.tokens (strong hold tokens holds marks one some) x least f shortest in
       record {

@@ -48,7 +48,8 @@ ratio_small net r rules live h terms =
 -- what is multiplied and added on the way to the bound
 pub record AreSmall (count hold tokens time per : ℕ) : Type 0 where
   pub straight : (count - 1) * tokens ≤ 399 * most_place_tokens
-  pub product : count * tokens * (per * ((count - 1) * hold) + time * ((count - 1) * tokens + count * tokens)) ≤ most_circuit_tokens * (most_circuit_tokens * (399 * greatest_hold) + greatest_circuit_time * 799000)
+  pub product : count * tokens * (per * ((count - 1) * hold) + time * ((count - 1) * tokens + count * tokens))
+      ≤ most_circuit_tokens * (most_circuit_tokens * (399 * greatest_hold) + greatest_circuit_time * 799000)
 
 pub are_small : {count hold tokens time per : ℕ} → AreReadingsWithin count hold tokens time per → AreSmall count hold tokens time per
 are_small {count} {hold} {tokens} {time} {per} h =

@@ -9,8 +9,11 @@ use Rattle.teg_calc.specs.declared.brackets.Call.TheVariants.{Text, Group, Star 
 use Rattle.teg_calc.specs.declared.tokens.Part.{Part}
 use Rattle.teg_calc.specs.declared.tokens.Part.TheVariants.{Unit as UnitPart, Name, Shift, Delta, Date}
 use Rattle.teg_calc.specs.ExpressionTrees.{Tree, mono, epsilon, unit, never, plus, star, least, left}
-use Rattle.teg_calc.specs.Grammar.{Blanks, AreDigits, ExprText, TermText, FactorText, term, plus_term, factor, times_factor, mono_token, eps_word, e_word, never_word, bracketed, star_of, min_of, left_of, blanks, spaced, minus_text, mono_text, expr_text, term_text, factor_text, expr_tree, term_tree, factor_tree, IsExpression}
-use Rattle.teg_calc.specs.Readers.{Level, level, opened_level, State, state, start, operand, within, operator, step, nested, joined, multiplied, closed, takes_comma, digit_of, date_on, factored, operator_step, finish}
+use Rattle.teg_calc.specs.Grammar.{Blanks, AreDigits, ExprText, TermText, FactorText, term, plus_term, factor, times_factor, mono_token, eps_word}
+use Rattle.teg_calc.specs.Grammar.{e_word, never_word, bracketed, star_of, min_of, left_of, blanks, spaced, minus_text, mono_text, expr_text}
+use Rattle.teg_calc.specs.Grammar.{term_text, factor_text, expr_tree, term_tree, factor_tree, IsExpression}
+use Rattle.teg_calc.specs.Readers.{Level, level, opened_level, State, state, start, operand, within, operator, step, nested, joined, multiplied}
+use Rattle.teg_calc.specs.Readers.{closed, takes_comma, digit_of, date_on, factored, operator_step, finish}
 use Rattle.teg_calc.proofs.Runs.{runs_then, runs_both, operand_blanks, operator_blanks, name_blanks}
 use Rattle.teg_calc.proofs.TextRuns.{run}
 
@@ -20,7 +23,8 @@ use Rattle.teg_calc.proofs.TextRuns.{run}
 pub data IsBehind (o : List Level) (i : Level) (t : Tree) : State → Type 0 where
   ended : IsBehind o i t (state o i (operator t))
   in_unit : (k : Level) → i ≡ level k.call k.first k.sum None → t ≡ multiplied k.product unit → IsBehind o i t (state o k (within UnitPart))
-  in_date : (k : Level) (shift : ℕ) (minus : Bool) (count value : ℕ) → i ≡ level k.call k.first k.sum None → t ≡ multiplied k.product (mono shift minus value) → IsBehind o i t (state o k (within (Date shift minus (suc count) value)))
+  in_date : (k : Level) (shift : ℕ) (minus : Bool) (count value : ℕ) → i ≡ level k.call k.first k.sum None
+      → t ≡ multiplied k.product (mono shift minus value) → IsBehind o i t (state o k (within (Date shift minus (suc count) value)))
 
 -- a byte by which no token goes on
 record IsNoPart (b : ℕ) : Type 0 where

@@ -12,7 +12,8 @@ use Rattle.teg_calc.specs.declared.tokens.Part.{Part}
 use Rattle.teg_calc.specs.declared.tokens.Part.TheVariants.{Letters, Unit as UnitPart, Name, Shift, Delta, Date}
 use Rattle.teg_calc.specs.ExpressionTrees.{Tree, mono, unit}
 use Rattle.teg_calc.specs.Grammar.{Blanks, AreDigits, FactorText, mono_token, e_word, blanks, spaced, mono_text, expr_text, term_text, factor_text, term_tree, factor_tree}
-use Rattle.teg_calc.specs.Readers.{Level, level, State, state, operand, within, operator, nested, joined, multiplied, closed, factor_of, factored, factored_outside, comma_step, close_step, operator_by}
+use Rattle.teg_calc.specs.Readers.{Level, level, State, state, operand, within, operator, nested, joined, multiplied, closed, factor_of, factored}
+use Rattle.teg_calc.specs.Readers.{factored_outside, comma_step, close_step, operator_by}
 use Rattle.teg_calc.proofs.Signs.{IsSign, is_blank, is_close, is_comma, is_plus, is_dot, decide}
 use Rattle.teg_calc.proofs.Holding.{IsHead, IsHeads, IsInside, IsDeeper, IsSumText, IsProductText, IsPartText, IsCallHead, IsSecondHead, Holds}
 use Rattle.teg_calc.proofs.Written.{IsFactorOf, IsTermOf, IsExprOf, with_product, with_sum, tight, closes, term_longer}
@@ -84,7 +85,8 @@ pub with_byte : (o : List Level) (i : Level) (w : List ℕ) (part : Part) (h : H
 with_byte o i w part h x = rw (h.text_is, h.is_last.text_is) (simp append_assoc)
 
 -- a token with one byte more
-pub part_more : (o : List Level) (i : Level) (w x : List ℕ) (part next : Part) (h : Holds (state o i (within part)) w) → IsPartText next (h.is_last.token ++ x) → Holds (state o i (within next)) (w ++ x)
+pub part_more : (o : List Level) (i : Level) (w x : List ℕ) (part next : Part) (h : Holds (state o i (within part)) w)
+    → IsPartText next (h.is_last.token ++ x) → Holds (state o i (within next)) (w ++ x)
 part_more o i w x part next h p = record {
   heads = h.heads;
   sum = h.sum;
@@ -187,7 +189,8 @@ close_factor (m ∷ o) i t e n w h g k =
     reached _ n (w ++ (41 ∷ [])) k
     (subst (λ z. Holds (factored o m z) (w ++ (41 ∷ []))) f.tree_is
     (factor_holds o m (w ++ (41 ∷ [])) d.is_outer.heads d.is_outer.sum d.is_outer.product f.written d.is_outer.is_heads d.is_outer.is_sum d.is_outer.is_product
-    (closed_text w h.heads h.sum h.last d.outer d.own d.is_outer.heads d.is_outer.sum d.is_outer.product (factor_text f.written) (expr_text s.written) h.text_is d.text_is d.is_outer.text_is s.text_is f.text_is)))
+    (closed_text w h.heads h.sum h.last d.outer d.own d.is_outer.heads d.is_outer.sum d.is_outer.product (factor_text f.written)
+    (expr_text s.written) h.text_is d.text_is d.is_outer.text_is s.text_is f.text_is)))
 
 close_step_holds : (o : List Level) (i : Level) (t : Tree) (n : State) (w : List ℕ) → Holds (state o i (operator t)) w
     → close_step o i t ≡ Some n → Holds n (w ++ (41 ∷ []))

@@ -8,7 +8,8 @@ use Rattle.teg_calc.specs.declared.tokens.Word.TheVariants.{Eps, Never as NeverW
 use Rattle.teg_calc.specs.declared.tokens.Part.{Part}
 use Rattle.teg_calc.specs.declared.tokens.Part.TheVariants.{Letters, Unit as UnitPart, Name, Shift, Delta, Date}
 use Rattle.teg_calc.specs.ExpressionTrees.{Tree}
-use Rattle.teg_calc.specs.Grammar.{Blanks, AreDigits, FactorText, term, factor, mono_token, eps_word, e_word, never_word, star_of, min_of, left_of, blanks, expr_text, term_text, factor_text, term_tree, factor_tree, IsExpression, IsBegun}
+use Rattle.teg_calc.specs.Grammar.{Blanks, AreDigits, FactorText, term, factor, mono_token, eps_word, e_word, never_word, star_of, min_of, left_of}
+use Rattle.teg_calc.specs.Grammar.{blanks, expr_text, term_text, factor_text, term_tree, factor_tree, IsExpression, IsBegun}
 use Rattle.teg_calc.specs.Readers.{Level, Stand, State, state, start, operand, within, operator, joined, multiplied, letters_of, factor_of, term_of, finish_by, finish}
 use Rattle.teg_calc.proofs.Holding.{AreDigitsOf, IsPartText, Holds}
 use Rattle.teg_calc.proofs.Written.{IsTermOf, IsExprOf, IsCompleted, with_product, with_sum, completed, tight}
@@ -106,7 +107,8 @@ token_whole (Date shift minus count value) n token h =
 -- ---- texts
 
 -- behind a factor that is written out
-factor_completed : (o : List Level) (i : Level) (stand : Stand) (w own rest : List ℕ) (h : Holds (state o i stand) w) (f : FactorText) → (t : IsTermOf (multiplied i.product (factor_tree f)) (own ++ factor_text f))
+factor_completed : (o : List Level) (i : Level) (stand : Stand) (w own rest : List ℕ) (h : Holds (state o i stand) w) (f : FactorText)
+    → (t : IsTermOf (multiplied i.product (factor_tree f)) (own ++ factor_text f))
     → h.last ++ rest ≡ own ++ factor_text f → IsBegun w
 factor_completed o i stand w own rest h f t e =
     let a : IsExprOf (joined i.sum (term_tree t.written)) (h.sum ++ term_text t.written) = with_sum i.sum h.sum h.is_sum t.written in

@@ -11,7 +11,9 @@ use Rattle.teg_calc.specs.declared.tokens.Part.{Part}
 use Rattle.teg_calc.specs.declared.tokens.Part.TheVariants.{Letters, Unit as UnitPart, Name, Shift, Delta, Date}
 use Rattle.teg_calc.specs.ExpressionTrees.{Tree}
 use Rattle.teg_calc.specs.ParseAnswers.{count_of_byte, open_brackets}
-use Rattle.teg_calc.specs.Readers.{Level, Stand, State, state, start, operand, within, operator, step, takes_comma, sign_of, digit_of, begun_by, letters_of, gone_on, date_on, shift_on, factor_of, factored_outside, operand_by, operator_by, word_end, word_on, letter_by, name_by, token_by, step_by, within_step, behind_step}
+use Rattle.teg_calc.specs.Readers.{Level, Stand, State, state, start, operand, within, operator, step, takes_comma, sign_of, digit_of, begun_by}
+use Rattle.teg_calc.specs.Readers.{letters_of, gone_on, date_on, shift_on, factor_of, factored_outside, operand_by, operator_by, word_end, word_on}
+use Rattle.teg_calc.specs.Readers.{letter_by, name_by, token_by, step_by, within_step, behind_step}
 use Rattle.teg_calc.proofs.Signs.{IsSign, is_open, is_close, sign_is, decide}
 use Rattle.series_ops.proofs.number_laws_proofs.Numbers.{same_number}
 use Rattle.teg_calc.proofs.TextRuns.{run}
@@ -174,7 +176,9 @@ opens_one (within (Name c)) o i n e = one_more _ n o e (omega arith)
 opens_one (within UnitPart) o i n e = absurd (token_opens (gone_on UnitPart 40) (factor_of UnitPart) o i n (gone_none UnitPart 40 open_is_none) e)
 opens_one (within (Shift count value)) o i n e = absurd (token_opens (gone_on (Shift count value) 40) None o i n (gone_none (Shift count value) 40 open_is_none) e)
 opens_one (within (Delta shift)) o i n e = absurd (token_opens (gone_on (Delta shift) 40) None o i n (gone_none (Delta shift) 40 open_is_none) e)
-opens_one (within (Date shift minus count value)) o i n e = absurd (token_opens (gone_on (Date shift minus count value) 40) (factor_of (Date shift minus count value)) o i n (gone_none (Date shift minus count value) 40 open_is_none) e)
+opens_one (within (Date shift minus count value)) o i n e =
+    absurd (token_opens (gone_on (Date shift minus count value) 40) (factor_of (Date shift minus count value)) o i n
+    (gone_none (Date shift minus count value) 40 open_is_none) e)
 opens_one (operator t) o i n e = cc
 
 one_less : (x : Option Tree) (o : List Level) (n : State) → option_and_then (factored_outside o) x ≡ Some n → length n.outer + 1 ≡ length o
@@ -197,7 +201,9 @@ closes_one (within (Name c)) o i n e = cc
 closes_one (within UnitPart) o i n e = token_closes (gone_on UnitPart 41) (factor_of UnitPart) o i n (gone_none UnitPart 41 close_is_none) e
 closes_one (within (Shift count value)) o i n e = token_closes (gone_on (Shift count value) 41) None o i n (gone_none (Shift count value) 41 close_is_none) e
 closes_one (within (Delta shift)) o i n e = token_closes (gone_on (Delta shift) 41) None o i n (gone_none (Delta shift) 41 close_is_none) e
-closes_one (within (Date shift minus count value)) o i n e = token_closes (gone_on (Date shift minus count value) 41) (factor_of (Date shift minus count value)) o i n (gone_none (Date shift minus count value) 41 close_is_none) e
+closes_one (within (Date shift minus count value)) o i n e =
+    token_closes (gone_on (Date shift minus count value) 41) (factor_of (Date shift minus count value)) o i n
+    (gone_none (Date shift minus count value) 41 close_is_none) e
 closes_one (operator t) o i n e = one_less _ o n e
 
 -- ---- texts

@@ -137,7 +137,8 @@ pub whole_shallow : (text : List ℕ) (at : ℕ) → length text ≤ at → IsSh
 whole_shallow text at h shallow j low deep = shallow j (omega arith) deep
 
 -- what is told where the text ends before an expression does
-pub told_at_end : (text : List ℕ) (s : State) (stop : Stop) → run start text ≡ Some s → Finishes (finish s) (Err stop) → IsShallow text (length text) → IsParseOf text (Err (refused_at (length text) stop))
+pub told_at_end : (text : List ℕ) (s : State) (stop : Stop) → run start text ≡ Some s → Finishes (finish s) (Err stop)
+    → IsShallow text (length text) → IsParseOf text (Err (refused_at (length text) stop))
 told_at_end text s Unexpected e g shallow = fault_at_end text s e g shallow
 told_at_end text s TooDeep e g shallow = absurd g
 told_at_end text s OutOfMemory e g shallow = tt

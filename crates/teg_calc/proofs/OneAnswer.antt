@@ -107,7 +107,8 @@ both_one A B op a b o r s h k =
     let first : op k.left h.right r = subst (λ z. op z h.right r) e h.answer in
     o k.left k.right r s (subst (λ z. op k.left z r) g first) k.answer
 
-in_order_one : (A B : Result Form SeriesRefused → Type 0) (op : Form → Form → Result Form SeriesRefused → Type 0) → HasOne A → HasOne B → ((f g : Form) → HasOne (op f g)) → HasOne (AnswersInOrder A B op)
+in_order_one : (A B : Result Form SeriesRefused → Type 0) (op : Form → Form → Result Form SeriesRefused → Type 0) → HasOne A → HasOne B
+    → ((f g : Form) → HasOne (op f g)) → HasOne (AnswersInOrder A B op)
 in_order_one A B op a b o (Ok r) (Ok s) h k = both_one A B op a b o (Ok r) (Ok s) h k
 in_order_one A B op a b o (Ok r) (Err why) h (inl x) = inr (inr (clash A a h.left why h.is_left x))
 in_order_one A B op a b o (Ok r) (Err why) h (inr (inl x)) = inr (inr (clash B b h.right why h.is_right x.refused))

@@ -10,7 +10,9 @@ use Rattle.teg_text.proofs.Joining.{further_both}
 use Rattle.teg_calc.specs.Printing.{series_line}
 
 -- the line is the word, the dates, and the period and the step
-pub line_is : (values : List Date) (period : ℕ) (step : ℤ) → (codes "series" ++ flat_map (λ date. 32 ∷ date_word date) values) ++ (codes " period " ++ (decimal period ++ (codes " step " ++ (signed_decimal step ++ (10 ∷ [])))))
+pub line_is : (values : List Date) (period : ℕ) (step : ℤ)
+    → (codes "series" ++ flat_map (λ date. 32 ∷ date_word date) values) ++ (codes
+    " period " ++ (decimal period ++ (codes " step " ++ (signed_decimal step ++ (10 ∷ [])))))
     ≡ written (series_line (form_with values period step) ∷ [])
 line_is values period step =
     append_assoc (codes "series") (flat_map (λ date. 32 ∷ date_word date) values) (codes " period " ++ (decimal period ++ (codes " step " ++ (signed_decimal step ++ (10 ∷ [])))))

@@ -5,7 +5,9 @@ use Rattle.std.proofs.Math.Nat.{pow-le-pow_right}
 use Rattle.std.proofs.lemmas.Int.Digits.{digits_value-lt}
 use Rattle.std.specs.Str.Parse.{digits_value}
 use Rattle.teg_calc.specs.ExpressionTrees.{Tree, node_count, HasShortNumbers}
-use Rattle.teg_calc.specs.Grammar.{Blanks, AreDigits, ExprText, TermText, FactorText, term, plus_term, factor, times_factor, mono_token, eps_word, e_word, never_word, bracketed, star_of, min_of, left_of, spaced, mono_text, expr_text, term_text, factor_text, expr_tree, term_tree, factor_tree, IsExpression}
+use Rattle.teg_calc.specs.Grammar.{Blanks, AreDigits, ExprText, TermText, FactorText, term, plus_term, factor, times_factor, mono_token, eps_word}
+use Rattle.teg_calc.specs.Grammar.{e_word, never_word, bracketed, star_of, min_of, left_of, spaced, mono_text, expr_text, term_text, factor_text}
+use Rattle.teg_calc.specs.Grammar.{expr_tree, term_tree, factor_tree, IsExpression}
 
 short_number : (digits : List ℕ) → AreDigits digits → digits_value 10 digits < 10 ^ 19
 short_number digits h =
@@ -49,7 +51,8 @@ mutual
   term_small (times_factor t p f) = two_long _ _ (term_text t) (spaced p (codes ".")) (factor_text f) (term_small t) (factor_small f) (spaced_long p (codes "."))
 
   factor_small : (f : FactorText) → node_count (factor_tree f) ≤ length (factor_text f)
-  factor_small (mono_token p shift a minus date b) = let h : length (mono_text shift minus date) ≤ length (spaced p (mono_text shift minus date)) = spaced_long p (mono_text shift minus date) in omega arith
+  factor_small (mono_token p shift a minus date b) =
+      let h : length (mono_text shift minus date) ≤ length (spaced p (mono_text shift minus date)) = spaced_long p (mono_text shift minus date) in omega arith
   factor_small (eps_word p) = let h : length (codes "eps") ≤ length (spaced p (codes "eps")) = spaced_long p (codes "eps") in omega arith
   factor_small (e_word p) = spaced_long p (codes "e")
   factor_small (never_word p) = let h : length (codes "never") ≤ length (spaced p (codes "never")) = spaced_long p (codes "never") in omega arith

@@ -13,7 +13,9 @@ use Rattle.teg_calc.specs.declared.tokens.Part.{Part}
 use Rattle.teg_calc.specs.declared.tokens.Part.TheVariants.{Letters, Unit as UnitPart, Name, Shift, Delta, Date}
 use Rattle.teg_calc.specs.ExpressionTrees.{Tree}
 use Rattle.teg_calc.specs.Grammar.{FactorText, eps_word, never_word, blanks, spaced, factor_text, factor_tree}
-use Rattle.teg_calc.specs.Readers.{Level, level, Stand, State, state, start, operand, within, operator, step, nested, multiplied, sign_of, begun_by, letters_of, gone_on, factor_of, factored, behind_step, within_step, operand_by, word_end, word_on, letter_by, name_by, token_by, step_by}
+use Rattle.teg_calc.specs.Readers.{Level, level, Stand, State, state, start, operand, within, operator, step, nested, multiplied, sign_of, begun_by}
+use Rattle.teg_calc.specs.Readers.{letters_of, gone_on, factor_of, factored, behind_step, within_step, operand_by, word_end, word_on, letter_by}
+use Rattle.teg_calc.specs.Readers.{name_by, token_by, step_by}
 use Rattle.teg_calc.proofs.Signs.{IsSign, is_blank, is_open, sign_is, decide}
 use Rattle.series_ops.proofs.number_laws_proofs.Numbers.{same_number}
 use Rattle.teg_calc.proofs.Holding.{IsHead, IsCallHead, IsNameText, Holds}
@@ -97,12 +99,15 @@ letter_holds word read b o i n w h e = by_letter (slice_get (letters_of word) re
   on_letter g k =
       let longer : h.is_last.token ++ (b ∷ []) ≡ take (read + 1) (letters_of word) = letters_more (letters_of word) read b h.is_last.token h.is_last.is_token g in
       decide (nat_lt (read + 1) (length (letters_of word))) (λ z. let short : read + 1 < length (letters_of word) = grind (arith, nat_tests) in
-      reached _ n _ (rw z at k) (part_more o i w (b ∷ []) (Letters word read) (Letters word (read + 1)) h (record { within = short; text_is = longer }))) (λ z. let whole : length (letters_of word) ≤ read + 1 = grind (arith, nat_tests) in
+      reached _ n _ (rw z at k) (part_more o i w (b ∷ []) (Letters word read) (Letters word (read + 1)) h
+      (record { within = short; text_is = longer }))) (λ z. let whole : length (letters_of word) ≤ read + 1 = grind (arith, nat_tests) in
       reached (word_end word o i) n _ (rw z at k) (word_holds word o i w read b h (longer ∙ take_all (read + 1) (letters_of word) whole)))
 
   by_letter : (x : Option ℕ) → slice_get (letters_of word) read ≡ x → letter_by x word read o i b ≡ Some n → Holds n (w ++ (b ∷ []))
   by_letter None g k = cc
-  by_letter (Some letter) g k = decide (letter == b) (λ z. let same : letter ≡ b = same_number letter b z in on_letter (g ∙ ap (λ (x : ℕ). Some x) same) (rw z at k)) (λ z. let none : None ≡ Some n = rw z at k in cc)
+  by_letter (Some letter) g k = decide (letter == b)
+      (λ z. let same : letter ≡ b = same_number letter b z in on_letter (g ∙ ap (λ (x : ℕ). Some x) same) (rw z at k))
+      (λ z. let none : None ≡ Some n = rw z at k in cc)
 
 -- a name of a call with its blanks, and the bracket behind it
 name_opens : (o : List Level) (i : Level) (c : Call) (name : List ℕ) (w : List ℕ) (h : Holds (state o i (within (Name c))) w) → IsNameText name h.is_last.token
@@ -123,9 +128,12 @@ name_holds : (g : Sign) (b : ℕ) (c : Call) (o : List Level) (i : Level) (n : S
     → name_by g c o i ≡ Some n → Holds n (w ++ (b ∷ []))
 name_holds Blank b Text o i n w s h e = absurd h.is_last.is_token
 name_holds Blank b Group o i n w s h e = absurd h.is_last.is_token
-name_holds Blank b StarCall o i n w (is_blank v) h e = rw v (reached _ n _ e (part_more o i w (32 ∷ []) (Name StarCall) (Name StarCall) h (name_longer (codes "star") h.is_last.token h.is_last.is_token)))
-name_holds Blank b LeastCall o i n w (is_blank v) h e = rw v (reached _ n _ e (part_more o i w (32 ∷ []) (Name LeastCall) (Name LeastCall) h (name_longer (codes "min") h.is_last.token h.is_last.is_token)))
-name_holds Blank b LeftCall o i n w (is_blank v) h e = rw v (reached _ n _ e (part_more o i w (32 ∷ []) (Name LeftCall) (Name LeftCall) h (name_longer (codes "left") h.is_last.token h.is_last.is_token)))
+name_holds Blank b StarCall o i n w (is_blank v) h e =
+    rw v (reached _ n _ e (part_more o i w (32 ∷ []) (Name StarCall) (Name StarCall) h (name_longer (codes "star") h.is_last.token h.is_last.is_token)))
+name_holds Blank b LeastCall o i n w (is_blank v) h e =
+    rw v (reached _ n _ e (part_more o i w (32 ∷ []) (Name LeastCall) (Name LeastCall) h (name_longer (codes "min") h.is_last.token h.is_last.is_token)))
+name_holds Blank b LeftCall o i n w (is_blank v) h e =
+    rw v (reached _ n _ e (part_more o i w (32 ∷ []) (Name LeftCall) (Name LeftCall) h (name_longer (codes "left") h.is_last.token h.is_last.is_token)))
 name_holds Open b Text o i n w s h e = absurd h.is_last.is_token
 name_holds Open b Group o i n w s h e = absurd h.is_last.is_token
 name_holds Open b StarCall o i n w (is_open v) h e = rw v (reached _ n _ e (name_opens o i StarCall (codes "star") w h h.is_last.is_token (λ own k. k)))
@@ -157,7 +165,9 @@ within_holds (Name c) b o i n w h e = name_holds (sign_of b) b c o i n w (sign_i
 within_holds UnitPart b o i n w h e = token_holds_on (gone_on UnitPart b) UnitPart b o i n w h (gone_text UnitPart b h.is_last.token h.is_last.is_token) e
 within_holds (Shift count value) b o i n w h e = token_holds_on (gone_on (Shift count value) b) (Shift count value) b o i n w h (gone_text (Shift count value) b h.is_last.token h.is_last.is_token) e
 within_holds (Delta shift) b o i n w h e = token_holds_on (gone_on (Delta shift) b) (Delta shift) b o i n w h (gone_text (Delta shift) b h.is_last.token h.is_last.is_token) e
-within_holds (Date shift minus count value) b o i n w h e = token_holds_on (gone_on (Date shift minus count value) b) (Date shift minus count value) b o i n w h (gone_text (Date shift minus count value) b h.is_last.token h.is_last.is_token) e
+within_holds (Date shift minus count value) b o i n w h e =
+    token_holds_on (gone_on (Date shift minus count value) b) (Date shift minus count value) b o i n w h
+    (gone_text (Date shift minus count value) b h.is_last.token h.is_last.is_token) e
 
 -- ---- texts
 
@@ -169,7 +179,8 @@ step_holds (operator t) o i b n w h e = operator_holds (sign_of b) b o i t n w (
 run_holds : (u w : List ℕ) (s t : State) → Holds s w → run s u ≡ Some t → Holds t (w ++ u)
 run_holds [] w s t h e = reached s t (w ++ []) e (rw (append-nil w) h)
 run_holds (b ∷ u) w s t h e = by_step (step s b) refl e (λ n k. run_holds u (w ++ (b ∷ [])) n t (step_holds s.stand s.outer s.inner b n w h k)) where
-  by_step : (x : Option State) → step s b ≡ x → option_and_then (λ n. run n u) x ≡ Some t → ((n : State) → step s b ≡ Some n → run n u ≡ Some t → Holds t ((w ++ (b ∷ [])) ++ u)) → Holds t (w ++ (b ∷ u))
+  by_step : (x : Option State) → step s b ≡ x → option_and_then (λ n. run n u) x ≡ Some t
+      → ((n : State) → step s b ≡ Some n → run n u ≡ Some t → Holds t ((w ++ (b ∷ [])) ++ u)) → Holds t (w ++ (b ∷ u))
   by_step None g k rest = cc
   by_step (Some n) g k rest = rw (append_assoc w (b ∷ []) u) at (rest n g k)
 

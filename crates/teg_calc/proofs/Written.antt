@@ -4,7 +4,9 @@ use Rattle.std.proofs.lemmas.List.{append-nil, replicate_more}
 use Rattle.teg_calc.specs.declared.brackets.Call.{Call}
 use Rattle.teg_calc.specs.declared.brackets.Call.TheVariants.{Text, Group, Star as StarCall, Least as LeastCall, Left as LeftCall}
 use Rattle.teg_calc.specs.ExpressionTrees.{Tree, plus, times}
-use Rattle.teg_calc.specs.Grammar.{Blanks, ExprText, TermText, FactorText, term, plus_term, factor, times_factor, mono_token, eps_word, e_word, never_word, bracketed, star_of, min_of, left_of, blanks, spaced, mono_text, expr_text, term_text, factor_text, expr_tree, term_tree, factor_tree, IsExpression}
+use Rattle.teg_calc.specs.Grammar.{Blanks, ExprText, TermText, FactorText, term, plus_term, factor, times_factor, mono_token, eps_word, e_word}
+use Rattle.teg_calc.specs.Grammar.{never_word, bracketed, star_of, min_of, left_of, blanks, spaced, mono_text, expr_text, term_text, factor_text}
+use Rattle.teg_calc.specs.Grammar.{expr_tree, term_tree, factor_tree, IsExpression}
 use Rattle.teg_calc.specs.Readers.{Level, joined, multiplied, closed}
 use Rattle.teg_calc.proofs.Holding.{IsHead, IsSumText, IsProductText, IsHeads}
 
@@ -52,7 +54,11 @@ unfolding tight
 closes Text first own last e h g = absurd h
 closes Group None own last e h g = record { written = bracketed h.inside last tight; tree_is = cc; text_is = rw h.text_is refl }
 closes Group (Some a) own last e h g = absurd h
-closes StarCall None own last e h g = record { written = star_of h.before h.inside last tight; tree_is = cc; text_is = rw h.text_is (sym (append_assoc (spaced h.before (codes "star")) (spaced h.inside (codes "(")) (expr_text last ++ codes ")"))) }
+closes StarCall None own last e h g = record {
+  written = star_of h.before h.inside last tight;
+  tree_is = cc;
+  text_is = rw h.text_is (sym (append_assoc (spaced h.before (codes "star")) (spaced h.inside (codes "(")) (expr_text last ++ codes ")")));
+}
 closes StarCall (Some a) own last e h g = absurd h
 closes LeastCall None own last e h g = cc
 closes LeastCall (Some a) own last e h g = record {
@@ -144,8 +150,10 @@ factor_longer_text (e_word p) = spaced_longer p (codes "e")
 factor_longer_text (never_word p) = spaced_longer p (codes "never")
 factor_longer_text (bracketed p a q) = ap (λ (z : List ℕ). spaced p (codes "(") ++ (expr_text a ++ z)) (spaced_longer q (codes ")")) ∙ simp append_assoc
 factor_longer_text (star_of n p a q) = ap (λ (z : List ℕ). spaced n (codes "star") ++ (spaced p (codes "(") ++ (expr_text a ++ z))) (spaced_longer q (codes ")")) ∙ simp append_assoc
-factor_longer_text (min_of n p a c b q) = ap (λ (z : List ℕ). spaced n (codes "min") ++ (spaced p (codes "(") ++ (expr_text a ++ (spaced c (codes ",") ++ (expr_text b ++ z))))) (spaced_longer q (codes ")")) ∙ simp append_assoc
-factor_longer_text (left_of n p a c b q) = ap (λ (z : List ℕ). spaced n (codes "left") ++ (spaced p (codes "(") ++ (expr_text a ++ (spaced c (codes ",") ++ (expr_text b ++ z))))) (spaced_longer q (codes ")")) ∙ simp append_assoc
+factor_longer_text (min_of n p a c b q) = ap (λ (z : List ℕ). spaced n
+    (codes "min") ++ (spaced p (codes "(") ++ (expr_text a ++ (spaced c (codes ",") ++ (expr_text b ++ z))))) (spaced_longer q (codes ")")) ∙ simp append_assoc
+factor_longer_text (left_of n p a c b q) = ap (λ (z : List ℕ). spaced n
+    (codes "left") ++ (spaced p (codes "(") ++ (expr_text a ++ (spaced c (codes ",") ++ (expr_text b ++ z))))) (spaced_longer q (codes ")")) ∙ simp append_assoc
 
 factor_longer_tree : (f : FactorText) → factor_tree (factor_longer f) ≡ factor_tree f
 unfolding factor_longer

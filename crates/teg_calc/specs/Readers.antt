@@ -1,5 +1,6 @@
 -- Working definitions of how the reader goes on, byte by byte. What `parse` promises stands in ParseAnswers.
-use Rattle.std.specs.Prelude.{◌≡◌, ℕ, ◌+◌, ◌*◌, ◌^◌, ◌<◌, ◌≤◌, ◌==◌, nat_lt, Bool, true, false, List, [], ◌∷◌, length, map, reverse, slice_get, codes, Option, Some, None, Result, Ok, Err, if◌then◌else◌, option_map, option_and_then}
+use Rattle.std.specs.Prelude.{◌≡◌, ℕ, ◌+◌, ◌*◌, ◌^◌, ◌<◌, ◌≤◌, ◌==◌, nat_lt, Bool, true, false, List, [], ◌∷◌, length, map, reverse, slice_get, codes}
+use Rattle.std.specs.Prelude.{Option, Some, None, Result, Ok, Err, if◌then◌else◌, option_map, option_and_then}
 use Rattle.std.specs.Char.{digit_value}
 use Rattle.teg_calc.specs.declared.expressions.Expr.{Expr}
 use Rattle.teg_calc.specs.declared.bytes.Sign.{Sign}

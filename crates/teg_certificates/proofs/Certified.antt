@@ -32,7 +32,8 @@ bound_ratios net part_of part a b v h ps c inside =
     grind (arith, low)
 
 -- potentials that no place of a part exceeds bound the ratio of each circuit in it
-pub bounded : (net : NetLists) (part_of : List ℕ) (part : ℕ) (r : Fraction) (vs : List Potential) → ArePotentials net part_of part r vs → (ps : List PlaceId) → IsCircuit net ps → All (IsPlaceOfPart net part_of part) ps
+pub bounded : (net : NetLists) (part_of : List ℕ) (part : ℕ) (r : Fraction) (vs : List Potential) → ArePotentials net part_of part r vs
+    → (ps : List PlaceId) → IsCircuit net ps → All (IsPlaceOfPart net part_of part) ps
     → time_of net ps * r.tokens ≤ r.time * tokens_of net ps
 bounded net part_of part r vs h = bound_ratios net part_of part r.time r.tokens (potential_at vs) h
 
@@ -48,7 +49,8 @@ pub tell_of_parts : CertificatesTellOfParts
 tell_of_parts net answer h k l = tells net answer.part_of.items k (get_or answer.parts.items k NoCircuit) (h.parts k l)
 
 -- the part that an answer tells of has this ratio
-told_part : (net : NetLists) (part_of : List ℕ) (part : ℕ) (answer : PartAnswer) (q : Fraction) → TellsOfPart net part_of part answer → ratio_in answer ≡ Some q → IsGreatestRatio net (IsPlaceOfPart net part_of part) q
+told_part : (net : NetLists) (part_of : List ℕ) (part : ℕ) (answer : PartAnswer) (q : Fraction) → TellsOfPart net part_of part answer
+    → ratio_in answer ≡ Some q → IsGreatestRatio net (IsPlaceOfPart net part_of part) q
 told_part net part_of part NoCircuit q h e = let f : ⊥ = cc in absurd f
 told_part net part_of part (Best ratio circuit potentials) q h e = let is : ratio ≡ q = cc in subst (IsGreatestRatio net (IsPlaceOfPart net part_of part)) is h
 

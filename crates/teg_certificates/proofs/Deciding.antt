@@ -19,7 +19,8 @@ abbrev pub none_told : Potential
 none_told = record { transition = record { index = 0 }; value = pos 0 }
 
 -- what holds of each element below i, and of the next as it was read, holds of each below i + 1
-pub next_more : {X : Type 0} (P : X → Type 0) (xs : List X) (i : ℕ) (none : X) → i < length xs → ((k : ℕ) (d : X) → k < i → P (get_or xs k d)) → P (get_or xs i none) → (k : ℕ) (d : X) → k < i + 1 → P (get_or xs k d)
+pub next_more : {X : Type 0} (P : X → Type 0) (xs : List X) (i : ℕ) (none : X) → i < length xs
+    → ((k : ℕ) (d : X) → k < i → P (get_or xs k d)) → P (get_or xs i none) → (k : ℕ) (d : X) → k < i + 1 → P (get_or xs k d)
 next_more P xs i none within h here k d l =
     ⊎_elim
     (λ (q : k < i). h k d q)
@@ -30,15 +31,20 @@ pub each_place_of : (P : Place → Type 0) (net : NetLists) (n : ℕ) → length
 each_place_of P net n l h i d m = subst P (sym (get_or_default net.places i d no_place m)) (h i (omega arith))
 
 -- where each potential is of a later transition than the one before, those before i stand in order, and the next comes later
-pub order_more : (vs : List Potential) (i : ℕ) → 1 ≤ i → i < length vs → ((j k : ℕ) (d : Potential) → j < k → k < i → (get_or vs j d).transition.index < (get_or vs k d).transition.index) → (get_or vs (i - 1) none_told).transition.index < (get_or vs i none_told).transition.index → (j k : ℕ) (d : Potential) → j < k → k < i + 1 → (get_or vs j d).transition.index < (get_or vs k d).transition.index
+pub order_more : (vs : List Potential) (i : ℕ) → 1 ≤ i → i < length vs
+    → ((j k : ℕ) (d : Potential) → j < k → k < i → (get_or vs j d).transition.index < (get_or vs k d).transition.index)
+    → (get_or vs (i - 1) none_told).transition.index < (get_or vs i none_told).transition.index → (j k : ℕ) (d : Potential) → j < k
+    → k < i + 1 → (get_or vs j d).transition.index < (get_or vs k d).transition.index
 order_more vs i some within h step j k d m n =
     ⊎_elim
     (λ (q : k < i). h j k d m q)
     (λ (q : i ≤ k).
     let is : i ≡ k = omega arith in
     let here : i - 1 < length vs = omega arith in
-    let before : (get_or vs (i - 1) d).transition.index < (get_or vs i none_told).transition.index = subst (λ v. v.transition.index < (get_or vs i none_told).transition.index) (get_or_default vs (i - 1) none_told d here) step in
-    let last : (get_or vs (i - 1) d).transition.index < (get_or vs i d).transition.index = subst (λ v. (get_or vs (i - 1) d).transition.index < v.transition.index) (get_or_default vs i none_told d within) before in
+    let before : (get_or vs (i - 1) d).transition.index < (get_or vs i none_told).transition.index =
+    subst (λ v. v.transition.index < (get_or vs i none_told).transition.index) (get_or_default vs (i - 1) none_told d here) step in
+    let last : (get_or vs (i - 1) d).transition.index < (get_or vs i d).transition.index =
+    subst (λ v. (get_or vs (i - 1) d).transition.index < v.transition.index) (get_or_default vs i none_told d within) before in
     let all : (get_or vs j d).transition.index < (get_or vs i d).transition.index =
     ⊎_elim
     (λ (r : j < i - 1). let e = h j (i - 1) d r (omega arith) in omega arith)
@@ -47,7 +53,8 @@ order_more vs i some within h step j k d m n =
     subst (λ z. (get_or vs j d).transition.index < (get_or vs z d).transition.index) is all)
     (cases_lt k i)
 
-pub potential_found : (vs : List Potential) (t i : ℕ) (d : Potential) → i < length vs → ((k : ℕ) → k < i → (get_or vs k d).transition.index ≢ t) → (get_or vs i d).transition.index ≡ t → potential_at vs t ≡ (get_or vs i d).value
+pub potential_found : (vs : List Potential) (t i : ℕ) (d : Potential) → i < length vs
+    → ((k : ℕ) → k < i → (get_or vs k d).transition.index ≢ t) → (get_or vs i d).transition.index ≡ t → potential_at vs t ≡ (get_or vs i d).value
 potential_found [] t i d l h e = absurd (omega arith)
 potential_found (v ∷ vs) t zero d l h e = let b : eqb v.transition.index t ≡ true = eq-eqb v.transition.index t e in rw b refl
 potential_found (v ∷ vs) t (suc i) d l h e =

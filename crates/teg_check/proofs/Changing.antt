@@ -15,7 +15,8 @@ pub ranking_kept : (net : NetLists) (ranks : List ℕ) (id : PlaceId) (hold : �
 ranking_kept net ranks id hold l h = record {
   count = h.count;
   small = h.small;
-  rises = All-set (λ p. p.tokens ≡ 0 → slice_index ranks p.from.index < slice_index ranks p.to.index) net.places id.index (place_with_hold hold (place_at net id)) (h.rises id.index no_place l) h.rises;
+  rises = All-set (λ p. p.tokens ≡ 0 → slice_index ranks p.from.index < slice_index ranks p.to.index) net.places id.index
+      (place_with_hold hold (place_at net id)) (h.rises id.index no_place l) h.rises;
 }
 
 -- the place that was changed

@@ -7,7 +7,8 @@ use Rattle.teg_net.specs.Circuits.{no_place, place_at, IsPathBetween, tokens_of}
 use Rattle.teg_check.specs.Ranks.{IsRanking, RankedNetsAreLive}
 
 -- along a path without tokens the rank rises by the number of its places or more
-rises_along : (net : NetLists) (ranks : List ℕ) → IsRanking net ranks → (ps : List PlaceId) (a b : ℕ) → IsPathBetween net a ps b → tokens_of net ps ≡ 0 → get_or ranks a 0 + length ps ≤ get_or ranks b 0
+rises_along : (net : NetLists) (ranks : List ℕ) → IsRanking net ranks → (ps : List PlaceId) (a b : ℕ) → IsPathBetween net a ps b
+    → tokens_of net ps ≡ 0 → get_or ranks a 0 + length ps ≤ get_or ranks b 0
 rises_along net ranks r [] a b h t = omega (arith, ap (λ x. get_or ranks x 0) h)
 rises_along net ranks r (p ∷ ps) a b h t =
     let s = sum_by-cons (λ q. (place_at net q).tokens) p ps in

@@ -21,7 +21,8 @@ terms_of net part_of k NoCircuit r h e = let f : ⊥ = cc in absurd f
 terms_of net part_of k (Best ratio circuit potentials) r h e = let is : ratio ≡ r = cc in subst IsLowestTerms is h.terms
 
 -- the ratio that is told is the greatest of the net
-pub named_best : (net : NetLists) (part_of : List ℕ) (answers : List PartAnswer) (best : Option ℕ) (r : Fraction) → IsCycleTime net answers best → ArePartAnswers net part_of answers → named_ratio answers best ≡ Some r → IsBestRatio net r
+pub named_best : (net : NetLists) (part_of : List ℕ) (answers : List PartAnswer) (best : Option ℕ) (r : Fraction)
+    → IsCycleTime net answers best → ArePartAnswers net part_of answers → named_ratio answers best ≡ Some r → IsBestRatio net r
 named_best net part_of answers None r h parts e = let f : ⊥ = cc in absurd f
 named_best net part_of answers (Some k) r h parts e =
     let told = h.1 in

@@ -37,13 +37,15 @@ no_best : (net : NetLists) (answers : List PartAnswer) (best : Option ℕ) → I
 no_best net answers None h none = refl
 no_best net answers (Some k) h none = absurd (none h.2.attained.0 h.2.attained.1 h.2.attained.2)
 
-pub no_circuit_said : (net : NetLists) (answer : CycleAnswer) (runs : Option (List (List RoundLists))) → IsCycleAnswer net answer → HasNoCircuit net IsAnyPlace → cycle_text net answer runs ≡ no_circuit_text
+pub no_circuit_said : (net : NetLists) (answer : CycleAnswer) (runs : Option (List (List RoundLists))) → IsCycleAnswer net answer
+    → HasNoCircuit net IsAnyPlace → cycle_text net answer runs ≡ no_circuit_text
 no_circuit_said net answer runs h none =
     ap (λ (best : Option ℕ). written (times_lines net best (cycle_lists answer) runs)) (no_best net answer.parts.items answer.best h.of_net none)
 
 -- the cycle times of a net, from what is proved of them for its parts
 pub cycle_answer : (net : NetLists) (parts : PartLists) (answer : CycleAnswer) → AreParts net parts → answer.part_of.items ≡ parts.part_of → length answer.parts.items ≡ length parts.inner →
-    ArePartAnswers net parts.part_of answer.parts.items → All KeepsLimits answer.parts.items → IsFirstGreatest answer.parts.items answer.best → IsCycleTime net answer.parts.items answer.best → IsCycleAnswer net answer
+    ArePartAnswers net parts.part_of answer.parts.items → All KeepsLimits answer.parts.items
+    → IsFirstGreatest answer.parts.items answer.best → IsCycleTime net answer.parts.items answer.best → IsCycleAnswer net answer
 cycle_answer net parts answer strong same count answers limits first of_net = record {
   strong = (parts.inner, subst (λ (ps : List ℕ). AreParts net (record { part_of = ps; inner = parts.inner })) (sym same) strong, count);
   parts = subst (λ (ps : List ℕ). ArePartAnswers net ps answer.parts.items) (sym same) answers;
@@ -61,7 +63,8 @@ round_told net part_of part r full h =
       circuit = path_in_range net h.circuit.circuit.closed.0 h.circuit.circuit.closed.0 r.circuit.places.items h.circuit.circuit.closed.1;
       choices = λ i d l.
           let t = (get_or cs i d).transition.index in
-          let member = subst (IsMember part_of part) (get_or-map (λ (e : Choice). e.transition.index) cs i d 0 l) (h.members.only i 0 (omega (arith, l, length-map cs (λ (e : Choice). e.transition.index)))) in
+          let member = subst (IsMember part_of part) (get_or-map (λ (e : Choice). e.transition.index) cs i d 0 l)
+          (h.members.only i 0 (omega (arith, l, length-map cs (λ (e : Choice). e.transition.index)))) in
           let entered = (h.policy t member).inside.in_range in
           let chosen_is : chosen_place (choice_of_member cs t) ≡ (get_or cs i d).place = ap chosen_place (choice_at cs h.members.ordered i d l) in
           record {
@@ -92,7 +95,8 @@ told_from net part_of k (Best ratio circuit potentials ∷ answers) (rounds ∷ 
 pub lists_of : (runs : List (Vec Round)) → map (map round_lists) (rounds_of_runs runs) ≡ runs_lists runs
 lists_of runs = map-map (map round_lists) (λ run. run.items) runs
 
-pub runs_told : (net : NetLists) (part_of : List ℕ) (answers : List PartAnswer) (runs : List (Vec Round)) → length part_of ≡ length net.transitions → AreRunsFrom net part_of 0 answers (rounds_of_runs runs) →
+pub runs_told : (net : NetLists) (part_of : List ℕ) (answers : List PartAnswer) (runs : List (Vec Round))
+    → length part_of ≡ length net.transitions → AreRunsFrom net part_of 0 answers (rounds_of_runs runs) →
     AreRunsTold net (map part_lists answers) (runs_lists runs)
 runs_told net part_of answers runs full h = subst (AreRunsTold net (map part_lists answers)) (lists_of runs) (told_from net part_of 0 answers (rounds_of_runs runs) full h)
 

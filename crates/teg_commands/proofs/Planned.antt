@@ -19,12 +19,14 @@ pub plan_of : (net : NetLists) (rows : List DueRow) (plan : PlanDates) → IsNet
 plan_of net rows plan ok leads sizes numbers stands inputs meets =
     record { numbers = numbers; plan_for = stands; steps = leads net ok plan sizes (due_in rows) stands; inputs = inputs; in_time = meets }
 
-none_where_late : (net : NetLists) (rows : List DueRow) (refusal : JitRefusal) → IsDueOf net rows → LateExcludesMeet → refusal ≢ OutOfMemory → LateIsRight net rows refusal → InputsMeet net (due_in rows) inputs_at_zero → ⊥
+none_where_late : (net : NetLists) (rows : List DueRow) (refusal : JitRefusal) → IsDueOf net rows → LateExcludesMeet
+    → refusal ≢ OutOfMemory → LateIsRight net rows refusal → InputsMeet net (due_in rows) inputs_at_zero → ⊥
 none_where_late net rows (Late t number due least start walk) of excludes other late meets = excludes net rows of t number due least start walk late meets
 none_where_late net rows OutOfMemory of excludes other late meets = absurd (other refl)
 
 -- where a row is late, no inputs meet the due dates
-pub none_meet : (net : NetLists) (rows : List DueRow) (refusal : JitRefusal) → IsNet net → IsLive net → IsDueOf net rows → ZeroInputsMeet → LateExcludesMeet → refusal ≢ OutOfMemory → LateIsRight net rows refusal →
+pub none_meet : (net : NetLists) (rows : List DueRow) (refusal : JitRefusal) → IsNet net → IsLive net → IsDueOf net rows
+    → ZeroInputsMeet → LateExcludesMeet → refusal ≢ OutOfMemory → LateIsRight net rows refusal →
     NoInputsMeet net (due_in rows)
 none_meet net rows refusal ok live of zero excludes other late =
     λ v meets. none_where_late net rows refusal of excludes other late (zero net ok live (due_in rows) v meets)

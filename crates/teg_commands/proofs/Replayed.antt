@@ -39,7 +39,8 @@ end_told net rows n None h = tt
 end_told net rows n (Some refused) h = failure_told net _ _ refused.why (h.fails no_row)
 
 -- the end of a replay, after which the monitors tell so
-pub run_said : (lines : List Firing → List (List ℕ)) (net other : NetLists) (rows : List LogRow) (firings : List Firing) (replayed : Replayed) (told : List (List ℕ)) (outcome : Option (Verdict × List ℕ)) →
+pub run_said : (lines : List Firing → List (List ℕ)) (net other : NetLists) (rows : List LogRow) (firings : List Firing)
+    (replayed : Replayed) (told : List (List ℕ)) (outcome : Option (Verdict × List ℕ)) →
     other ≡ net → IsReplayOf other rows firings replayed → Tells (SaysEnd net replayed.refused replayed.accepted told) outcome → told ≡ lines firings → Tells (SaysRun lines net rows) outcome
 run_said lines net other rows firings replayed told outcome e of h same =
     tells_weaker (SaysEnd net replayed.refused replayed.accepted told) (SaysRun lines net rows) outcome
@@ -59,7 +60,8 @@ log_said lines net other bytes rows given outcome e is same h =
 
 -- what is said of a log that was refused
 pub fault_said : (lines : List Firing → List (List ℕ)) (net other : NetLists) (bytes : List ℕ) (refusal : LogRefusal) (outcome : Option (Verdict × List ℕ)) →
-    other ≡ net → (refusal ≢ NoRoom → log_of other bytes ≡ Err refusal) → Tells (TellsWhy (λ r. log_line r ∷ []) IsLogKept NoRoom VerdictLog refusal) outcome → Tells (SaysReplay lines net bytes) outcome
+    other ≡ net → (refusal ≢ NoRoom → log_of other bytes ≡ Err refusal)
+    → Tells (TellsWhy (λ r. log_line r ∷ []) IsLogKept NoRoom VerdictLog refusal) outcome → Tells (SaysReplay lines net bytes) outcome
 fault_said lines net other bytes refusal outcome e is h =
     tells_weaker (TellsWhy (λ r. log_line r ∷ []) IsLogKept NoRoom VerdictLog refusal) (SaysReplay lines net bytes) outcome
     (λ verdict text k. inl (refusal, subst (λ (n : NetLists). log_of n bytes ≡ Err refusal) e (is k.1), k)) h
@@ -106,7 +108,8 @@ log_shown before now net other bytes rows given is_told e is same h =
 
 -- of a log that was refused nothing is shown
 pub fault_shown : (lines : List Firing → List (List ℕ)) (net other : NetLists) (bytes : List ℕ) (refusal : LogRefusal) (outcome : Result CommandOutcome NoMemory) →
-    other ≡ net → (refusal ≢ NoRoom → log_of other bytes ≡ Err refusal) → Tells (TellsWhy (λ r. log_line r ∷ []) IsLogKept NoRoom VerdictLog refusal) (outcome_of outcome) → ShowsReplay net bytes lines lines (is_ok outcome)
+    other ≡ net → (refusal ≢ NoRoom → log_of other bytes ≡ Err refusal)
+    → Tells (TellsWhy (λ r. log_line r ∷ []) IsLogKept NoRoom VerdictLog refusal) (outcome_of outcome) → ShowsReplay net bytes lines lines (is_ok outcome)
 fault_shown lines net other bytes refusal (Err e) same is h = none_shown lines lines net (log_of net bytes) (nothing_shown lines)
 fault_shown lines net other bytes refusal (Ok outcome) same is h =
     subst (λ (said : Result (List LogRow) LogRefusal). ShowsLog said net lines lines true)

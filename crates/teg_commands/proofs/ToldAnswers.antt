@@ -1,5 +1,6 @@
 -- The answers of the commands are told.
-use Rattle.std.proofs.Common.{ℕ, zero, suc, ◌+◌, ◌*◌, ◌≡◌, ◌≢◌, ◌≤◌, ◌<◌, ◌^◌, List, [], ◌∷◌, All, Option, Some, None, Ok, Err, length, map, slice_index_or, decimal, refl, ap, ap₂, sym, subst, ◌∙◌, ⊎_elim, pos, negsuc, arith}
+use Rattle.std.proofs.Common.{ℕ, zero, suc, ◌+◌, ◌*◌, ◌≡◌, ◌≢◌, ◌≤◌, ◌<◌, ◌^◌, List, [], ◌∷◌, All, Option, Some, None, Ok, Err, length, map}
+use Rattle.std.proofs.Common.{slice_index_or, decimal, refl, ap, ap₂, sym, subst, ◌∙◌, ⊎_elim, pos, negsuc, arith}
 use Rattle.std.specs.Prelude.{IfSome, IsSomeAnd, slice_get}
 use Rattle.std.specs.List.{range_with_len}
 use Rattle.std.proofs.lemmas.Bool.{cases_lt}

@@ -31,13 +31,15 @@ those_within net role =
 -- one transition more
 pub one_more : (net : NetLists) (role : Role) (k : ℕ) → has_transition_role net role (transition_id k) ≡ true →
     filter (has_transition_role net role) (map transition_id (range_with_len 0 (k + 1))) ≡ filter (has_transition_role net role) (map transition_id (range_with_len 0 k)) ++ transition_id k ∷ []
-one_more net role k h = filter_of_map_range_with_len_more (has_transition_role net role) transition_id 0 k k (omega arith) ∙ ap (λ (b : Bool). filter (has_transition_role net role) (map transition_id (range_with_len 0 k)) ++ cond b (transition_id k ∷ []) []) h
+one_more net role k h = filter_of_map_range_with_len_more (has_transition_role net role) transition_id 0 k k (omega arith)
+    ∙ ap (λ (b : Bool). filter (has_transition_role net role) (map transition_id (range_with_len 0 k)) ++ cond b (transition_id k ∷ []) []) h
 
 pub none_more : (net : NetLists) (role : Role) (k : ℕ) → has_transition_role net role (transition_id k) ≡ false →
     filter (has_transition_role net role) (map transition_id (range_with_len 0 (k + 1))) ≡ filter (has_transition_role net role) (map transition_id (range_with_len 0 k))
 none_more net role k h =
     filter_of_map_range_with_len_more (has_transition_role net role) transition_id 0 k k (omega arith)
-    ∙ (ap (λ (b : Bool). filter (has_transition_role net role) (map transition_id (range_with_len 0 k)) ++ cond b (transition_id k ∷ []) []) h ∙ append-nil (filter (has_transition_role net role) (map transition_id (range_with_len 0 k))))
+    ∙ (ap (λ (b : Bool). filter (has_transition_role net role) (map transition_id (range_with_len 0 k)) ++ cond b
+    (transition_id k ∷ []) []) h ∙ append-nil (filter (has_transition_role net role) (map transition_id (range_with_len 0 k))))
 
 input_role : (role : Role) → is_same_role role Input ≡ true → role ≡ Input
 input_role Internal h = absurd (false≢true h)
@@ -51,7 +53,8 @@ input_there (Some x) h = input_role x.role h
 -- those of the role of inputs are inputs
 pub those_are_inputs : (net : NetLists) → All (λ t. IsInput net t.index) (those_of_role net Input)
 those_are_inputs net k d lt =
-    input_there (slice_get net.transitions (get_or (those_of_role net Input) k d).index) (filter_passes (has_transition_role net Input) (map transition_id (range_with_len 0 (length net.transitions))) k d lt)
+    input_there (slice_get net.transitions (get_or (those_of_role net Input) k d).index)
+    (filter_passes (has_transition_role net Input) (map transition_id (range_with_len 0 (length net.transitions))) k d lt)
 
 lines_within : (net : NetLists) (f : SettledForm) → All (λ l. l.to.index < length net.transitions) (map (times_in f) (those_of_role net Output))
 lines_within net f = All-map (λ (l : TimesTo). l.to.index < length net.transitions) (times_in f) (those_of_role net Output) (those_within net Output)
@@ -71,7 +74,8 @@ times_told net limit times h k d lt = times_within net limit (get_or times k d) 
     from_within k d lt = rw (get_or-map (λ (t : TimesFrom). t.from) times k d d.from lt) at (froms k d.from (omega (arith, lt, length-map times (λ (t : TimesFrom). t.from))))
 
 -- the times from one input more
-pub one_input_more : (net : NetLists) (limit k : ℕ) (inputs : List TransitionId) (d : TransitionId) (times all : List TimesFrom) (from : TimesFrom) → k < length inputs → map (λ from. from.from) times ≡ take k inputs →
+pub one_input_more : (net : NetLists) (limit k : ℕ) (inputs : List TransitionId) (d : TransitionId) (times all : List TimesFrom)
+    (from : TimesFrom) → k < length inputs → map (λ from. from.from) times ≡ take k inputs →
     All (IsTimesFrom net limit) times → from.from ≡ get_or inputs k d → IsTimesFrom net limit from → all ≡ times ++ from ∷ [] →
     (map (λ from. from.from) all ≡ take (k + 1) inputs) × All (IsTimesFrom net limit) all
 one_input_more net limit k inputs d times all from lt before each named here e =

@@ -18,7 +18,8 @@ use Rattle.teg_commands.specs.CommandOutcomes.{TellsWhy}
 
 -- the first fault of the file is said
 abbrev pub SaysBadEndless : NetLists → List ℕ → Verdict → List ℕ → Type 0
-SaysBadEndless net bytes verdict text = (fault : EndlessRefusal) × (endless_of net bytes ≡ Err fault) × TellsWhy (λ f. answer_lines net (Faulty f)) IsFaultTold NoRoom VerdictSchedule fault verdict text
+SaysBadEndless net bytes verdict text = (fault : EndlessRefusal) × (endless_of net bytes ≡ Err fault)
+    × TellsWhy (λ f. answer_lines net (Faulty f)) IsFaultTold NoRoom VerdictSchedule fault verdict text
 
 -- of endless due dates the latest releases of the inputs are said
 abbrev pub SaysReleases : NetLists → List EndlessRow → Verdict → List ℕ → Type 0

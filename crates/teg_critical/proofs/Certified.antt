@@ -37,7 +37,8 @@ module _ (net : NetLists) (ok : IsNet net) (answer : CycleAnswer) (h : IsCertifi
       let rest = parts_rise ps (to_of net p) b path.2 in
       omega arith
 
-  place_inside : (k : ℕ) (p : PlaceId) (ps : List PlaceId) (a b : ℕ) → slice_index parts a ≡ k → slice_index parts b ≡ k → IsPathBetween net a (p ∷ ps) b → (slice_index parts (from_of net p) ≡ k) × (slice_index parts (to_of net p) ≡ k)
+  place_inside : (k : ℕ) (p : PlaceId) (ps : List PlaceId) (a b : ℕ) → slice_index parts a ≡ k → slice_index parts b ≡ k
+      → IsPathBetween net a (p ∷ ps) b → (slice_index parts (from_of net p) ≡ k) × (slice_index parts (to_of net p) ≡ k)
   place_inside k p ps a b ea eb path =
       let from : slice_index parts (from_of net p) ≡ k = ap (slice_index parts) path.1 ∙ ea in
       let here : slice_index parts (from_of net p) ≤ slice_index parts (to_of net p) = h.rises p.index no_place path.0 in

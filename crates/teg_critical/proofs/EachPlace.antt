@@ -33,7 +33,8 @@ use Rattle.teg_critical.proofs.Telling.{none_of, none_back}
 -- ---- places told one after another
 
 -- what is told of a place stays right where a place is told rightly
-kept_by : (net : NetLists) (r : Fraction) (mid : List Slack) (q : PlaceId) (s : Slack) → q.index < length mid → IsSlackOf net r q s → (p : PlaceId) → IsSlackOf net r p (slack_at mid p) → IsSlackOf net r p (slack_at (set mid q.index s) p)
+kept_by : (net : NetLists) (r : Fraction) (mid : List Slack) (q : PlaceId) (s : Slack) → q.index < length mid → IsSlackOf net r q s
+    → (p : PlaceId) → IsSlackOf net r p (slack_at mid p) → IsSlackOf net r p (slack_at (set mid q.index s) p)
 kept_by net r mid q s in' is p old = ⊎_elim
     (λ (same : p.index ≡ q.index).
     let read : slack_at (set mid q.index s) p ≡ s = ap (λ (z : ℕ). get_or (set mid q.index s) z NoCircuit) same ∙ get_or-set_same mid q.index s NoCircuit in' in
@@ -42,7 +43,8 @@ kept_by net r mid q s in' is p old = ⊎_elim
     (cases_eq p.index q.index)
 
 -- one place more
-pub told_one : (net : NetLists) (r : Fraction) (endings : List Ending) (k : ℕ) (e : Ending) (old mid : List Slack) (s : Slack) → AreToldMore net r (take k endings) old mid → k < length endings → e ≡ get_or endings k e
+pub told_one : (net : NetLists) (r : Fraction) (endings : List Ending) (k : ℕ) (e : Ending) (old mid : List Slack) (s : Slack)
+    → AreToldMore net r (take k endings) old mid → k < length endings → e ≡ get_or endings k e
     → e.place.index < length old → IsSlackOf net r e.place s → AreToldMore net r (take (k + 1) endings) old (set mid e.place.index s)
 told_one net r endings k e old mid s h l is in' right =
     let count = h.count in
@@ -67,7 +69,8 @@ pub record ToldOrLeft (net : NetLists) (r : Fraction) (slacks : List Slack) (res
   pub each : (p : PlaceId) → p.index < length net.places → IsSlackOf net r p (slack_at slacks p) ⊎ Contains rest (ending_at net p)
 
 -- places that are told no loss are on no circuit, and the others are listed
-pub told_begin : (net : NetLists) (r : Fraction) (losses : List (Option Loss)) → CanTellSlack net r losses → (slacks : List Slack) → AreUntold net slacks → (order : List Ending) → AreEndings net losses order → ToldOrLeft net r slacks order
+pub told_begin : (net : NetLists) (r : Fraction) (losses : List (Option Loss)) → CanTellSlack net r losses → (slacks : List Slack)
+    → AreUntold net slacks → (order : List Ending) → AreEndings net losses order → ToldOrLeft net r slacks order
 told_begin net r losses can slacks none order h = record {
   count = ap length none ∙ length-replicate {A = Slack} (length net.places) NoCircuit;
   known = h.known;
@@ -81,7 +84,8 @@ told_begin net r losses can slacks none order h = record {
   by_loss p l (Some loss) e = inr (h.all p l (subst IsSome (sym e) refl))
 
 -- a group is told
-pub told_group : (net : NetLists) (r : Fraction) (old new : List Slack) (rest : List Ending) (k : ℕ) → ToldOrLeft net r old rest → AreToldMore net r (take k rest) old new → ToldOrLeft net r new (drop k rest)
+pub told_group : (net : NetLists) (r : Fraction) (old new : List Slack) (rest : List Ending) (k : ℕ) → ToldOrLeft net r old rest
+    → AreToldMore net r (take k rest) old new → ToldOrLeft net r new (drop k rest)
 told_group net r old new rest k h more = record {
   count = more.count ∙ h.count;
   known = All-drop (IsEnding net) k rest h.known;
@@ -118,7 +122,8 @@ module _ (net : NetLists) (r : Fraction) (losses : List (Option Loss)) (can : Ca
 
 -- ---- the losses of a certified answer
 
-pub can_tell : (net : NetLists) → IsNet net → (answer : CycleAnswer) → (h : IsCertificate net answer) → IsLive net → (best : Fraction) → best_ratio_of answer ≡ Some best → (losses : List (Option Loss)) → AreLosses net answer best losses → CanTellSlack net best losses
+pub can_tell : (net : NetLists) → IsNet net → (answer : CycleAnswer) → (h : IsCertificate net answer) → IsLive net → (best : Fraction)
+    → best_ratio_of answer ≡ Some best → (losses : List (Option Loss)) → AreLosses net answer best losses → CanTellSlack net best losses
 can_tell net ok answer h live best b losses lost =
     let told : IsToldBy net best = best_told net answer h best b in
     record {

@@ -23,11 +23,13 @@ pub record EndingsUpTo (net : NetLists) (losses : List (Option Loss)) (order : L
   pub known : All (IsEnding net) order
   pub all : (i : ℕ) → i < k → IsSome (loss_at losses (record { index = i })) → Contains order (ending_at net (record { index = i }))
 
-pub endings_sorted : (net : NetLists) (losses : List (Option Loss)) (order sorted : List Ending) (k : ℕ) → EndingsUpTo net losses order k → k ≡ length net.places → IsPermutation order sorted → AreEndings net losses sorted
+pub endings_sorted : (net : NetLists) (losses : List (Option Loss)) (order sorted : List Ending) (k : ℕ)
+    → EndingsUpTo net losses order k → k ≡ length net.places → IsPermutation order sorted → AreEndings net losses sorted
 endings_sorted net losses order sorted k h full moved = record {
   few = (let few = h.few in omega (arith, length_permutation order sorted moved));
   known = All-permutation (IsEnding net) order sorted moved h.known;
-  all = λ p l some. Contains-permutation order sorted (ending_at net p) moved (subst (λ (z : PlaceId). Contains order (ending_at net z)) (same_id (record { index = p.index }) p refl) (h.all p.index (omega arith) some));
+  all = λ p l some. Contains-permutation order sorted (ending_at net p) moved
+      (subst (λ (z : PlaceId). Contains order (ending_at net z)) (same_id (record { index = p.index }) p refl) (h.all p.index (omega arith) some));
 }
 
 -- ---- the first group
@@ -41,7 +43,8 @@ end_in net ok e h =
     omega arith
 
 -- and all at the same one
-pub same_end : (net : NetLists) (rest : List Ending) (k : ℕ) (first : Ending) → All (IsEnding net) rest → All (λ (e : Ending). e.end ≡ (get_or rest 0 e).end) (take k rest) → 0 < length rest → first ≡ get_or rest 0 first
+pub same_end : (net : NetLists) (rest : List Ending) (k : ℕ) (first : Ending) → All (IsEnding net) rest
+    → All (λ (e : Ending). e.end ≡ (get_or rest 0 e).end) (take k rest) → 0 < length rest → first ≡ get_or rest 0 first
     → All (IsEndingAt net first.end) (take k rest)
 same_end net rest k first known ends some is i d l =
     let e : Ending = get_or (take k rest) i d in

@@ -64,7 +64,12 @@ module _ (net : NetLists) (r : Fraction) (p : PlaceId) (gap : ℕ) (ratio : IsGr
       let straight : IsStraight net (to_of net p) qs (from_of net p) = s.1 in
       let low = h.least qs straight.path in
       let weighs : time_of net ps * r.tokens + r.time * tokens_of net qs ≤ time_of net qs * r.tokens + r.time * tokens_of net ps =
-      rw (scaled_right r.tokens (λ q. (place_at net q).hold) ps, scaled_left r.time (λ q. (place_at net q).tokens) qs, scaled_right r.tokens (λ q. (place_at net q).hold) qs, scaled_left r.time (λ q. (place_at net q).tokens) ps) at s.2 in
+      rw (
+        scaled_right r.tokens (λ q. (place_at net q).hold) ps,
+        scaled_left r.time (λ q. (place_at net q).tokens) qs,
+        scaled_right r.tokens (λ q. (place_at net q).hold) qs,
+        scaled_left r.time (λ q. (place_at net q).tokens) ps,
+      ) at s.2 in
       let time_p = time_cons net r.tokens p ps in
       let time_q = time_cons net r.tokens p qs in
       let tokens_p = tokens_cons net r.time p ps in
@@ -107,7 +112,8 @@ module _ (net : NetLists) (r : Fraction) (p : PlaceId) (gap : ℕ) (ratio : IsGr
         some = ratio.some;
         attained = ⊎_elim
             (λ (passes : Contains best.0 p). absurd (let none = no_gap (best.0, best.1, passes, best.3) in omega arith))
-            (λ (none : All (λ q. q.index ≢ p.index) best.0). (best.0, circuit_up net p d l best.0 best.1, any_places best.0, rw (time_without net p d l best.0 none, tokens_same net p d l best.0) best.3))
+            (λ (none : All (λ q. q.index ≢ p.index) best.0).
+            (best.0, circuit_up net p d l best.0 best.1, any_places best.0, rw (time_without net p d l best.0 none, tokens_same net p d l best.0) best.3))
             (passes_or_not p best.0);
         greatest = λ ps c all.
             let down : IsCircuit net ps = circuit_down net p d l ps c in

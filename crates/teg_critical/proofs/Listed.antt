@@ -21,7 +21,8 @@ use Rattle.teg_critical.specs.Losses.{IsPlaceLoss, loss_at}
 pub potential_within : (vs : List Potential) (t : ℕ) → All (λ v. IsMagnitudeWithin greatest_checked_potential v.value) vs → IsMagnitudeWithin greatest_checked_potential (potential_at vs t)
 potential_within [] t h = record { low = omega (arith, ints); high = omega (arith, ints) }
 potential_within (v ∷ vs) t h = by_test (eqb v.transition.index t) (h 0 v (omega arith)) (potential_within vs t (λ i d l. h (suc i) d (omega arith))) where
-  by_test : (b : Bool) → IsMagnitudeWithin greatest_checked_potential v.value → IsMagnitudeWithin greatest_checked_potential (potential_at vs t) → IsMagnitudeWithin greatest_checked_potential (cond b v.value (potential_at vs t))
+  by_test : (b : Bool) → IsMagnitudeWithin greatest_checked_potential v.value
+      → IsMagnitudeWithin greatest_checked_potential (potential_at vs t) → IsMagnitudeWithin greatest_checked_potential (cond b v.value (potential_at vs t))
   by_test true here rest = here
   by_test false here rest = rest
 
@@ -32,7 +33,8 @@ pub record LossesUpTo (net : NetLists) (answer : CycleAnswer) (best : Fraction) 
   pub count : length losses ≡ k
   pub each : (p : PlaceId) → p.index < k → IsPlaceLoss net answer best p (loss_at losses p)
 
-pub losses_more : (net : NetLists) (answer : CycleAnswer) (best : Fraction) (losses : List (Option Loss)) (k : ℕ) (o : Option Loss) → LossesUpTo net answer best losses k → IsPlaceLoss net answer best (record { index = k }) o
+pub losses_more : (net : NetLists) (answer : CycleAnswer) (best : Fraction) (losses : List (Option Loss)) (k : ℕ) (o : Option Loss)
+    → LossesUpTo net answer best losses k → IsPlaceLoss net answer best (record { index = k }) o
     → LossesUpTo net answer best (losses ++ (o ∷ [])) (k + 1)
 losses_more net answer best losses k o h here =
     let count = h.count in

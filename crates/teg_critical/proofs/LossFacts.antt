@@ -32,7 +32,8 @@ gap_of x y h =
     let e : pos (nat_abs (y -ℤ x)) ≡ (y -ℤ x) = pos-nat_abs (y -ℤ x) (yes_non_neg (omega (arith, ints, h))) in
     (nat_abs (y -ℤ x), omega (arith, ints, e))
 
-lost_low : (n gain cost : ℕ) (s t : ℤ) → ((pos n +ℤ (pos gain -ℤ pos cost)) +ℤ s) ≡ t → IsMagnitudeWithin greatest_checked_potential s → IsMagnitudeWithin greatest_checked_potential t → cost ≤ 1000000000000000 → n ≤ most_lost
+lost_low : (n gain cost : ℕ) (s t : ℤ) → ((pos n +ℤ (pos gain -ℤ pos cost)) +ℤ s) ≡ t → IsMagnitudeWithin greatest_checked_potential s
+    → IsMagnitudeWithin greatest_checked_potential t → cost ≤ 1000000000000000 → n ≤ most_lost
 lost_low n gain cost s t e f g l = omega (arith, ints, e, f.low, g.high, l)
 
 -- a ratio within the limits that some circuit has
@@ -95,7 +96,9 @@ module _ (net : NetLists) (answer : CycleAnswer) (h : IsCertificate net answer) 
   part_in : b.part < length answer.parts.items
   part_in = ⊎_elim
       (λ (l : b.part < length answer.parts.items). l)
-      (λ (l : length answer.parts.items ≤ b.part). absurd (let past : answer_of_part answer b.part ≡ NoCircuit = get_or_past answer.parts.items b.part NoCircuit l in none best (sym (ap ratio_in past) ∙ b.told)))
+      (λ (l : length answer.parts.items ≤ b.part). absurd
+      (let past : answer_of_part answer b.part ≡ NoCircuit =
+      get_or_past answer.parts.items b.part NoCircuit l in none best (sym (ap ratio_in past) ∙ b.told)))
       (cases_lt b.part (length answer.parts.items)) where
         none : (r : Fraction) → ratio_in NoCircuit ≡ Some r → ⊥
         none r e = cc
@@ -123,17 +126,26 @@ module _ (net : NetLists) (answer : CycleAnswer) (h : IsCertificate net answer) 
     can_lose r c vs facts =
         let q : Place = place_at net p in
         let gap = gap_of (reduced_time_of_place r q +ℤ potential_at vs q.from.index) (potential_at vs q.to.index) (facts.potentials p inside) in
-        let is : IsLost (reduced_time_of_place r q) (potential_at vs q.from.index) (potential_at vs q.to.index) gap.0 = grouped gap.0 (reduced_time_of_place r q) (potential_at vs q.from.index) (potential_at vs q.to.index) gap.1 in
+        let is : IsLost (reduced_time_of_place r q) (potential_at vs q.from.index) (potential_at vs q.to.index) gap.0 =
+        grouped gap.0 (reduced_time_of_place r q) (potential_at vs q.from.index) (potential_at vs q.to.index) gap.1 in
         let start = potential_within vs q.from.index facts.within in
         let above = potential_within vs q.to.index facts.within in
         let few = rules.tokens_in in
         let small = facts.time_in in
         let one : r.time * q.tokens ≤ r.time * 1000 = mul-le-mul_left {m = q.tokens} {n = 1000} r.time (omega arith) in
-        record { lost = gap.0; is = is; small = lost_low gap.0 (r.tokens * q.hold) (r.time * q.tokens) (potential_at vs q.from.index) (potential_at vs q.to.index) is start above (omega arith); start_in = start; above_in = above } where
+        record {
+          lost = gap.0;
+          is = is;
+          small = lost_low gap.0 (r.tokens * q.hold) (r.time * q.tokens) (potential_at vs q.from.index)
+              (potential_at vs q.to.index) is start above (omega arith);
+          start_in = start;
+          above_in = above;
+        } where
           grouped : (n : ℕ) (w s t : ℤ) → (pos n +ℤ (w +ℤ s)) ≡ t → ((pos n +ℤ w) +ℤ s) ≡ t
           grouped n w s t e = omega (arith, ints, e)
 
-    by_answer : (part : PartAnswer) → IsPartCertificate net answer.part_of.items k part → ((r : Fraction) → ratio_in part ≡ Some r → r.time * best.tokens ≤ best.time * r.tokens) → CanLoseIn best part (place_at net p)
+    by_answer : (part : PartAnswer) → IsPartCertificate net answer.part_of.items k part
+        → ((r : Fraction) → ratio_in part ≡ Some r → r.time * best.tokens ≤ best.time * r.tokens) → CanLoseIn best part (place_at net p)
     by_answer NoCircuit facts below = facts p inside
     by_answer (Best ratio circuit potentials) facts below = record {
       best_small = best_told.small;

@@ -1,5 +1,6 @@
 -- The queue of the search: what is told waits in it, and its first entry of an unsettled transition is the nearest.
-use Rattle.std.proofs.Common.{ℕ, zero, suc, ◌+◌, ◌*◌, ◌<◌, ◌≤◌, ◌≡◌, ◌≢◌, Bool, true, false, List, [], ◌∷◌, length, get_or, set, replicate, Option, Some, None, refl, sym, ap, subst, ◌∙◌, arith, ⊎_elim, ◌⊎◌, inl, inr}
+use Rattle.std.proofs.Common.{ℕ, zero, suc, ◌+◌, ◌*◌, ◌<◌, ◌≤◌, ◌≡◌, ◌≢◌, Bool, true, false, List, [], ◌∷◌, length, get_or, set, replicate, Option}
+use Rattle.std.proofs.Common.{Some, None, refl, sym, ap, subst, ◌∙◌, arith, ⊎_elim, ◌⊎◌, inl, inr}
 use Rattle.std.specs.Prelude.{Contains, IsPermutation, sum_by, if◌then◌else◌}
 use Rattle.std.specs.BinaryHeap.{IsHeap, IsUpperBound}
 use Rattle.std.specs.Ordering.{is_lt, ordering_then}
@@ -164,7 +165,8 @@ one_or_none false = omega arith
 
 -- one transition is told nothing lost
 pub search_begins :
-    (net : NetLists) (losses : List (Option Loss)) (start : ℕ) (none : List (Option ℕ)) (settled : List Bool) (n : ℕ) → none ≡ replicate n None → settled ≡ replicate n false → n ≡ length net.transitions → start < n
+    (net : NetLists) (losses : List (Option Loss)) (start : ℕ) (none : List (Option ℕ)) (settled : List Bool) (n : ℕ)
+    → none ≡ replicate n None → settled ≡ replicate n false → n ≡ length net.transitions → start < n
     → IsSearching net losses start (set none start (Some 0)) settled
 search_begins net losses start none settled n is all_open n_is l =
     let least : List (Option ℕ) = set none start (Some 0) in
@@ -195,7 +197,8 @@ search_begins net losses start none settled n is all_open n_is l =
 
 -- and is queued
 pub queue_begins :
-    (net : NetLists) (losses : List (Option Loss)) (start : ℕ) (none : List (Option ℕ)) (settled : List Bool) (n : ℕ) (empty queue : List Entry) → IsSearching net losses start (set none start (Some 0)) settled
+    (net : NetLists) (losses : List (Option Loss)) (start : ℕ) (none : List (Option ℕ)) (settled : List Bool) (n : ℕ)
+    (empty queue : List Entry) → IsSearching net losses start (set none start (Some 0)) settled
     → none ≡ replicate n None → start < n → empty ≡ [] → IsPermutation (entry 0 start ∷ empty) queue → IsHeap nearest_first queue
     → IsQueueing net losses start (set none start (Some 0)) settled queue
 queue_begins net losses start none settled n empty queue searching is l nothing moved heap =
@@ -222,7 +225,8 @@ queue_begins net losses start none settled n empty queue searching is l nothing 
           (cases_eq u start);
     }
 
-module _ {net : NetLists} {losses : List (Option Loss)} {start : ℕ} {least : List (Option ℕ)} {settled : List Bool} {first : Entry} {queue rest : List Entry} (h : IsQueueing net losses start least settled queue)
+module _ {net : NetLists} {losses : List (Option Loss)} {start : ℕ} {least : List (Option ℕ)} {settled : List Bool} {first : Entry}
+    {queue rest : List Entry} (h : IsQueueing net losses start least settled queue)
     (moved : IsPermutation queue (first ∷ rest)) where
   -- the other entries
   elsewhere : (u d : ℕ) → u ≢ first.0.1 → Contains queue (entry d u) → Contains rest (entry d u)

@@ -91,11 +91,14 @@ module _ (net : NetLists) (ok : IsNet net) (answer : CycleAnswer) (h : IsCertifi
       let from : value k (from_of net p) ≡ value k s = ap (value k) path.1 in
       let amount : amount_in (loss_at losses p) ≡ r.tokens * here.is.lost + slower k * (place_at net p).tokens = ap amount_in here.told ∙ here.is.amount in
       let both = amount_more r.tokens (slower k) here.is.lost rest.all (place_at net p).tokens (tokens_of net ps) (amount_in (loss_at losses p)) (loss_of_path losses ps) amount rest.amount in
-      let start = subst (λ (z : ℤ). ((pos here.is.lost +ℤ (pos ((own k).tokens * (place_at net p).hold) -ℤ pos ((own k).time * (place_at net p).tokens))) +ℤ z) ≡ value k (to_of net p)) from here.is.is_lost in
+      let start = subst (λ (z : ℤ). ((pos here.is.lost +ℤ
+      (pos ((own k).tokens * (place_at net p).hold) -ℤ pos ((own k).time * (place_at net p).tokens))) +ℤ z) ≡ value k (to_of net p)) from here.is.is_lost in
       let more = sum_by-cons (λ q. (place_at net q).tokens) p ps in
       record {
         all = here.is.lost + rest.all;
-        is = lost_more here.is.lost rest.all (pos ((own k).tokens * (place_at net p).hold) -ℤ pos ((own k).time * (place_at net p).tokens)) (reduced_time_of net (own k).time (own k).tokens ps) (value k s) (value k (to_of net p)) (value k t) start rest.is;
+        is = lost_more here.is.lost rest.all (pos ((own k).tokens * (place_at net p).hold) -ℤ pos
+            ((own k).time * (place_at net p).tokens)) (reduced_time_of net (own k).time (own k).tokens ps) (value k s)
+            (value k (to_of net p)) (value k t) start rest.is;
         amount = sum_by-cons (λ q. amount_in (loss_at losses q)) p ps ∙ both ∙ ap (λ (z : ℕ). r.tokens * (here.is.lost + rest.all) + slower k * z) (sym more);
       }
 
@@ -108,7 +111,8 @@ module _ (net : NetLists) (ok : IsNet net) (answer : CycleAnswer) (h : IsCertifi
       let counts = weight_is net (own k).time (own k).tokens (p ∷ ps) in
       let below = here.is.below in
       round_amount r.time r.tokens (slower k) (own k).time (own k).tokens sum.all (time_of net (p ∷ ps)) (tokens_of net (p ∷ ps)) (loss_of_path losses (p ∷ ps)) (omega arith)
-      (round_lost sum.all ((own k).time * tokens_of net (p ∷ ps)) ((own k).tokens * time_of net (p ∷ ps)) (reduced_time_of net (own k).time (own k).tokens (p ∷ ps)) (value k a) sum.is counts) sum.amount
+      (round_lost sum.all ((own k).time * tokens_of net (p ∷ ps)) ((own k).tokens * time_of net (p ∷ ps))
+      (reduced_time_of net (own k).time (own k).tokens (p ∷ ps)) (value k a) sum.is counts) sum.amount
 
   -- no closed path is above the ratio
   pub at_most : (ps : List PlaceId) (a : ℕ) → 0 < length ps → IsPathBetween net a ps a → time_of net ps * r.tokens ≤ r.time * tokens_of net ps

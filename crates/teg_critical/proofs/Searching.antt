@@ -36,7 +36,8 @@ module _ {net : NetLists} {losses : List (Option Loss)} {start : ℕ} {least : L
   -- a transition of which no more is told than of those that are not settled
   module _ (t : ℕ) (stop : (u d : ℕ) → is_settled settled u ≡ false → told_at least u ≡ Some d → IsToldWithin (told_at least t) d) where
     -- no path loses less than is told of its end, or of this transition
-    reach : (ps : List PlaceId) (a b x : ℕ) → IsWay net losses a ps b → IsToldWithin (told_at least a) x → IsToldWithin (told_at least b) (x + loss_of_path losses ps) ⊎ IsToldWithin (told_at least t) (x + loss_of_path losses ps)
+    reach : (ps : List PlaceId) (a b x : ℕ) → IsWay net losses a ps b → IsToldWithin (told_at least a) x
+        → IsToldWithin (told_at least b) (x + loss_of_path losses ps) ⊎ IsToldWithin (told_at least t) (x + loss_of_path losses ps)
     reach [] a b x way h = inl (within_more (told_at least b) x (x + loss_of_path losses []) (subst (λ (z : ℕ). IsToldWithin (told_at least z) x) way.path h) (omega arith))
     reach (p ∷ ps) a b x way h =
         let told : IsTold (told_at least a) x = within_told (told_at least a) x h in
@@ -52,7 +53,8 @@ module _ {net : NetLists} {losses : List (Option Loss)} {start : ℕ} {least : L
         (λ q. inl (within_more (told_at least b) (told.number + amount_in (loss_at losses p) + loss_of_path losses ps) (x + loss_of_path losses (p ∷ ps)) q (omega arith)))
         (λ q. inr (within_more (told_at least t) (told.number + amount_in (loss_at losses p) + loss_of_path losses ps) (x + loss_of_path losses (p ∷ ps)) q (omega arith)))
         (reach ps (to_of net p) b (told.number + amount_in (loss_at losses p)) rest next))
-        (λ (opened : is_settled settled (from_of net p) ≡ false). inr (within_more (told_at least t) told.number (x + loss_of_path losses (p ∷ ps)) (stop (from_of net p) told.number opened from) (omega arith)))
+        (λ (opened : is_settled settled (from_of net p) ≡ false). inr
+        (within_more (told_at least t) told.number (x + loss_of_path losses (p ∷ ps)) (stop (from_of net p) told.number opened from) (omega arith)))
         (cases_Bool (is_settled settled (from_of net p)))
 
     no_less : (ps : List PlaceId) → IsWay net losses start ps t → IsToldWithin (told_at least t) (0 + loss_of_path losses ps)

@@ -87,7 +87,10 @@ module _ {net : NetLists} {losses : List (Option Loss)} {start : ℕ} {least : L
       let base_is = before.2 in
       let sum = step.4.1 in (
         ps ++ (p ∷ []),
-        record { path = IsPathBetween-append net ps (p ∷ []) start at t way.path last; along = All-append (λ q. IsSome (loss_at losses q)) ps (p ∷ []) way.along (one_more p (λ q. IsSome (loss_at losses q)) is.told) },
+        record {
+          path = IsPathBetween-append net ps (p ∷ []) start at t way.path last;
+          along = All-append (λ q. IsSome (loss_at losses q)) ps (p ∷ []) way.along (one_more p (λ q. IsSome (loss_at losses q)) is.told);
+        },
         omega arith,
       ))
       (relaxed.by_step t d e)
@@ -115,7 +118,8 @@ module _ {net : NetLists} {losses : List (Option Loss)} {start : ℕ} {least : L
       let two = subst (λ (z : ℕ). IsToldWithin (told_at new z) (base + x.loss)) step.4.0 one in
       subst (λ (z : ℕ). IsToldWithin (told_at new (to_of net p)) (base + z)) step.4.1 two
 
-  pub taken : (p : PlaceId) (d : ℕ) → p.index < length net.places → from_of net p < length settled → IsSome (loss_at losses p) → is_settled marks (from_of net p) ≡ true → told_at new (from_of net p) ≡ Some d
+  pub taken : (p : PlaceId) (d : ℕ) → p.index < length net.places → from_of net p < length settled → IsSome (loss_at losses p)
+      → is_settled marks (from_of net p) ≡ true → told_at new (from_of net p) ≡ Some d
       → IsToldWithin (told_at new (to_of net p)) (d + amount_in (loss_at losses p))
   taken p d l m f e g = ⊎_elim
       (λ (same : from_of net p ≡ at).

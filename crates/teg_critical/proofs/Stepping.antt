@@ -71,7 +71,8 @@ kept_amount losses p small = by_told (loss_at losses p) refl where
   by_told (Some l) e = small p l e
 
 -- the place of this number is a step
-pub steps_place : (net : NetLists) (losses : List (Option Loss)) (t : ℕ) (steps : List LossStep) (k : ℕ) (q : Place) (told : Option Loss) (s : LossStep) → IsNet net → AreKeptSmall losses → StepsUpTo net losses t steps k → k < length net.places
+pub steps_place : (net : NetLists) (losses : List (Option Loss)) (t : ℕ) (steps : List LossStep) (k : ℕ) (q : Place)
+    (told : Option Loss) (s : LossStep) → IsNet net → AreKeptSmall losses → StepsUpTo net losses t steps k → k < length net.places
     → q ≡ place_at net (record { index = k }) → told ≡ loss_at losses (record { index = k }) → IsLossStepOf q told t s → StepsUpTo net losses t (steps ++ (s ∷ [])) (k + 1)
 steps_place net losses t steps k q told s ok small h l q_is told_is is =
     let p : PlaceId = record { index = k } in
@@ -120,7 +121,8 @@ all_begin net losses steps n is n_is = record {
       });
 }
 
-pub all_place : (net : NetLists) (losses : List (Option Loss)) (steps : List (List LossStep)) (k : ℕ) (q : Place) (told : Option Loss) (s : LossStep) → IsNet net → AreKeptSmall losses → AllStepsUpTo net losses steps k → k < length net.places
+pub all_place : (net : NetLists) (losses : List (Option Loss)) (steps : List (List LossStep)) (k : ℕ) (q : Place) (told : Option Loss)
+    (s : LossStep) → IsNet net → AreKeptSmall losses → AllStepsUpTo net losses steps k → k < length net.places
     → q ≡ place_at net (record { index = k }) → told ≡ loss_at losses (record { index = k }) → IsLossStepOf q told q.from.index s
     → AllStepsUpTo net losses (set steps q.from.index (get_or steps q.from.index [] ++ s ∷ [])) (k + 1)
 all_place net losses steps k q told s ok small h l q_is told_is is =
@@ -161,7 +163,8 @@ all_end net losses steps k full h = record {
 }
 
 -- the steps that are read for one transition
-pub own_steps : (net : NetLists) (losses : List (Option Loss)) (steps : List (List LossStep)) (t : ℕ) (own : List LossStep) → AreSteps net losses steps → t < length net.transitions → own ≡ get_or steps t own → AreStepsFrom net losses t own
+pub own_steps : (net : NetLists) (losses : List (Option Loss)) (steps : List (List LossStep)) (t : ℕ) (own : List LossStep)
+    → AreSteps net losses steps → t < length net.transitions → own ≡ get_or steps t own → AreStepsFrom net losses t own
 own_steps net losses steps t own h l is = subst (AreStepsFrom net losses t) (sym (get_or_read steps t own (let count = h.count in omega arith) is [])) (h.each t l)
 
 -- ---- steps taken

@@ -141,7 +141,9 @@ module _ (net : NetLists) (ok : IsNet net) (r : Fraction) (losses : List (Option
         let rules : IsPlaceOf net (place_at net p) = ok.each_place p.index no_place l in
         let short : length s.0 < length net.transitions = straight_short net (length net.transitions) s.0 (to_of net p) (from_of net p) ends rules.from_in straight in
         let few = ok.few_transitions in
-        let each = sum_most (λ q. (place_at net q).tokens) most_place_tokens net (λ id m. (let own : IsPlaceOf net (place_at net id) = ok.each_place id.index no_place m in own.tokens_in)) (p ∷ s.0) (from_of net p) (from_of net p) (back_path s.0 straight.path) in
+        let each = sum_most (λ q. (place_at net q).tokens) most_place_tokens net
+        (λ id m. (let own : IsPlaceOf net (place_at net id) = ok.each_place id.index no_place m in own.tokens_in)) (p ∷ s.0)
+        (from_of net p) (from_of net p) (back_path s.0 straight.path) in
         let long : length (p ∷ s.0) * most_place_tokens ≤ most_transitions * most_place_tokens = mul-le-mul_right {m = length (p ∷ s.0)} {n = most_transitions} most_place_tokens (omega arith) in
         let low = is_gap.least s.0 straight.path in
         let most : r.time * tokens_of net (p ∷ s.0) ≤ r.time * 400000 = mul-le-mul_left {m = tokens_of net (p ∷ s.0)} {n = 400000} r.time (omega arith) in

@@ -29,7 +29,9 @@ module _ (answers : List PartAnswer) (i : ℕ) where
   part_keep None r h e low = absurd (low tt)
   part_keep (Some b) r h e low =
       let k = h.below in
-      let le : r.time * b.ratio.tokens ≤ b.ratio.time * r.tokens = ⊎_elim (λ (q : b.ratio.time * r.tokens < r.time * b.ratio.tokens). absurd (low q)) (λ (q : r.time * b.ratio.tokens ≤ b.ratio.time * r.tokens). q) (cases_lt (b.ratio.time * r.tokens) (r.time * b.ratio.tokens)) in
+      let le : r.time * b.ratio.tokens ≤ b.ratio.time * r.tokens =
+      ⊎_elim (λ (q : b.ratio.time * r.tokens < r.time * b.ratio.tokens). absurd (low q))
+      (λ (q : r.time * b.ratio.tokens ≤ b.ratio.time * r.tokens). q) (cases_lt (b.ratio.time * r.tokens) (r.time * b.ratio.tokens)) in
       record {
         below = omega arith;
         here = h.here;
@@ -45,7 +47,9 @@ module _ (answers : List PartAnswer) (i : ℕ) where
   part_take None r some h e above = record {
     below = omega arith;
     here = e;
-    greatest = λ j q l s. ⊎_elim (λ (z : j < i). let w = h j z in let f : ⊥ = cc in absurd f) (λ (z : j ≡ i). let w = ap (ratio_at answers) z in let is : r ≡ q = cc in subst (λ x. x.time * r.tokens ≤ r.time * x.tokens) is (omega arith)) (step_cases j l);
+    greatest = λ j q l s. ⊎_elim (λ (z : j < i). let w = h j z in let f : ⊥ = cc in absurd f)
+        (λ (z : j ≡ i). let w = ap (ratio_at answers) z in let is : r ≡ q =
+        cc in subst (λ x. x.time * r.tokens ≤ r.time * x.tokens) is (omega arith)) (step_cases j l);
     first = λ j q l s. let w = h j l in let f : ⊥ = cc in absurd f;
   }
   part_take (Some b) r some h e above =
@@ -54,7 +58,9 @@ module _ (answers : List PartAnswer) (i : ℕ) where
       record {
         below = omega arith;
         here = e;
-        greatest = λ j q l s. ⊎_elim (λ (z : j < i). let m = less j q z s in omega arith) (λ (z : j ≡ i). let w = ap (ratio_at answers) z in let is : r ≡ q = cc in subst (λ x. x.time * r.tokens ≤ r.time * x.tokens) is (omega arith)) (step_cases j l);
+        greatest = λ j q l s. ⊎_elim (λ (z : j < i). let m = less j q z s in omega arith)
+            (λ (z : j ≡ i). let w = ap (ratio_at answers) z in let is : r ≡ q =
+            cc in subst (λ x. x.time * r.tokens ≤ r.time * x.tokens) is (omega arith)) (step_cases j l);
         first = λ j q l s. less j q l s;
       }
 

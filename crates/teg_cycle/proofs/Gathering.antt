@@ -38,18 +38,21 @@ certified net parts answer strong same count parts_are best =
     }
 
 -- the answer that a run ends in is that of its last round
-pub run_ends : (net : NetLists) (part_of : List ℕ) (part : ℕ) (answer : PartAnswer) → (rounds : List Round) × IsPolicyRun net part_of part rounds × IsAnswerOfLast rounds answer → IsLastOfRun net part_of part answer
+pub run_ends : (net : NetLists) (part_of : List ℕ) (part : ℕ) (answer : PartAnswer) → (rounds : List Round)
+    × IsPolicyRun net part_of part rounds × IsAnswerOfLast rounds answer → IsLastOfRun net part_of part answer
 run_ends net part_of part NoCircuit w = tt
 run_ends net part_of part (Best ratio circuit potentials) w = w
 
 -- some answer is told where a run ends
-pub run_told : (net : NetLists) (part_of : List ℕ) (part : ℕ) (answer : PartAnswer) (rounds : List Round) → IsPolicyRun net part_of part rounds → IsAnswerOfLast rounds answer → IsRunOf net part_of part answer (Some rounds)
+pub run_told : (net : NetLists) (part_of : List ℕ) (part : ℕ) (answer : PartAnswer) (rounds : List Round)
+    → IsPolicyRun net part_of part rounds → IsAnswerOfLast rounds answer → IsRunOf net part_of part answer (Some rounds)
 run_told net part_of part NoCircuit [] run is = absurd (omega (arith, run.run.some))
 run_told net part_of part NoCircuit (r ∷ rs) run is = absurd (is r)
 run_told net part_of part (Best ratio circuit potentials) rounds run is = (run, is)
 
 -- ---- rounds part by part
-runs_append : (net : NetLists) (part_of : List ℕ) (k : ℕ) (ps qs : List PartAnswer) (runs more : List (List Round)) → AreRunsFrom net part_of k ps runs → AreRunsFrom net part_of (k + length ps) qs more →
+runs_append : (net : NetLists) (part_of : List ℕ) (k : ℕ) (ps qs : List PartAnswer) (runs more : List (List Round))
+    → AreRunsFrom net part_of k ps runs → AreRunsFrom net part_of (k + length ps) qs more →
     AreRunsFrom net part_of k (ps ++ qs) (runs ++ more)
 runs_append net part_of k [] qs runs more h m =
     let here : k + 0 ≡ k = omega arith in
@@ -62,7 +65,8 @@ runs_append net part_of k (Best ratio circuit potentials ∷ ps) qs (rounds ∷ 
     let here : k + suc (length ps) ≡ k + 1 + length ps = omega arith in
     (h.0, h.1, runs_append net part_of (k + 1) ps qs runs more h.2 (subst (λ (j : ℕ). AreRunsFrom net part_of j qs more) here m))
 
-one_part : (net : NetLists) (part_of : List ℕ) (k : ℕ) (answer : PartAnswer) (rounds : Option (List Round)) → IsRunOf net part_of k answer rounds → AreRunsFrom net part_of k (answer ∷ []) (some_run rounds)
+one_part : (net : NetLists) (part_of : List ℕ) (k : ℕ) (answer : PartAnswer) (rounds : Option (List Round))
+    → IsRunOf net part_of k answer rounds → AreRunsFrom net part_of k (answer ∷ []) (some_run rounds)
 one_part net part_of k NoCircuit rounds h = ap some_run h
 one_part net part_of k (Best ratio circuit potentials) None h = absurd h
 one_part net part_of k (Best ratio circuit potentials) (Some rounds) h = (h.0, h.1, refl)

@@ -45,7 +45,8 @@ one_place net part_of part p h zero d l = h
 one_place net part_of part p h (suc i) d l = absurd (omega arith)
 
 -- greatest sums are potentials that no place exceeds
-pub sums_are_potentials : (net : NetLists) (part_of : List ℕ) (part : ℕ) (r : Fraction) (c : List PlaceId) (vs : List Potential) → IsBestOfPart net part_of part r c vs → ArePotentials net part_of part r vs
+pub sums_are_potentials : (net : NetLists) (part_of : List ℕ) (part : ℕ) (r : Fraction) (c : List PlaceId) (vs : List Potential)
+    → IsBestOfPart net part_of part r c vs → ArePotentials net part_of part r vs
 sums_are_potentials net part_of part r c vs h p inside =
     let s : ℕ = first_transition_of net c in
     let a : ℕ = r.time in
@@ -61,7 +62,8 @@ sums_are_potentials net part_of part r c vs h p inside =
     let at = from.attained.3 in
     omega (arith, ints, low, sum, at)
 
-pub answer_certifies : (net : NetLists) (part_of : List ℕ) (part : ℕ) (answer : PartAnswer) → IsPartAnswer net part_of part answer → KeepsLimits answer → answer ≢ NoCircuit → IsPartCertificate net part_of part answer
+pub answer_certifies : (net : NetLists) (part_of : List ℕ) (part : ℕ) (answer : PartAnswer) → IsPartAnswer net part_of part answer
+    → KeepsLimits answer → answer ≢ NoCircuit → IsPartCertificate net part_of part answer
 answer_certifies net part_of part NoCircuit h k n = absurd (n refl)
 answer_certifies net part_of part (Best ratio circuit potentials) h k n = record {
   time_in = let l = k.0 in omega arith;
@@ -82,7 +84,8 @@ run_tells net part_of part (r ∷ rs) NoCircuit run is = absurd (is r)
 run_tells net part_of part (r ∷ rs) (Best ratio circuit potentials) run is = λ e. cc
 
 -- what holds of each answer, and of one more at the end, holds of each
-pub each_push : (P : ℕ → PartAnswer → Type 0) (xs : List PartAnswer) (x : PartAnswer) → ((k : ℕ) → k < length xs → P k (get_or xs k NoCircuit)) → P (length xs) x → (k : ℕ) → k < length (xs ++ x ∷ []) → P k (get_or (xs ++ x ∷ []) k NoCircuit)
+pub each_push : (P : ℕ → PartAnswer → Type 0) (xs : List PartAnswer) (x : PartAnswer)
+    → ((k : ℕ) → k < length xs → P k (get_or xs k NoCircuit)) → P (length xs) x → (k : ℕ) → k < length (xs ++ x ∷ []) → P k (get_or (xs ++ x ∷ []) k NoCircuit)
 each_push P xs x h here k l =
     let long = length_push xs x in
     ⊎_elim

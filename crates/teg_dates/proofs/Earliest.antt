@@ -64,7 +64,8 @@ pub ordered_has_least : (net : NetLists) (turns : List OrderedPlace) → IsNet n
 ordered_has_least net turns ok o = (earliest (system_of net (listed_releases net)) o.0, earliest_of_net net o.0 ok o.1)
 
 -- the dates of a table of least dates are those of walks
-pub walks_of_table : (net : NetLists) (ranks : List ℕ) (table : TableDates) → IsNet net → IsRanking net ranks → HasDatesOf net (earliest (system_of net (listed_releases net)) ranks) table → HasDatesOfWalks net table
+pub walks_of_table : (net : NetLists) (ranks : List ℕ) (table : TableDates) → IsNet net → IsRanking net ranks
+    → HasDatesOf net (earliest (system_of net (listed_releases net)) ranks) table → HasDatesOfWalks net table
 walks_of_table net ranks table ok r same t k l o m =
     let x : Dating = earliest (system_of net (listed_releases net)) ranks in
     subst (IsGreatestOfWalks net (listed_releases net) t k) (sym (same t k l o m))

@@ -136,7 +136,8 @@ filled_more net init rel x k order row i o to date before h one s in' at to_is t
       own = λ t l. at_most_trans (available_in init x (implicit_place t) k) (get_or row t Early) (get_or fresh t Early) (s.own t l) (grows t);
       done = λ j d m n. ⊎_elim
           (λ (q : j < i).
-          at_most_trans (available_in init x (place_at net (get_or order j d).place) k) (get_or row (place_at net (get_or order j d).place).to.index Early) (get_or fresh (place_at net (get_or order j d).place).to.index Early)
+          at_most_trans (available_in init x (place_at net (get_or order j d).place) k)
+          (get_or row (place_at net (get_or order j d).place).to.index Early) (get_or fresh (place_at net (get_or order j d).place).to.index Early)
           (s.done j d m q) (grows (place_at net (get_or order j d).place).to.index))
           (λ (q : i ≤ j). let j_is : j ≡ i = omega arith in rw (j_is, at d, to_is, here, ← is) (later_right before date))
           (cases_lt j i);

@@ -88,7 +88,8 @@ rows_with_row net x old new row k h w past is = record {
 }
 
 -- so where a row of the least dating is made of what is kept, and kept, the next can be made
-pub next_goes_on : (net : NetLists) (turns : List OrderedPlace) (old new : KeptRows) (row : List Date) → CanMakeNextRow net turns old → HaveNext old new row → IsLeastRow net (old.number + 1) row → CanMakeNextRow net turns new
+pub next_goes_on : (net : NetLists) (turns : List OrderedPlace) (old new : KeptRows) (row : List Date) → CanMakeNextRow net turns old
+    → HaveNext old new row → IsLeastRow net (old.number + 1) row → CanMakeNextRow net turns new
 next_goes_on net turns old new row h next is = record {
   rules = h.rules;
   order = h.order;

@@ -9,7 +9,8 @@ use Rattle.teg_dates.specs.DateCells.{date_of_early_cell}
 pub short_more : (short : List ℕ) (rest : List Date) (cell : ℕ) (date : Date) → rest ≡ [] → date_of_early_cell cell ≡ date
     → map date_of_early_cell (short ++ cell ∷ []) ++ rest ≡ (map date_of_early_cell short ++ rest) ++ date ∷ []
 short_more short rest cell date e is =
-    let all : map date_of_early_cell (short ++ cell ∷ []) ++ [] ≡ map date_of_early_cell short ++ date_of_early_cell cell ∷ [] = append-nil (map date_of_early_cell (short ++ cell ∷ [])) ∙ map-append date_of_early_cell short (cell ∷ []) in
+    let all : map date_of_early_cell (short ++ cell ∷ []) ++ [] ≡ map date_of_early_cell short ++ date_of_early_cell cell ∷ [] =
+    append-nil (map date_of_early_cell (short ++ cell ∷ [])) ∙ map-append date_of_early_cell short (cell ∷ []) in
     let none : map date_of_early_cell short ++ [] ≡ map date_of_early_cell short = append-nil (map date_of_early_cell short) in
     rw e (all ∙ (ap (λ d. map date_of_early_cell short ++ d ∷ []) is ∙ ap (λ ds. ds ++ date ∷ []) (sym none)))
 

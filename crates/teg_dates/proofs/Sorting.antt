@@ -13,7 +13,8 @@ pub record OrderUpTo (net : NetLists) (ranks : List ℕ) (order : List OrderedPl
   pub known : All (IsRankedPlace net ranks) order
   pub all : (k : ℕ) → k < i → Contains order (turn_at net ranks k)
 
-pub order_more : (net : NetLists) (ranks : List ℕ) (order : List OrderedPlace) (i : ℕ) → OrderUpTo net ranks order i → i < length net.places → OrderUpTo net ranks (order ++ turn_at net ranks i ∷ []) (i + 1)
+pub order_more : (net : NetLists) (ranks : List ℕ) (order : List OrderedPlace) (i : ℕ) → OrderUpTo net ranks order i
+    → i < length net.places → OrderUpTo net ranks (order ++ turn_at net ranks i ∷ []) (i + 1)
 order_more net ranks order i h l = record {
   once = length-append order (turn_at net ranks i ∷ []) ∙ ap (λ n. n + 1) h.once;
   known = All-push (IsRankedPlace net ranks) order (turn_at net ranks i) h.known (record { place = record { in_range = l; from = refl; to = refl; tokens = refl; hold = refl }; turn = refl });

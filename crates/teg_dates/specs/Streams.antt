@@ -36,7 +36,8 @@ pub record AreLastDates (last : LastDates) : Type 0 where
   pub number_in : last.number ≤ greatest_firing_number
   pub full : length last.dates ≡ rows_kept last * last.width
 
--- the places in this order and the rows that are kept stand for the net, which keeps its rules: the next row of its least dating can be made of them; the reach is the greatest number of tokens of a place, and at least 1
+-- the places in this order and the rows that are kept stand for the net, which keeps its rules: the next row of its least dating can be
+-- made of them; the reach is the greatest number of tokens of a place, and at least 1
 pub record CanMakeNextRow (net : NetLists) (turns : List OrderedPlace) (rows : KeptRows) : Type 0 where
   pub rules : IsNet net
   pub order : OrdersPlaces net turns

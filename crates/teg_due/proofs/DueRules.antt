@@ -42,7 +42,8 @@ no_input net t e h = none (slice_get net.transitions t) e h
     none None e h = h
     none (Some x) e h = cc (rw h at e)
 
-numbered_new : (net : NetLists) (rows : List DueRow) (k t n date : ℕ) (r : DueRow) → t < length net.transitions → is_input net t ≡ false → due_numbered (has_due rows t n) k t n date ≡ Ok r → IsNewRow net rows r
+numbered_new : (net : NetLists) (rows : List DueRow) (k t n date : ℕ) (r : DueRow) → t < length net.transitions → is_input net t ≡ false
+    → due_numbered (has_due rows t n) k t n date ≡ Ok r → IsNewRow net rows r
 numbered_new net rows k t n date r lt role e = elim (cases_Bool (has_due rows t n)) [
   | inl twice ↦ cc (rw twice at e)
   | inr fresh ↦ elim (cases_Bool (in_due_limits n date)) [

@@ -53,7 +53,8 @@ ranking_without net plain e ranks h = subst (λ (n : NetLists). IsRanking n rank
 
 -- ---- the answer at a row
 
-pub late_answer_in : (net : NetLists) → IsNet net → IsLive net → LateIsSoon → (rows : List EndlessRow) → IsEndlessOf net rows → (x : ℕ → ℕ → Date) → IsLeastUnder net inputs_at_zero x → (i : ℕ) (r : EndlessRow) → slice_get rows i ≡ Some r
+pub late_answer_in : (net : NetLists) → IsNet net → IsLive net → LateIsSoon → (rows : List EndlessRow) → IsEndlessOf net rows
+    → (x : ℕ → ℕ → Date) → IsLeastUnder net inputs_at_zero x → (i : ℕ) (r : EndlessRow) → slice_get rows i ≡ Some r
     → All (NoneLate x) (take i rows) → (k due date : ℕ) → IsLeastLate x r k due date → IsLateAnswer net rows r.transition.index k due date
 late_answer_in net ok live law rows ends x least i r at none k due date h =
     let rule : IsEndlessRow net r = subst (IsEndlessRow net) (get_or_from_slice_get rows i r r at) (ends.each i r (slice_get_within rows i r at)) in

@@ -29,7 +29,9 @@ module _ (f : SettledForm) (t : ℕ) (steps : GoesOnBySteps f t) (firings rise :
       (λ n u v. base n (omega arith) (omega arith))
       (λ n u old.
       let on : n + f.period + firings ≡ n + firings + f.period = omega arith in
-      ap (settled_date f t) on ∙ (steps.again (n + firings) (omega arith) ∙ (ap (move (step_of_form f t)) old ∙ (move_swap (step_of_form f t) (pos rise) (settled_date f t n) ∙ sym (ap (move (pos rise)) (steps.again n (omega arith)))))))
+      ap (settled_date f t) on ∙ (steps.again (n + firings) (omega arith)
+      ∙ (ap (move (step_of_form f t)) old ∙ (move_swap (step_of_form f t) (pos rise) (settled_date f t n)
+      ∙ sym (ap (move (pos rise)) (steps.again n (omega arith)))))))
       k (omega arith)
 
   -- so many times
@@ -41,7 +43,9 @@ module _ (f : SettledForm) (t : ℕ) (steps : GoesOnBySteps f t) (firings rise :
   rises_times h (suc m) k l =
       let on : k + suc m * firings ≡ k + m * firings + firings = omega arith in
       let sum : (pos (m * rise) +ℤ pos rise) ≡ pos (suc m * rise) = omega (arith, ints) in
-      ap (settled_date f t) on ∙ (h (k + m * firings) (omega arith) ∙ (ap (move (pos rise)) (rises_times h m k l) ∙ (move_move (pos (m * rise)) (pos rise) (settled_date f t k) ∙ ap (λ (z : ℤ). move z (settled_date f t k)) sum)))
+      ap (settled_date f t) on ∙ (h (k + m * firings) (omega arith)
+      ∙ (ap (move (pos rise)) (rises_times h m k l)
+      ∙ (move_move (pos (m * rise)) (pos rise) (settled_date f t k) ∙ ap (λ (z : ℤ). move z (settled_date f t k)) sum)))
 
 -- the period of the form is one
 pub rises_in_period : (f : SettledForm) (t : ℕ) (climbing : IsClimbing f t) → GoesOnBySteps f t → RisesIn f t f.period climbing.step

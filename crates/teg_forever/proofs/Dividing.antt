@@ -81,7 +81,8 @@ firsts_more rows n firsts first h here =
 -- ---- what is kept
 
 -- a residual that was made
-pub divided : (rows : List EndlessRow) (due : ℕ) (r : EndlessRow) (walk asked residual : Gain) → slice_get rows due ≡ Some r → IsDueSeries r asked.series → residual ≡ gain_left walk asked → LeftFits walk asked
+pub divided : (rows : List EndlessRow) (due : ℕ) (r : EndlessRow) (walk asked residual : Gain) → slice_get rows due ≡ Some r
+    → IsDueSeries r asked.series → residual ≡ gain_left walk asked → LeftFits walk asked
     → IsDivided rows (record { due = due; walk = walk; residual = residual })
 divided rows due r walk asked residual at is e fits s here d other =
     let row : r ≡ s = some_is (slice_get rows due) r s at here in
@@ -116,7 +117,8 @@ divisions_kept rows old new x (Err e) h same right kept = tt
 pub kept_place : (old new : List Divided) (x : Divided) (place : ℕ) → IsKeptIn old x new place → IsDividedAt new x.due x.walk place
 kept_place old new x place kept = record {
   divided = x;
-  stands = subst (λ (l : List Divided). slice_get l place ≡ Some x) (sym kept.list_is) (subst (λ (n : ℕ). slice_get (take kept.count old ++ x ∷ []) n ≡ Some x) (sym kept.place_is) (behind (take kept.count old) x));
+  stands = subst (λ (l : List Divided). slice_get l place ≡ Some x) (sym kept.list_is)
+      (subst (λ (n : ℕ). slice_get (take kept.count old ++ x ∷ []) n ≡ Some x) (sym kept.place_is) (behind (take kept.count old) x));
   due_is = refl;
   walk_is = refl;
 }
@@ -126,7 +128,8 @@ kept_at rows list place x here all = subst (IsDivided rows) (get_or_from_slice_g
 
 -- ---- a row
 
-module _ (net : NetLists) (rows : List EndlessRow) (u : ℕ) (i first : ℕ) (r : EndlessRow) (at : slice_get rows i ≡ Some r) (alike : IsAlikeAt rows i first) (walk : Gain) (is : IsWalkSeries net u r.transition.index walk.series) where
+module _ (net : NetLists) (rows : List EndlessRow) (u : ℕ) (i first : ℕ) (r : EndlessRow) (at : slice_get rows i ≡ Some r)
+    (alike : IsAlikeAt rows i first) (walk : Gain) (is : IsWalkSeries net u r.transition.index walk.series) where
   -- the due series of the row is that of the first alike
   due_of_first : (walks dues : ℕ → Gain) → AreSeriesColumns net u rows walks dues → (s : EndlessRow) → slice_get rows first ≡ Some s → IsDueSeries s (dues i).series
   due_of_first walks dues columns s here = alike_due r s (alike.alike r s at here) (dues i).series (columns.due_series i r at)
@@ -171,7 +174,8 @@ module _ (net : NetLists) (rows : List EndlessRow) (u : ℕ) (i first : ℕ) (r 
 -- ---- the meet over rows
 
 -- the meet of one row
-pub meet_begun : (net : NetLists) (rows : List EndlessRow) (u : ℕ) (list : List Divided) (place : ℕ) (q m : Gain) → IsResidualOf net rows u 0 list place → ((x : Divided) → slice_get list place ≡ Some x → q ≡ x.residual) → m ≡ q
+pub meet_begun : (net : NetLists) (rows : List EndlessRow) (u : ℕ) (list : List Divided) (place : ℕ) (q m : Gain)
+    → IsResidualOf net rows u 0 list place → ((x : Divided) → slice_get list place ≡ Some x → q ≡ x.residual) → m ≡ q
     → IsMeetOver net rows u 1 m
 meet_begun net rows u list place q m h stands e walks dues columns =
     let told = h.is walks dues columns in
@@ -193,8 +197,10 @@ meet_on net rows u i list place q m after some before h stands e fits walks dues
     }
 
 -- a row whose meet with those before does not fit
-pub refused_meet : (net : NetLists) (rows : List EndlessRow) (id : TransitionId) (i : ℕ) (r : EndlessRow) (list : List Divided) (place : ℕ) (q m : Gain) (why : Refused) → 0 < i → slice_get rows i ≡ Some r → IsMeetOver net rows id.index i m
-    → IsResidualOf net rows id.index i list place → ((x : Divided) → slice_get list place ≡ Some x → q ≡ x.residual) → Answers true (MeetFits m q) (gain_meet m q) (Err why) → IsRefusedAt net rows id i (refusal_at why id r)
+pub refused_meet : (net : NetLists) (rows : List EndlessRow) (id : TransitionId) (i : ℕ) (r : EndlessRow) (list : List Divided)
+    (place : ℕ) (q m : Gain) (why : Refused) → 0 < i → slice_get rows i ≡ Some r → IsMeetOver net rows id.index i m
+    → IsResidualOf net rows id.index i list place → ((x : Divided) → slice_get list place ≡ Some x → q ≡ x.residual)
+    → Answers true (MeetFits m q) (gain_meet m q) (Err why) → IsRefusedAt net rows id i (refusal_at why id r)
 refused_meet net rows id i r list place q m Range some at before h stands other = (
   refl,
   record {
@@ -213,8 +219,10 @@ refused_meet net rows id i r list place q m NoRoom some at before h stands other
 -- ---- why an input has no release
 
 -- the first row that does not fit stops the search for the release of the input
-pub stopped_at : (net : NetLists) (rows : List EndlessRow) (id : TransitionId) (i : ℕ) → ColumnsExist → IsNet net → IsLive net → IsEndlessOf net rows → IsInput net id.index → WalkTimesSettleSoon net id.index → i < length rows
-    → ((walks dues : ℕ → Gain) → AreSeriesColumns net id.index rows walks dues → (j : ℕ) → j < i → RowFits gains gain_residuals walks dues j) → (why : ForeverRefusal) → IsRefusedAt net rows id i why → IsStopped net rows id why
+pub stopped_at : (net : NetLists) (rows : List EndlessRow) (id : TransitionId) (i : ℕ) → ColumnsExist → IsNet net → IsLive net
+    → IsEndlessOf net rows → IsInput net id.index → WalkTimesSettleSoon net id.index → i < length rows
+    → ((walks dues : ℕ → Gain) → AreSeriesColumns net id.index rows walks dues → (j : ℕ) → j < i
+    → RowFits gains gain_residuals walks dues j) → (why : ForeverRefusal) → IsRefusedAt net rows id i why → IsStopped net rows id why
 stopped_at net rows id i exist ok live ends input settles l fit (Late t k due least) h = absurd h
 stopped_at net rows id i exist ok live ends input settles l fit (TooLong v) h = absurd h
 stopped_at net rows id i exist ok live ends input settles l fit (TooWide v row) h =

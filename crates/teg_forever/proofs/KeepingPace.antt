@@ -22,7 +22,8 @@ parts a b c n e = ap (λ (z : ℕ). a * z) e ∙ spread a b c where
   spread : (x y z : ℕ) → x * (y + z) ≡ x * y + x * z
   spread x y z = grind arith
 
-told_on : (net : NetLists) (r : EndlessRow) (times : List (Option ℤ)) → All (IsKept r times) net.places → (ps : List PlaceId) (s t : ℕ) (y : ℤ) → IsPathBetween net s ps t → time_told times t ≡ Some y → IsToldOn r times net ps s y
+told_on : (net : NetLists) (r : EndlessRow) (times : List (Option ℤ)) → All (IsKept r times) net.places
+    → (ps : List PlaceId) (s t : ℕ) (y : ℤ) → IsPathBetween net s ps t → time_told times t ≡ Some y → IsToldOn r times net ps s y
 told_on net r times kept [] s t y h e =
     let one : r.every * time_of net [] ≡ 0 = omega arith in
     let two : r.gap * tokens_of net [] ≡ 0 = omega arith in
@@ -31,8 +32,10 @@ told_on net r times kept (p ∷ ps) s t y h e =
     let place : Place = place_at net p in
     let rest : IsToldOn r times net ps place.to.index y = told_on net r times kept ps place.to.index t y h.2 e in
     let here = kept p.index no_place h.0 rest.x rest.told in
-    let time : r.every * time_of net (p ∷ ps) ≡ r.every * place.hold + r.every * time_of net ps = parts r.every place.hold (time_of net ps) (time_of net (p ∷ ps)) (sum_by-cons (λ q. (place_at net q).hold) p ps) in
-    let tokens : r.gap * tokens_of net (p ∷ ps) ≡ r.gap * place.tokens + r.gap * tokens_of net ps = parts r.gap place.tokens (tokens_of net ps) (tokens_of net (p ∷ ps)) (sum_by-cons (λ q. (place_at net q).tokens) p ps) in
+    let time : r.every * time_of net (p ∷ ps) ≡ r.every * place.hold + r.every * time_of net ps =
+    parts r.every place.hold (time_of net ps) (time_of net (p ∷ ps)) (sum_by-cons (λ q. (place_at net q).hold) p ps) in
+    let tokens : r.gap * tokens_of net (p ∷ ps) ≡ r.gap * place.tokens + r.gap * tokens_of net ps =
+    parts r.gap place.tokens (tokens_of net ps) (tokens_of net (p ∷ ps)) (sum_by-cons (λ q. (place_at net q).tokens) p ps) in
     let more = rest.more in
     let less = here.2 in
     record { x = here.0; told = subst (λ (z : ℕ). time_told times z ≡ Some here.0) h.1 here.1; more = omega (arith, ints, time, tokens, more, less) }

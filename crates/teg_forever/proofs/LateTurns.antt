@@ -95,22 +95,27 @@ module _ (net : NetLists) (ok : IsNet net) (live : IsLive net) (f : SettledForm)
         record { is = h; number_in = omega (arith, low.0); due_in = omega (arith, low.1); least_in = omega (arith, low.2) }
 
     -- where the due dates rise no less, none is late
-    pub none_at_all : TurnsTellLate → (past turn rise fall : ℕ) → IsCommonPeriodOf (settled_date f) r past turn rise fall → NoneLateTo (settled_date f) r (past + turn) → rise ≤ fall → NoneLate (settled_date f) r
+    pub none_at_all : TurnsTellLate → (past turn rise fall : ℕ) → IsCommonPeriodOf (settled_date f) r past turn rise fall
+        → NoneLateTo (settled_date f) r (past + turn) → rise ≤ fall → NoneLate (settled_date f) r
     none_at_all law past turn rise fall is none flat =
         none_as form.dating (settled_date f) r back
         ((law net ok live form.dating form.least r rule past turn rise fall (turn_as past turn rise fall is) (none_to_as (settled_date f) form.dating r same (past + turn) none)).0 flat)
 
     -- and otherwise the least late number is that which is late after the fewest turns
-    pub soon_by_turns : TurnsTellLate → LateIsSoon → (past turn rise fall gain base due date : ℕ) → IsCommonPeriodOf (settled_date f) r past turn rise fall → NoneLateTo (settled_date f) r (past + turn) → 0 < gain → rise ≡ fall + gain
-        → IsSoonest (settled_date f) r past (past + turn) gain base due date → IsSoonLate f r (base + turns_to due date gain * turn) (due + turns_to due date gain * fall) (date + turns_to due date gain * rise)
+    pub soon_by_turns : TurnsTellLate → LateIsSoon → (past turn rise fall gain base due date : ℕ)
+        → IsCommonPeriodOf (settled_date f) r past turn rise fall → NoneLateTo (settled_date f) r (past + turn) → 0 < gain → rise ≡ fall + gain
+        → IsSoonest (settled_date f) r past (past + turn) gain base due date
+        → IsSoonLate f r (base + turns_to due date gain * turn) (due + turns_to due date gain * fall) (date + turns_to due date gain * rise)
     soon_by_turns law low past turn rise fall gain base due date is none some steep soonest =
         soon low (base + turns_to due date gain * turn) (due + turns_to due date gain * fall) (date + turns_to due date gain * rise)
         (least_as form.dating (settled_date f) r back _ _ _
-        ((law net ok live form.dating form.least r rule past turn rise fall (turn_as past turn rise fall is) (none_to_as (settled_date f) form.dating r same (past + turn) none)).1 gain base due date some steep
+        ((law net ok live form.dating form.least r rule past turn rise fall (turn_as past turn rise fall is)
+        (none_to_as (settled_date f) form.dating r same (past + turn) none)).1 gain base due date some steep
         (soonest_as (settled_date f) form.dating r same past (past + turn) gain base due date soonest)))
 
 -- the first row that is late, with its least late number
-pub late_answer : (net : NetLists) (ok : IsNet net) (live : IsLive net) (f : SettledForm) (form : IsZeroForm net f) (rows : List EndlessRow) → IsEndlessOf net rows → (i : ℕ) (r : EndlessRow) → slice_get rows i ≡ Some r
+pub late_answer : (net : NetLists) (ok : IsNet net) (live : IsLive net) (f : SettledForm) (form : IsZeroForm net f)
+    (rows : List EndlessRow) → IsEndlessOf net rows → (i : ℕ) (r : EndlessRow) → slice_get rows i ≡ Some r
     → All (NoneLate (settled_date f)) (take i rows) → (k due least : ℕ) → IsSoonLate f r k due least → IsLateAnswer net rows r.transition.index k due least
 late_answer net ok live f form rows ends i r at none k due least h =
     let lt : i < length rows = slice_get_within rows i r at in
@@ -127,7 +132,9 @@ late_answer net ok live f form rows ends i r at none k due least h =
             let low : j < i = omega (arith, w, short) in
             let range = (ends.each j d (omega (arith, low, lt))).in_range in
             let same : get_or (take i rows) j d ≡ get_or rows j d = get_or-take i rows j d low in
-            none_as (settled_date f) form.dating (get_or (take i rows) j d) (λ m o. tells net ok live f form (get_or (take i rows) j d).transition.index m (subst (λ (q : EndlessRow). q.transition.index < length net.transitions) (sym same) range) o) (none j d w);
+            none_as (settled_date f) form.dating (get_or (take i rows) j d)
+            (λ m o. tells net ok live f form (get_or (take i rows) j d).transition.index m
+            (subst (λ (q : EndlessRow). q.transition.index < length net.transitions) (sym same) range) o) (none j d w);
         least_late = least_as (settled_date f) form.dating r (λ m o. tells net ok live f form r.transition.index m rule.in_range o) k due least h.is;
       };
       transition = refl;
@@ -137,7 +144,8 @@ late_answer net ok live f form rows ends i r at none k due least h =
     }
 
 -- where no row is late the inputs at 0 meet the due dates
-pub all_meet : (net : NetLists) (ok : IsNet net) (live : IsLive net) (f : SettledForm) (form : IsZeroForm net f) (rows : List EndlessRow) → IsEndlessOf net rows → ZeroMeetsWhereNoneLate → All (NoneLate (settled_date f)) rows
+pub all_meet : (net : NetLists) (ok : IsNet net) (live : IsLive net) (f : SettledForm) (form : IsZeroForm net f)
+    (rows : List EndlessRow) → IsEndlessOf net rows → ZeroMeetsWhereNoneLate → All (NoneLate (settled_date f)) rows
     → InputsMeet net (due_on rows) inputs_at_zero
 all_meet net ok live f form rows ends law none =
     (law net ok live rows ends form.dating form.least).1

@@ -28,7 +28,8 @@ use Rattle.teg_forever.specs.declared.releases.ForeverRefusal.{ForeverRefusal}
 use Rattle.teg_forever.specs.declared.releases.ForeverRefusal.TheVariants.{Late, TooLong, TooWide, OutOfMemory}
 use Rattle.teg_forever.specs.LatestReleases.{inputs_of}
 use Rattle.teg_forever.proofs.InputLists.{all_low}
-use Rattle.teg_forever.specs.EndlessTexts.{EndlessAnswer, LongFile, UnreadFile, Faulty, Answered, answer_lines, release_line, endless_lines_of, series_words, IsReleaseTold, IsEndlessTold, TextsOfEndlessDiffer}
+use Rattle.teg_forever.specs.EndlessTexts.{EndlessAnswer, LongFile, UnreadFile, Faulty, Answered, answer_lines, release_line, endless_lines_of}
+use Rattle.teg_forever.specs.EndlessTexts.{series_words, IsReleaseTold, IsEndlessTold, TextsOfEndlessDiffer}
 
 -- ---- what is read
 
@@ -111,13 +112,17 @@ not_three m n h = grind (arith, nat_tests)
 
 release_back : (net : NetLists) (u : ℕ) (r : Release) → IsReleaseTold r → release_read (release_line net u r) ≡ r
 release_back net u Free h = refl
-release_back net u (Latest f) h = rw (not_three (length (told_line (name_of_transition net (record { index = u })) f)) (length (told_values f)) (long_line (name_of_transition net (record { index = u })) f)) (ap Latest (series_back (name_of_transition net (record { index = u })) f h))
+release_back net u (Latest f) h = rw (not_three (length (told_line (name_of_transition net (record { index = u })) f))
+    (length (told_values f)) (long_line (name_of_transition net (record { index = u })) f))
+    (ap Latest (series_back (name_of_transition net (record { index = u })) f h))
 
 release_passes : (net : NetLists) (u : ℕ) (r : Release) → IsNet net → u < length net.transitions → is_line (release_line net u r) ≡ true
 release_passes net u Free rules h = rw (transition_is_word net (record { index = u }) rules h) refl
 release_passes net u (Latest f) rules h =
     rw (transition_is_word net (record { index = u }) rules h)
-    (all_append is_word (told_values f) (told_numbers f) (map_passes (λ (d : Date). ⊤) is_word date_word (λ d _. date_is_word d) f.values (λ i d l. tt)) (rw (decimal_is_word f.period, signed_is_word f.step) refl))
+    (all_append is_word (told_values f) (told_numbers f)
+    (map_passes (λ (d : Date). ⊤) is_word date_word (λ d _. date_is_word d) f.values (λ i d l. tt))
+    (rw (decimal_is_word f.period, signed_is_word f.step) refl))
 
 at_first : (releases : List Release) (r : Release) → All IsReleaseTold (r ∷ releases) → IsReleaseTold r × All IsReleaseTold releases
 at_first releases r h = (h 0 r (omega arith), λ k d w. h (suc k) d (omega (arith, w)))
@@ -128,7 +133,8 @@ releases_back net [] (r ∷ releases) e h = absurd (omega arith)
 releases_back net (t ∷ ts) [] e h = absurd (omega arith)
 releases_back net (t ∷ ts) (r ∷ releases) e h =
     let parts = at_first releases r h in
-    ap (λ (x : Release). x ∷ map release_read (endless_lines_of net ts releases)) (release_back net t r parts.0) ∙ ap (λ (l : List Release). r ∷ l) (releases_back net ts releases (omega arith) parts.1)
+    ap (λ (x : Release). x ∷ map release_read (endless_lines_of net ts releases)) (release_back net t r parts.0)
+    ∙ ap (λ (l : List Release). r ∷ l) (releases_back net ts releases (omega arith) parts.1)
 
 first_low : (n : ℕ) (ts : List ℕ) (t : ℕ) → All (λ u. u < n) (t ∷ ts) → (t < n) × All (λ u. u < n) ts
 first_low n ts t h = (h 0 t (omega arith), λ k d w. h (suc k) d (omega (arith, w)))

@@ -39,7 +39,8 @@ module _ (net : NetLists) (ok : IsNet net) (u : ℕ) (f : SettledForm) (transfer
       ∙ one_time net u t (k + 1) (value_at (told_form f t) k) (value_at b.series k) (from_t.each k) (w.times k)) in
       ap gain_of (one_canonical a.series b.series h.canonical w.canonical values)
 
-  pub as_before : (rows : List EndlessRow) (i j : ℕ) (r q : EndlessRow) → slice_get rows i ≡ Some r → slice_get rows (i - 1) ≡ Some q → r.transition.index < length net.transitions → q.transition.index < length net.transitions
+  pub as_before : (rows : List EndlessRow) (i j : ℕ) (r q : EndlessRow) → slice_get rows i ≡ Some r → slice_get rows (i - 1) ≡ Some q
+      → r.transition.index < length net.transitions → q.transition.index < length net.transitions
       → IsAlikeAt rows i j → IsAlikeAt rows (i - 1) j → HaveSameWalks f r.transition.index q.transition.index → IsAsBefore net rows u i
   as_before rows i j r q at before l m here there same walks dues columns =
       let g : GotRow rows j = got_row rows j here.within in
@@ -67,7 +68,8 @@ left_of : (net : NetLists) (rows : List EndlessRow) (u i : ℕ) (list : List Div
 left_of net rows u i list place q h stands walks dues columns = stands h.divided h.stands ∙ (h.is walks dues columns).0
 
 -- the meet over one row
-pub begun_so_far : (net : NetLists) (rows : List EndlessRow) (u : ℕ) (list : List Divided) (place : ℕ) (q : Gain) (m : Meet) → IsResidualOf net rows u 0 list place → StandsAt list place q → IsSeries q.series → m.gain.series ≡ q.series
+pub begun_so_far : (net : NetLists) (rows : List EndlessRow) (u : ℕ) (list : List Divided) (place : ℕ) (q : Gain) (m : Meet)
+    → IsResidualOf net rows u 0 list place → StandsAt list place q → IsSeries q.series → m.gain.series ≡ q.series
     → IsMeetSoFar net rows u 1 m
 begun_so_far net rows u list place q m h stands is e =
     let same : m.gain ≡ q = ap gain_of e in
@@ -79,7 +81,8 @@ begun_so_far net rows u list place q m h stands is e =
     }
 
 -- and over one row more
-pub met_so_far : (net : NetLists) (rows : List EndlessRow) (u i : ℕ) (list : List Divided) (place : ℕ) (q m : Gain) (after : Meet) → 0 < i → IsMeetOver net rows u i m → IsResidualOf net rows u i list place → StandsAt list place q
+pub met_so_far : (net : NetLists) (rows : List EndlessRow) (u i : ℕ) (list : List Divided) (place : ℕ) (q m : Gain) (after : Meet)
+    → 0 < i → IsMeetOver net rows u i m → IsResidualOf net rows u i list place → StandsAt list place q
     → AreMet m q after.gain → (IsTrue after.stays → AreMet after.gain q after.gain) → IsMeetSoFar net rows u (i + 1) after
 met_so_far net rows u i list place q m after some over h stands met stay = record {
   over = meet_on net rows u i list place q m after.gain some over h stands met.value met.fit;

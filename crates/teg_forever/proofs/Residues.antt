@@ -27,19 +27,22 @@ use Rattle.teg_forever.specs.Divisions.{IsMeetOver}
 use Rattle.forever_laws.proofs.Inputs.{input_in}
 use Rattle.forever_laws.proofs.number_laws_proofs.Numbers.{same_number}
 
-module _ (net : NetLists) (rows : List EndlessRow) (u : ℕ) (ok : IsNet net) (live : IsLive net) (ends : IsEndlessOf net rows) (input : IsInput net u) (exist : ColumnsExist) (m : Gain) (meet : IsMeetOver net rows u (length rows) m) where
+module _ (net : NetLists) (rows : List EndlessRow) (u : ℕ) (ok : IsNet net) (live : IsLive net) (ends : IsEndlessOf net rows)
+    (input : IsInput net u) (exist : ColumnsExist) (m : Gain) (meet : IsMeetOver net rows u (length rows) m) where
   -- an input whose walk times settle is fine where each row fits
   pub fine : WalkTimesSettleSoon net u → IsFine net rows u
   fine settles = let c = exist net ok live rows ends u input in record { settles = settles; walks = c.0; dues = c.1; columns = c.2; fit = (meet c.0 c.1 c.2).fit }
 
   -- and the meet has its latest dates
-  pub released : ResidualsAreLatestDates → ResidualsAreFreeOrNumbers → 1 ≤ length rows → InputsMeet net (due_on rows) inputs_at_zero → (release : Release) → IsReleaseBy m.series release → IsReleaseOf net rows u release
+  pub released : ResidualsAreLatestDates → ResidualsAreFreeOrNumbers → 1 ≤ length rows → InputsMeet net (due_on rows) inputs_at_zero
+      → (release : Release) → IsReleaseBy m.series release → IsReleaseOf net rows u release
   released latest numbers some zero release h =
       let c = exist net ok live rows ends u input in
       let value : m ≡ residual_over (length rows) c.0 c.1 = (meet c.0 c.1 c.2).value in
       by_meet c.0 c.1 c.2 release (subst (λ (g : Gain). IsReleaseBy g.series release) value h)
     where
-      by_meet : (walks dues : ℕ → Gain) → AreSeriesColumns net u rows walks dues → (release : Release) → IsReleaseBy (residual_over (length rows) walks dues).series release → IsReleaseOf net rows u release
+      by_meet : (walks dues : ℕ → Gain) → AreSeriesColumns net u rows walks dues → (release : Release)
+          → IsReleaseBy (residual_over (length rows) walks dues).series release → IsReleaseOf net rows u release
       by_meet walks dues columns Free h = ((numbers net ok live rows ends some zero u (input_in net u input) walks dues columns).0 h).1
       by_meet walks dues columns (Latest s) h = (
         subst (λ (z : Form). IsSeries z) (sym h.1) h.2,
@@ -71,7 +74,8 @@ fine_alone net rows u f transfer short e = subst (λ (l : List EndlessRow). IsFi
     none i r w = cc w
 
 -- why an input has no release is why there are none
-pub refused_at : (net : NetLists) (rows : List EndlessRow) (u : TransitionId) (releases : List Release) → IsInput net u.index → InputsMeet net (due_on rows) inputs_at_zero → AreReleasesBelow net rows u.index releases
+pub refused_at : (net : NetLists) (rows : List EndlessRow) (u : TransitionId) (releases : List Release) → IsInput net u.index
+    → InputsMeet net (due_on rows) inputs_at_zero → AreReleasesBelow net rows u.index releases
     → (why : ForeverRefusal) → IsStopped net rows u why → ForeverRefused net rows why
 refused_at net rows u releases input meet below (Late t k due least) h = absurd h
 refused_at net rows u releases input meet below (TooLong v) h =

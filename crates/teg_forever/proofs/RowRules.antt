@@ -1,5 +1,6 @@
 -- What the rows of a file of due dates without end keep.
-use Rattle.std.proofs.Common.{ℕ, zero, suc, ◌<◌, ◌≤◌, ◌+◌, ◌-◌, ◌==◌, ◌&&◌, ◌≡◌, ◌∷◌, [], List, Bool, true, false, length, get_or, map, Option, Some, None, Ok, All, AllPairs, inl, inr, refl, subst, arith, leb-true}
+use Rattle.std.proofs.Common.{ℕ, zero, suc, ◌<◌, ◌≤◌, ◌+◌, ◌-◌, ◌==◌, ◌&&◌, ◌≡◌, ◌∷◌, [], List, Bool, true, false, length, get_or, map, Option, Some}
+use Rattle.std.proofs.Common.{None, Ok, All, AllPairs, inl, inr, refl, subst, arith, leb-true}
 use Rattle.std.specs.Prelude.{nat_le, slice_index}
 use Rattle.std.specs.List.{list_all}
 use Rattle.std.specs.List.Sorted.{IsNonDecreasing}
@@ -55,7 +56,8 @@ pub record IsNewRow (net : NetLists) (rows : List EndlessRow) (r : EndlessRow) :
 kept_rule : (net : NetLists) (k t every gap : ℕ) (dates : List ℕ) → t < length net.transitions → is_input net t ≡ false → in_endless_limits every gap dates ≡ true → goes_on every gap dates ≡ true
     → IsEndlessRow net (record { row = k; transition = record { index = t }; every = every; gap = gap; dates = dates })
 kept_rule net k t every gap dates lt role low on =
-    let one = and_parts (nat_le 1 every) (nat_le every greatest_every && (nat_le gap greatest_input_date && (nat_le (length dates) most_endless_dates && list_all (λ d. nat_le d greatest_input_date) dates))) low in
+    let one = and_parts (nat_le 1 every) (nat_le every greatest_every &&
+    (nat_le gap greatest_input_date && (nat_le (length dates) most_endless_dates && list_all (λ d. nat_le d greatest_input_date) dates))) low in
     let two = and_parts (nat_le every greatest_every) (nat_le gap greatest_input_date && (nat_le (length dates) most_endless_dates && list_all (λ d. nat_le d greatest_input_date) dates)) one.1 in
     let three = and_parts (nat_le gap greatest_input_date) (nat_le (length dates) most_endless_dates && list_all (λ d. nat_le d greatest_input_date) dates) two.1 in
     let four = and_parts (nat_le (length dates) most_endless_dates) (list_all (λ d. nat_le d greatest_input_date) dates) three.1 in
@@ -76,7 +78,8 @@ kept_rule net k t every gap dates lt role low on =
       };
     }
 
-numbered_new : (net : NetLists) (rows : List EndlessRow) (k t every gap : ℕ) (dates : List ℕ) (r : EndlessRow) → t < length net.transitions → is_input net t ≡ false → endless_numbered rows k t every gap dates ≡ Ok r → IsNewRow net rows r
+numbered_new : (net : NetLists) (rows : List EndlessRow) (k t every gap : ℕ) (dates : List ℕ) (r : EndlessRow)
+    → t < length net.transitions → is_input net t ≡ false → endless_numbered rows k t every gap dates ≡ Ok r → IsNewRow net rows r
 numbered_new net rows k t every gap dates r lt role e = elim (cases_Bool (has_row rows t)) [
   | inl twice ↦ cc (rw twice at e)
   | inr fresh ↦ elim (cases_Bool (in_endless_limits every gap dates)) [
@@ -90,7 +93,8 @@ numbered_new net rows k t every gap dates r lt role e = elim (cases_Bool (has_ro
   ]
 ]
 
-placed_new : (net : NetLists) (rows : List EndlessRow) (k every gap : ℕ) (dates : List ℕ) (name : List ℕ) (o : Option ℕ) (r : EndlessRow) → number_named net name ≡ o → endless_placed net rows k o every gap dates ≡ Ok r → IsNewRow net rows r
+placed_new : (net : NetLists) (rows : List EndlessRow) (k every gap : ℕ) (dates : List ℕ) (name : List ℕ) (o : Option ℕ)
+    (r : EndlessRow) → number_named net name ≡ o → endless_placed net rows k o every gap dates ≡ Ok r → IsNewRow net rows r
 placed_new net rows k every gap dates name None r named e = cc e
 placed_new net rows k every gap dates name (Some t) r named e = elim (cases_Bool (is_input net t)) [
   | inl input ↦ cc (rw input at e)

@@ -45,7 +45,8 @@ swaps_back u v s t (inr (inr h)) = inr (inr (λ e. h.1 (h.2 ∙ e), λ e. h.0 (h
 -- a walk that begins at no input comes to none
 to_no_input : (net : NetLists) → IsNet net → (steps : List Step) (a j t k : ℕ) → (IsInput net a → ⊥) → Walks net a j steps t k → IsInput net t → ⊥
 to_no_input net ok [] a j t k outside w is = outside (subst (IsInput net) (sym w.0) is)
-to_no_input net ok (By p ∷ steps) a j t k outside w is = to_no_input net ok steps (place_at net p).to.index (j + (place_at net p).tokens) t k (ok.each_place p.index no_place w.0).enters_no_input w.2 is
+to_no_input net ok (By p ∷ steps) a j t k outside w is =
+    to_no_input net ok steps (place_at net p).to.index (j + (place_at net p).tokens) t k (ok.each_place p.index no_place w.0).enters_no_input w.2 is
 to_no_input net ok (Next ∷ steps) a j t k outside w is = to_no_input net ok steps a (j + 1) t k outside w is
 
 -- steps from a firing of one transition that lead there in the same time as other steps
@@ -212,7 +213,8 @@ module _ (net : NetLists) (ok : IsNet net) (u v : ℕ) (first : IsInput net u) (
 -- ---- where it stands
 
 -- what stands beside an input that is kept
-pub beside_at : (Is : ℕ → Release → Type 0) (ts : List ℕ) (releases : List Release) (place t : ℕ) (r : Release) → AreBeside Is ts releases → slice_get ts place ≡ Some t → slice_get releases place ≡ Some r → Is t r
+pub beside_at : (Is : ℕ → Release → Type 0) (ts : List ℕ) (releases : List Release) (place t : ℕ) (r : Release)
+    → AreBeside Is ts releases → slice_get ts place ≡ Some t → slice_get releases place ≡ Some r → Is t r
 beside_at Is [] releases place t r h a b = cc a
 beside_at Is (s ∷ ts) [] place t r h a b = absurd h
 beside_at Is (s ∷ ts) (q ∷ releases) zero t r h a b = subst (λ (z : ℕ). Is z r) (some_is (Some s) s t refl a) (subst (Is s) (some_is (Some q) q r refl b) h.0)
@@ -235,4 +237,5 @@ below_on net (suc m) n place t l h = ⊎_elim
 pub stands_next : (net : NetLists) (u n place : ℕ) → u < n → is_input net u ≡ true → place ≡ length (inputs_below net u) → slice_get (inputs_below net n) place ≡ Some u
 stands_next net u n place l told e =
     below_on net n (u + 1) place u (omega arith)
-    (subst (λ (i : ℕ). slice_get (inputs_below net (u + 1)) i ≡ Some u) (sym e) (subst (λ (l : List ℕ). slice_get l (length (inputs_below net u)) ≡ Some u) (sym (inputs_more net u told)) (behind (inputs_below net u) u)))
+    (subst (λ (i : ℕ). slice_get (inputs_below net (u + 1)) i ≡ Some u) (sym e)
+    (subst (λ (l : List ℕ). slice_get l (length (inputs_below net u)) ≡ Some u) (sym (inputs_more net u told)) (behind (inputs_below net u) u)))

@@ -22,5 +22,6 @@ line_more net ts releases i d e text text' whole w v pushed before =
     let line = release_line net (get_or ts i d) (get_or releases i e) in
     let rest = written (endless_lines_of net (drop (i + 1) ts) (drop (i + 1) releases)) in
     let parts : written (endless_lines_of net (drop i ts) (drop i releases)) ≡ line_then line rest =
-    ap (λ (l : List ℕ). written (endless_lines_of net l (drop i releases))) (drop_more ts i d w) ∙ ap (λ (l : List Release). written (endless_lines_of net (get_or ts i d ∷ drop (i + 1) ts) l)) (drop_more releases i e v) in
+    ap (λ (l : List ℕ). written (endless_lines_of net l (drop i releases))) (drop_more ts i d w)
+    ∙ ap (λ (l : List Release). written (endless_lines_of net (get_or ts i d ∷ drop (i + 1) ts) l)) (drop_more releases i e v) in
     ap (λ (l : List ℕ). l ++ rest) pushed ∙ append_assoc text (line_then line []) rest ∙ ap (λ (l : List ℕ). text ++ l) (sym (line_append line rest) ∙ sym parts) ∙ before

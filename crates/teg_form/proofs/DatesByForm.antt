@@ -60,7 +60,8 @@ module _ (net : NetLists) (form : FormLists) (h : IsStandardFormOf net form) (u 
       let known : IsStarEntry net e = h.stars.known any.0 any.1 any.2 in
       let to : e.to.index ≡ p.to.index = ap (λ y. y.to.index) is ∙ any.4.0 in
       let from : e.from.index ≡ p.from.index = ap (λ y. y.from.index) is ∙ any.4.1 in
-      let longest : p.hold ≤ e.time = known.time.greatest p.hold (subst (λ b. IsTimeOfFreePath net e.from.index b p.hold) (sym to) (subst (λ a. IsTimeOfFreePath net a p.to.index p.hold) (sym from) path)) in
+      let longest : p.hold ≤ e.time = known.time.greatest p.hold
+      (subst (λ b. IsTimeOfFreePath net e.from.index b p.hold) (sym to) (subst (λ a. IsTimeOfFreePath net a p.to.index p.hold) (sym from) path)) in
       let there : IsAtMostDate (delayed e.time (x p.from.index k)) z = subst (λ a. IsAtMostDate (delayed e.time (x a k)) z) from (n.stars any.0 any.1 any.2 (to ∙ q)) in
       at_most_trans (delayed p.hold (x p.from.index k)) (delayed e.time (x p.from.index k)) z (delayed_more p.hold e.time (x p.from.index k) longest) there
 
@@ -88,7 +89,8 @@ module _ (net : NetLists) (form : FormLists) (h : IsStandardFormOf net form) (u 
       at_most_trans (delayed p.hold (x p.from.index before)) (delayed e.time (x p.from.index before)) z (delayed_more p.hold e.time (x p.from.index before) longest) there
 
   -- the tokens that the firing takes from the net's places
-  pub own_place : (bound : ℕ) (r : ℕ → ℕ) → AreRanks net.places bound r → (i : ℕ) → i < length net.places → (get_or net.places i no_place).to.index ≡ t → IsAtMostDate (available_at x (get_or net.places i no_place) k) z
+  pub own_place : (bound : ℕ) (r : ℕ → ℕ) → AreRanks net.places bound r → (i : ℕ) → i < length net.places
+      → (get_or net.places i no_place).to.index ≡ t → IsAtMostDate (available_at x (get_or net.places i no_place) k) z
   own_place bound r rr i l q =
       let id : PlaceId = record { index = i } in
       let p : Place = get_or net.places i no_place in
@@ -141,7 +143,8 @@ module _ (net : NetLists) (form : FormLists) (h : IsStandardFormOf net form) (u 
       at_most_trans (u t k) (start_of_firing net u t k) z (subst (λ d. IsAtMostDate d (start_of_firing net u t k)) is low) n.start
 
 -- the least dates are those by the form
-pub least_by_form : (net : NetLists) (form : FormLists) (u x : Dating) (bound : ℕ) (r : ℕ → ℕ) → AreRanks net.places bound r → IsStandardFormOf net form → IsLeastUnder net u x → AreDatesByForm net form u x
+pub least_by_form : (net : NetLists) (form : FormLists) (u x : Dating) (bound : ℕ) (r : ℕ → ℕ) → AreRanks net.places bound r
+    → IsStandardFormOf net form → IsLeastUnder net u x → AreDatesByForm net form u x
 least_by_form net form u x bound r rr h least t k l o =
     let f = least.feasible in
     let s : System = system_of net u in

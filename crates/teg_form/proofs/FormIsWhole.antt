@@ -47,7 +47,8 @@ star_waits : (net : NetLists) (x : Dating) → Keeps net x → (t k : ℕ) (z : 
 star_waits net x c t k z w o [] a apart h none = absurd (apart (sym h))
 star_waits net x c t k z w o (p ∷ ps) a apart h none = path_waits net x c t k z w p ps a k o (omega (arith, none)) h
 
-module _ (net : NetLists) (form : FormLists) (h : IsStandardFormOf net form) (u x : Dating) (bound : ℕ) (r : ℕ → ℕ) (ends : HasEndsInRange net) (rr : AreRanks net.places bound r) (d : AreDatesByForm net form u x) where
+module _ (net : NetLists) (form : FormLists) (h : IsStandardFormOf net form) (u x : Dating) (bound : ℕ) (r : ℕ → ℕ)
+    (ends : HasEndsInRange net) (rr : AreRanks net.places bound r) (d : AreDatesByForm net form u x) where
   feasible : IsFeasibleUnder net u x
   feasible = record {
     places = λ k o. all_extended_in net (λ p. IsAtMostDate (available_at x p k) (x p.to.index k))
@@ -121,7 +122,8 @@ module _ (net : NetLists) (form : FormLists) (h : IsStandardFormOf net form) (u 
           let there : IsPathBetween net s.from.index (path.first ∷ path.others) t = subst (IsPathBetween net s.from.index (path.first ∷ path.others)) q path.path in
           let before : ℕ = k - s.tokens in
           let end : before + tokens_of net (path.first ∷ path.others) ≡ k = omega (arith, few, path.first_tokens, path.no_tokens, sum_by-cons (λ v. (place_at net v).tokens) path.first path.others) in
-          subst (λ v. IsAtMostDate (delayed v (x s.from.index before)) z) (sym path.is) (path_waits net x keeps t k z waits_for path.first path.others s.from.index before (omega (arith, few)) end there);
+          subst (λ v. IsAtMostDate (delayed v (x s.from.index before)) z) (sym path.is)
+          (path_waits net x keeps t k z waits_for path.first path.others s.from.index before (omega (arith, few)) end there);
     }
 
   tight : IsTight net u x

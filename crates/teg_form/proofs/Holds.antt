@@ -72,6 +72,7 @@ holds_more net holds i ok h l z =
           (λ (q : k < i). at_most_trans (At (pos (place net k).hold)) (get_or holds c Early) (get_or (set holds at new) c Early) (h.complete k q y) kept)
           (λ (q : i ≤ k).
           let e : i ≡ k = omega arith in
-          subst (λ v. IsAtMostDate (At (pos (place net v).hold)) (cell (set holds at new) n (place net v).from.index (place net v).to.index)) e (subst (IsAtMostDate hold) (sym here) (later_right old hold)))
+          subst (λ v. IsAtMostDate (At (pos (place net v).hold))
+          (cell (set holds at new) n (place net v).from.index (place net v).to.index)) e (subst (IsAtMostDate hold) (sym here) (later_right old hold)))
           (cases_lt k i);
     }

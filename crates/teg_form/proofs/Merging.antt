@@ -68,7 +68,8 @@ before_of net order turn e f h k l = ⊎_elim
     (cases_lt e.to.index f.to.index)
 
 -- an entry of an earlier turn does not stand after one of this turn
-pub not_after : (net : NetLists) (order : List Marked) (turn : ℕ) (e f : Entry) → IsKeyOrder net order → IsFromTurn net order turn e → (k : IsFromTurn net order (turn + 1) f) → f.to.index * length order + k.pos ≡ turn → code e ≤ code f
+pub not_after : (net : NetLists) (order : List Marked) (turn : ℕ) (e f : Entry) → IsKeyOrder net order → IsFromTurn net order turn e
+    → (k : IsFromTurn net order (turn + 1) f) → f.to.index * length order + k.pos ≡ turn → code e ≤ code f
 not_after net order turn e f ord h k at = ⊎_elim
     (λ s. omega (arith, s, h.few_from, h.few_tokens, k.few_from, k.few_tokens))
     (λ s. let keys : (mark_at order h.pos).key ≤ (mark_at order k.pos).key = ord.sorted h.pos k.pos no_mark (omega (arith, s.1)) k.in_order in omega (arith, s.0, keys, h.key, k.key))
@@ -85,7 +86,17 @@ at_turn n a b turn hb hn l = ⊎_elim
     (cases_lt (a * n + b) turn)
 
 later_turn : (net : NetLists) (order : List Marked) (turn : ℕ) (e : Entry) → IsFromTurn net order turn e → IsFromTurn net order (turn + 1) e
-later_turn net order turn e h = record { pos = h.pos; in_order = h.in_order; before = omega (arith, h.before); place = h.place; key = h.key; few_from = h.few_from; few_tokens = h.few_tokens; some = h.some; time = h.time }
+later_turn net order turn e h = record {
+  pos = h.pos;
+  in_order = h.in_order;
+  before = omega (arith, h.before);
+  place = h.place;
+  key = h.key;
+  few_from = h.few_from;
+  few_tokens = h.few_tokens;
+  some = h.some;
+  time = h.time;
+}
 
 -- a turn that gives no entry
 pub entries_same : (net : NetLists) (order : List Marked) (entries : List Entry) (turn : ℕ) → 0 < length order → EntriesUpTo net order entries turn
@@ -167,8 +178,13 @@ entries_kept net order entries turn e some h k more kind less = record {
       let n : ℕ = length entries - 1 in
       let ln : n < length entries = omega arith in
       let here = covers_here net order turn to pos time e k q.0 q.1 w in
-      let enough : time ≤ (last_entry entries).time = omega (arith, here.enough, less) in
-      (n, last_entry entries, ln, get_or_default entries n (last_entry entries) no_entry ln, covers_by net (mark_at order pos).place to time e (last_entry entries) (turned_kind (last_entry entries) e kind) here enough))
+      let enough : time ≤ (last_entry entries).time = omega (arith, here.enough, less) in (
+        n,
+        last_entry entries,
+        ln,
+        get_or_default entries n (last_entry entries) no_entry ln,
+        covers_by net (mark_at order pos).place to time e (last_entry entries) (turned_kind (last_entry entries) e kind) here enough,
+      ))
       (at_turn (length order) to pos turn l some m);
   sorted = h.sorted;
 }
@@ -220,7 +236,8 @@ entries_added net order entries new turn e ord some h k added = ⊎_elim
     added
 
 pub of_turn : (net : NetLists) (order : List Marked) (turn : ℕ) (e : Entry) → IsNet net → IsKeyOrder net order → 0 < length order → e.to.index ≡ turn / length order
-    → IsFirstPlaceOf net (mark_at order (turn % length order)).place e → IsGreatestTime (IsTimeFrom net (mark_at order (turn % length order)).place (turn / length order)) e.time → IsOfTurn net order turn e
+    → IsFirstPlaceOf net (mark_at order (turn % length order)).place e
+    → IsGreatestTime (IsTimeFrom net (mark_at order (turn % length order)).place (turn / length order)) e.time → IsOfTurn net order turn e
 of_turn net order turn e ok ord some to place time =
     let pos : ℕ = turn % length order in
     let lp : pos < length order = mod-lt turn some in
@@ -311,5 +328,6 @@ module _ (net : NetLists) (order : List Marked) (entries : List Entry) (ok : IsN
           };
         };
     all = λ a b tokens time some w. let f = above a b tokens time some w in (f.0, f.1, f.2, f.3, (f.4.0, f.4.1, f.4.2));
-    sorted = λ i j d l m. before_of net order (length net.transitions * length order) (get_or entries i d) (get_or entries j d) (h.known i d (omega (arith, l, m))) (h.known j d m) (h.sorted i j d l m);
+    sorted = λ i j d l m. before_of net order (length net.transitions * length order) (get_or entries i d) (get_or entries j d)
+        (h.known i d (omega (arith, l, m))) (h.known j d m) (h.sorted i j d l m);
   }

@@ -1,5 +1,6 @@
 -- The loop of `stars_of`, and what a cell of the times says.
-use Rattle.std.proofs.Common.{ℕ, ℤ, pos, ◌+◌, ◌*◌, ◌/◌, ◌%◌, ◌<◌, ◌≤◌, ◌≡◌, ◌≢◌, ◌⊎◌, ◌^◌, FitsSigned, unsigned_abs, nat_abs, to_z, of_z, to_z-of_z, List, [], ◌∷◌, ◌++◌, length, get_or, refl, sym, ap, subst, ◌∙◌, arith, ⊎_elim, inl, inr, mod-lt}
+use Rattle.std.proofs.Common.{ℕ, ℤ, pos, ◌+◌, ◌*◌, ◌/◌, ◌%◌, ◌<◌, ◌≤◌, ◌≡◌, ◌≢◌, ◌⊎◌, ◌^◌, FitsSigned, unsigned_abs, nat_abs, to_z, of_z, to_z-of_z}
+use Rattle.std.proofs.Common.{List, [], ◌∷◌, ◌++◌, length, get_or, refl, sym, ap, subst, ◌∙◌, arith, ⊎_elim, inl, inr, mod-lt}
 use Rattle.std.specs.Prelude.{All, Any, AllPairs}
 use Rattle.std.specs.Int.{w128}
 use Rattle.std.proofs.lemmas.Bool.{cases_lt}
@@ -148,7 +149,8 @@ stars_are net stars ok h = record {
 }
 
 -- the greatest time of the paths that begin with a place, from that of those without tokens that go on
-pub time_from : (net : NetLists) (times : Table Date) (id : PlaceId) (to : ℕ) (x : ℤ) (p : Place) → IsNet net → AreFreeTimes net times → id.index < length net.places → to < length net.transitions → p ≡ place_at net id
+pub time_from : (net : NetLists) (times : Table Date) (id : PlaceId) (to : ℕ) (x : ℤ) (p : Place) → IsNet net → AreFreeTimes net times
+    → id.index < length net.places → to < length net.transitions → p ≡ place_at net id
     → cell times.entries times.columns p.to.index to ≡ At x → IsGreatestTime (IsTimeFrom net id to) (p.hold + nat_abs (to_z w128 (of_z w128 x)))
 time_from net times id to x p ok h l ht is e =
     let start : (place_at net id).to.index < length net.transitions = (ok.each_place id.index no_place l).to_in in

@@ -119,7 +119,8 @@ module _ (d : DioidOf Date) (s : KleeneOf Date) (is : AreOfDates d s) where
 
     -- no path without tokens takes longer than the entry of its ends
     module _ (net : NetLists) (ok : IsNet net) (size : n ≡ length net.transitions)
-        (holds : (id : PlaceId) → id.index < length net.places → (place_at net id).tokens ≡ 0 → IsAtMostDate (At (pos (place_at net id).hold)) (a (place_at net id).from.index (place_at net id).to.index)) where
+        (holds : (id : PlaceId) → id.index < length net.places → (place_at net id).tokens ≡ 0
+        → IsAtMostDate (At (pos (place_at net id).hold)) (a (place_at net id).from.index (place_at net id).to.index)) where
       ends_in : (ps : List PlaceId) (i c : ℕ) → i < n → IsPathBetween net i ps c → c < n
       ends_in [] i c hi h = omega (arith, h)
       ends_in (p ∷ ps) i c hi h = ends_in ps (place_at net p).to.index c (omega (arith, size, (ok.each_place p.index no_place h.0).to_in)) h.2

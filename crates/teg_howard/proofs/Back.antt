@@ -93,7 +93,8 @@ module _ (net : NetLists) (parts : List ℕ) (part : ℕ) (π : Policy) (ok : Is
       (first_below (λ j. step_back net π (suc j) t ≡ t) (λ j. cases_eq (step_back net π (suc j) t) t) k)
 
   -- following backwards from a member leads to a circuit of the policy
-  pub to_a_circuit : (t : ℕ) → IsMember parts part t → (m k : ℕ) × (0 < k) × (step_back net π k (step_back net π m t) ≡ step_back net π m t) × IsPolicyCircuit net parts part π (trail net π k (step_back net π m t))
+  pub to_a_circuit : (t : ℕ) → IsMember parts part t → (m k : ℕ) × (0 < k)
+      × (step_back net π k (step_back net π m t) ≡ step_back net π m t) × IsPolicyCircuit net parts part π (trail net π k (step_back net π m t))
   to_a_circuit t h =
       let p = pigeons (length parts) (λ i. step_back net π i t) (λ i l. (back_member i t h).in_range) in
       let i = p.0 in

@@ -41,7 +41,8 @@ pub record BestBelow (net : NetLists) (parts : List ℕ) (part : ℕ) (π : Poli
   pub tokens_in : f.tokens ≤ most_circuit_tokens
   pub before : first_transition_of net f.places.items < i
   pub greatest : (d : List PlaceId) → IsPolicyCircuit net parts part π d → Counts net marked d → first_transition_of net d < i → time_of net d * f.tokens ≤ f.time * tokens_of net d
-  pub lowest : (d : List PlaceId) → IsPolicyCircuit net parts part π d → Counts net marked d → first_transition_of net d < i → time_of net d * f.tokens ≡ f.time * tokens_of net d → first_transition_of net f.places.items ≤ first_transition_of net d
+  pub lowest : (d : List PlaceId) → IsPolicyCircuit net parts part π d → Counts net marked d → first_transition_of net d < i
+      → time_of net d * f.tokens ≡ f.time * tokens_of net d → first_transition_of net f.places.items ≤ first_transition_of net d
 
 abbrev pub BestTo : NetLists → List ℕ → ℕ → Policy → List Bool → ℕ → Option FoundCircuit → Type 0
 BestTo net parts part π marked i None = (d : List PlaceId) → IsPolicyCircuit net parts part π d → Counts net marked d → first_transition_of net d < i → ⊥
@@ -51,7 +52,8 @@ starts : (net : NetLists) (ps : List PlaceId) (s t : ℕ) → 0 < length ps → 
 starts net [] s t l h = absurd (omega arith)
 starts net (p ∷ ps) s t l h = sym h.1
 
-module _ (net : NetLists) (parts : List ℕ) (part : ℕ) (π : Policy) (marked : List Bool) (ok : IsPolicy net parts part π) (kept : IsNet net) (live : IsLive net) (count : length parts ≡ length net.transitions) where
+module _ (net : NetLists) (parts : List ℕ) (part : ℕ) (π : Policy) (marked : List Bool) (ok : IsPolicy net parts part π)
+    (kept : IsNet net) (live : IsLive net) (count : length parts ≡ length net.transitions) where
   pub found_circuit : (i : ℕ) (f : FoundCircuit) → IsMember parts part i → IsFoundAt net π i f → IsPolicyCircuit net parts part π f.places.items
   found_circuit i f h c =
       let s : ℕ = c.circuit.closed.0 in
@@ -62,11 +64,15 @@ module _ (net : NetLists) (parts : List ℕ) (part : ℕ) (π : Policy) (marked 
       record { circuit = c.circuit; inside = subst (All (IsPlaceOfPart net parts part)) (sym t.0) (trail_inside net parts part π ok (length f.places.items) s member); own = c.own }
 
   -- no circuit that counts begins at i
-  pub best_skip : (i : ℕ) (best : Option FoundCircuit) → BestTo net parts part π marked i best → ((d : List PlaceId) → IsPolicyCircuit net parts part π d → Counts net marked d → first_transition_of net d ≡ i → ⊥) → BestTo net parts part π marked (i + 1) best
-  best_skip i None h none = λ d c p l. ⊎_elim (λ (q : first_transition_of net d < i). h d c p q) (λ (q : i ≤ first_transition_of net d). none d c p (omega arith)) (cases_lt (first_transition_of net d) i)
+  pub best_skip : (i : ℕ) (best : Option FoundCircuit) → BestTo net parts part π marked i best
+      → ((d : List PlaceId) → IsPolicyCircuit net parts part π d → Counts net marked d → first_transition_of net d ≡ i → ⊥)
+      → BestTo net parts part π marked (i + 1) best
+  best_skip i None h none = λ d c p l. ⊎_elim (λ (q : first_transition_of net d < i). h d c p q)
+      (λ (q : i ≤ first_transition_of net d). none d c p (omega arith)) (cases_lt (first_transition_of net d) i)
   best_skip i (Some f) h none =
       let below = λ (d : List PlaceId) (c : IsPolicyCircuit net parts part π d) (p : Counts net marked d) (l : first_transition_of net d < i + 1).
-      let r : first_transition_of net d < i = ⊎_elim (λ (q : first_transition_of net d < i). q) (λ (q : i ≤ first_transition_of net d). absurd (none d c p (omega arith))) (cases_lt (first_transition_of net d) i) in r in
+      let r : first_transition_of net d < i = ⊎_elim (λ (q : first_transition_of net d < i). q)
+      (λ (q : i ≤ first_transition_of net d). absurd (none d c p (omega arith))) (cases_lt (first_transition_of net d) i) in r in
       let b = h.before in
       record {
         is = h.is;
@@ -94,14 +100,16 @@ module _ (net : NetLists) (parts : List ℕ) (part : ℕ) (π : Policy) (marked 
       subst (λ x. root ≤ x) begins (low k first_id (omega arith))
 
   -- no circuit begins where none is marked to
-  pub skip_unmarked : (starts : List Bool) (i : ℕ) → AreStarts net parts part π starts → (IsMarked starts i → ⊥) → (d : List PlaceId) → IsPolicyCircuit net parts part π d → Counts net marked d → first_transition_of net d ≡ i → ⊥
+  pub skip_unmarked : (starts : List Bool) (i : ℕ) → AreStarts net parts part π starts → (IsMarked starts i → ⊥) → (d : List PlaceId)
+      → IsPolicyCircuit net parts part π d → Counts net marked d → first_transition_of net d ≡ i → ⊥
   skip_unmarked starts i h out d c p e =
       let root : ℕ = first_transition_of net d in
       let t = circuit_trail net parts part π d c in
       let low : IsLowestOnCircuit net π root = record { steps = length d; some = c.circuit.not_empty; again = t.1; lowest = low_back d c p.0 } in
       out (subst (IsMarked starts) e (h.all root (root_member net parts part π d c) low))
 
-  pub skip_none : (i : ℕ) → ((k : ℕ) → 0 < k → k ≤ length net.transitions → step_back net π k i ≡ i → (j : ℕ) × (j < k) × (step_back net π j i < i)) → (d : List PlaceId) → IsPolicyCircuit net parts part π d → Counts net marked d → first_transition_of net d ≡ i → ⊥
+  pub skip_none : (i : ℕ) → ((k : ℕ) → 0 < k → k ≤ length net.transitions → step_back net π k i ≡ i → (j : ℕ) × (j < k)
+      × (step_back net π j i < i)) → (d : List PlaceId) → IsPolicyCircuit net parts part π d → Counts net marked d → first_transition_of net d ≡ i → ⊥
   skip_none i none d c p e =
       let t = circuit_trail net parts part π d c in
       let short = circuit_short net parts part π ok kept d c in
@@ -110,17 +118,22 @@ module _ (net : NetLists) (parts : List ℕ) (part : ℕ) (π : Policy) (marked 
       let down = w.2 in
       absurd (omega arith)
 
-  pub skip_other : (i : ℕ) (f : FoundCircuit) → IsMember parts part i → IsFoundAt net π i f → (Passes net marked f.places.items → ⊥) → (d : List PlaceId) → IsPolicyCircuit net parts part π d → Counts net marked d → first_transition_of net d ≡ i → ⊥
+  pub skip_other : (i : ℕ) (f : FoundCircuit) → IsMember parts part i → IsFoundAt net π i f → (Passes net marked f.places.items → ⊥)
+      → (d : List PlaceId) → IsPolicyCircuit net parts part π d → Counts net marked d → first_transition_of net d ≡ i → ⊥
   skip_other i f h c out d hd p e =
       let same : d ≡ f.places.items = same_circuit net parts part π ok kept d f.places.items hd (found_circuit i f h c) (e ∙ sym c.begins) in
       out (subst (Passes net marked) same p.1)
 
   -- the circuit at i is not above the best
-  pub best_keep : (i : ℕ) (f best : FoundCircuit) → IsMember parts part i → IsFoundAt net π i f → BestBelow net parts part π marked i best → (best.time * f.tokens < f.time * best.tokens → ⊥) → BestBelow net parts part π marked (i + 1) best
+  pub best_keep : (i : ℕ) (f best : FoundCircuit) → IsMember parts part i → IsFoundAt net π i f
+      → BestBelow net parts part π marked i best → (best.time * f.tokens < f.time * best.tokens → ⊥) → BestBelow net parts part π marked (i + 1) best
   best_keep i f best h c b low =
-      let le : f.time * best.tokens ≤ best.time * f.tokens = ⊎_elim (λ (q : best.time * f.tokens < f.time * best.tokens). absurd (low q)) (λ (q : f.time * best.tokens ≤ best.time * f.tokens). q) (cases_lt (best.time * f.tokens) (f.time * best.tokens)) in
+      let le : f.time * best.tokens ≤ best.time * f.tokens =
+      ⊎_elim (λ (q : best.time * f.tokens < f.time * best.tokens). absurd (low q))
+      (λ (q : f.time * best.tokens ≤ best.time * f.tokens). q) (cases_lt (best.time * f.tokens) (f.time * best.tokens)) in
       let before = b.before in
-      let is_f = λ (d : List PlaceId) (hd : IsPolicyCircuit net parts part π d) (e : first_transition_of net d ≡ i). same_circuit net parts part π ok kept d f.places.items hd (found_circuit i f h c) (e ∙ sym c.begins) in
+      let is_f = λ (d : List PlaceId) (hd : IsPolicyCircuit net parts part π d)
+      (e : first_transition_of net d ≡ i). same_circuit net parts part π ok kept d f.places.items hd (found_circuit i f h c) (e ∙ sym c.begins) in
       record {
         is = b.is;
         through = b.through;
@@ -145,17 +158,21 @@ module _ (net : NetLists) (parts : List ℕ) (part : ℕ) (π : Policy) (marked 
             (cases_lt (first_transition_of net d) i);
       }
 
-  less_than : (f : FoundCircuit) (best : Option FoundCircuit) (i : ℕ) → BestTo net parts part π marked i best → IsAbove f best → (d : List PlaceId) → IsPolicyCircuit net parts part π d → Counts net marked d → first_transition_of net d < i → time_of net d * f.tokens < f.time * tokens_of net d
+  less_than : (f : FoundCircuit) (best : Option FoundCircuit) (i : ℕ) → BestTo net parts part π marked i best → IsAbove f best
+      → (d : List PlaceId) → IsPolicyCircuit net parts part π d → Counts net marked d → first_transition_of net d < i
+      → time_of net d * f.tokens < f.time * tokens_of net d
   less_than f None i b above d hd p l = absurd (b d hd p l)
   less_than f (Some g) i b above d hd p l =
       let gt : 0 < g.tokens = subst (λ x. 0 < x) (sym b.tokens) (some_token net live g.places.items b.is.circuit) in
       ratio_trans_less (time_of net d) (tokens_of net d) g.time g.tokens f.time f.tokens gt (some_token net live d hd.circuit) (b.greatest d hd p l) above
 
   -- the circuit at i is above the best, or the first
-  pub best_take : (i : ℕ) (f : FoundCircuit) (best : Option FoundCircuit) → IsMember parts part i → IsFoundAt net π i f → Passes net marked f.places.items → BestTo net parts part π marked i best → IsAbove f best → BestBelow net parts part π marked (i + 1) f
+  pub best_take : (i : ℕ) (f : FoundCircuit) (best : Option FoundCircuit) → IsMember parts part i → IsFoundAt net π i f
+      → Passes net marked f.places.items → BestTo net parts part π marked i best → IsAbove f best → BestBelow net parts part π marked (i + 1) f
   best_take i f best h c through b above =
       let circuit = found_circuit i f h c in
-      let is_f = λ (d : List PlaceId) (hd : IsPolicyCircuit net parts part π d) (e : first_transition_of net d ≡ i). same_circuit net parts part π ok kept d f.places.items hd circuit (e ∙ sym c.begins) in
+      let is_f = λ (d : List PlaceId) (hd : IsPolicyCircuit net parts part π d)
+      (e : first_transition_of net d ≡ i). same_circuit net parts part π ok kept d f.places.items hd circuit (e ∙ sym c.begins) in
       let less = λ (d : List PlaceId) (hd : IsPolicyCircuit net parts part π d) (p : Counts net marked d) (l : first_transition_of net d < i). less_than f best i b above d hd p l in
       let begins = c.begins in
       record {
@@ -211,12 +228,14 @@ module _ (net : NetLists) (parts : List ℕ) (part : ℕ) (π : Policy) (marked 
       let m = (root_member net parts part π t.places t.is).in_range in
       b t.places t.is (t.low, t.any p) (omega arith)
 
-  pub best_stay : (i : ℕ) (f : FoundCircuit) (best : Option FoundCircuit) → IsMember parts part i → IsFoundAt net π i f → BestTo net parts part π marked i best → (IsAbove f best → ⊥) → BestTo net parts part π marked (i + 1) best
+  pub best_stay : (i : ℕ) (f : FoundCircuit) (best : Option FoundCircuit) → IsMember parts part i → IsFoundAt net π i f
+      → BestTo net parts part π marked i best → (IsAbove f best → ⊥) → BestTo net parts part π marked (i + 1) best
   best_stay i f None h c b low = absurd (low tt)
   best_stay i f (Some best) h c b low = best_keep i f best h c b low
 
   -- the better of the circuit from i and the best so far
-  pub best_of : (i : ℕ) (f : FoundCircuit) (best new : Option FoundCircuit) → IsMember parts part i → IsFoundAt net π i f → BestTo net parts part π marked i best → IsBetterOf net marked f best new → BestTo net parts part π marked (i + 1) new
+  pub best_of : (i : ℕ) (f : FoundCircuit) (best new : Option FoundCircuit) → IsMember parts part i → IsFoundAt net π i f
+      → BestTo net parts part π marked i best → IsBetterOf net marked f best new → BestTo net parts part π marked (i + 1) new
   best_of i f best new h c b is =
       ⊎_elim
       (λ (y : Passes net marked f.places.items × IsAbove f best × (new ≡ Some f)). rw y.2 (best_take i f best h c y.0 b y.1))

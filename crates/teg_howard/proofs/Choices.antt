@@ -36,7 +36,8 @@ pub record Listed (parts : List ℕ) (part : ℕ) (π : Policy) (vs : List (Opti
   pub inside : (t : ℕ) → t < i → IsMember parts part t → choice_of_member cs t ≡ Some (choice_for π vs t)
   pub outside : (t : ℕ) → (t < i → IsMember parts part t → ⊥) → choice_of_member cs t ≡ None
 
-pub listed_more : (parts : List ℕ) (part : ℕ) (π : Policy) (vs : List (Option ℤ)) (cs : List Choice) (i : ℕ) → Listed parts part π vs cs i → IsMember parts part i → Listed parts part π vs (cs ++ choice_for π vs i ∷ []) (i + 1)
+pub listed_more : (parts : List ℕ) (part : ℕ) (π : Policy) (vs : List (Option ℤ)) (cs : List Choice) (i : ℕ)
+    → Listed parts part π vs cs i → IsMember parts part i → Listed parts part π vs (cs ++ choice_for π vs i ∷ []) (i + 1)
 listed_more parts part π vs cs i h m =
     let c : Choice = choice_for π vs i in
     let fresh : choice_of_member cs i ≡ None = h.outside i (λ l k. absurd (omega arith)) in
@@ -57,7 +58,8 @@ listed_more parts part π vs cs i h m =
           push_none cs c t (h.outside t (λ l k. n (omega arith) k)) ∙ rw b refl;
     }
 
-pub listed_skip : (parts : List ℕ) (part : ℕ) (π : Policy) (vs : List (Option ℤ)) (cs : List Choice) (i : ℕ) → Listed parts part π vs cs i → (IsMember parts part i → ⊥) → Listed parts part π vs cs (i + 1)
+pub listed_skip : (parts : List ℕ) (part : ℕ) (π : Policy) (vs : List (Option ℤ)) (cs : List Choice) (i : ℕ)
+    → Listed parts part π vs cs i → (IsMember parts part i → ⊥) → Listed parts part π vs cs (i + 1)
 listed_skip parts part π vs cs i h out = record {
   only = h.only;
   below = λ k d l. let b = h.below k d l in omega arith;

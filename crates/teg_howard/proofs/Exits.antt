@@ -21,7 +21,8 @@ pub no_mark : (n t : ℕ) → IsMarked (replicate n false) t → ⊥
 no_mark n t m = false_not_true (get_or (replicate n false) t false) (flag_past n t) m
 
 -- where all are marked each circuit in the part passes a marked one
-pub any_marked : (net : NetLists) (parts : List ℕ) (part : ℕ) (marked : List Bool) (ps : List PlaceId) → marked ≡ replicate (length parts) true → 0 < length ps → All (IsPlaceOfPart net parts part) ps → Any (λ p. IsMarked marked (to_of net p)) ps
+pub any_marked : (net : NetLists) (parts : List ℕ) (part : ℕ) (marked : List Bool) (ps : List PlaceId)
+    → marked ≡ replicate (length parts) true → 0 < length ps → All (IsPlaceOfPart net parts part) ps → Any (λ p. IsMarked marked (to_of net p)) ps
 any_marked net parts part marked ps e l h =
     let p : PlaceId = get_or ps 0 first_id in
     let in' = (h 0 first_id l).to_member.in_range in

@@ -31,7 +31,8 @@ any_turned P xs k l w =
     (at, x, omega arith, get_or_append_left (drop k xs) (take k xs) x at near ∙ (get_or-drop k xs at x ∙ (ap (λ n. get_or xs n x) is ∙ w.3)), w.4))
     (cases_lt i k)
 
-pub best_lowest : (net : NetLists) (parts : List ℕ) (part : ℕ) (π : Policy) (Kind : ℕ → Type 0) (c : List PlaceId) → IsBestCircuit net parts part π Kind c → All (λ p. first_transition_of net c ≤ from_of net p) c
+pub best_lowest : (net : NetLists) (parts : List ℕ) (part : ℕ) (π : Policy) (Kind : ℕ → Type 0) (c : List PlaceId)
+    → IsBestCircuit net parts part π Kind c → All (λ p. first_transition_of net c ≤ from_of net p) c
 best_lowest net parts part π Kind c b i d l =
     let e : List PlaceId = turned c i in
     let circuit : IsPolicyCircuit net parts part π e = record {
@@ -46,7 +47,8 @@ best_lowest net parts part π Kind c b i d l =
     let low : first_transition_of net c ≤ first_transition_of net e = b.lowest e circuit through same in
     let near : 0 < length (drop i c) = omega (arith, length-drop i c) in
     let is : i + 0 ≡ i = omega arith in
-    let first : get_or e 0 first_id ≡ get_or c i d = get_or_append_left (drop i c) (take i c) first_id 0 near ∙ (get_or-drop i c 0 first_id ∙ (ap (λ n. get_or c n first_id) is ∙ get_or_default c i first_id d l)) in
+    let first : get_or e 0 first_id ≡ get_or c i d = get_or_append_left (drop i c) (take i c) first_id 0 near
+    ∙ (get_or-drop i c 0 first_id ∙ (ap (λ n. get_or c n first_id) is ∙ get_or_default c i first_id d l)) in
     subst (λ x. first_transition_of net c ≤ x) (ap (from_of net) first) low
 
 -- a number at which a function is least, of those below n
@@ -96,7 +98,8 @@ low_turn net parts part π P d h =
     let e : List PlaceId = turned d k in
     let near : 0 < length (drop k d) = omega (arith, length-drop k d) in
     let is : k + 0 ≡ k = omega arith in
-    let first : first_transition_of net e ≡ from_of net (get_or d k first_id) = ap (from_of net) (get_or_append_left (drop k d) (take k d) first_id 0 near ∙ (get_or-drop k d 0 first_id ∙ ap (λ n. get_or d n first_id) is)) in
+    let first : first_transition_of net e ≡ from_of net (get_or d k first_id) =
+    ap (from_of net) (get_or_append_left (drop k d) (take k d) first_id 0 near ∙ (get_or-drop k d 0 first_id ∙ ap (λ n. get_or d n first_id) is)) in
     let least : All (λ p. first_transition_of net e ≤ from_of net p) d = λ i x l.
     let same : from_of net (get_or d i x) ≡ from_of net (get_or d i first_id) = ap (from_of net) (get_or_default d i x first_id l) in
     let s = w.2 i l in
@@ -108,7 +111,8 @@ low_turn net parts part π P d h =
         inside = All-append (IsPlaceOfPart net parts part) (drop k d) (take k d) (All-drop (IsPlaceOfPart net parts part) k d h.inside) (All-take (IsPlaceOfPart net parts part) k d h.inside);
         own = All-append (λ p. π (to_of net p) ≡ p) (drop k d) (take k d) (All-drop (λ p. π (to_of net p) ≡ p) k d h.own) (All-take (λ p. π (to_of net p) ≡ p) k d h.own);
       };
-      low = All-append (λ p. first_transition_of net e ≤ from_of net p) (drop k d) (take k d) (All-drop (λ p. first_transition_of net e ≤ from_of net p) k d least) (All-take (λ p. first_transition_of net e ≤ from_of net p) k d least);
+      low = All-append (λ p. first_transition_of net e ≤ from_of net p) (drop k d) (take k d)
+          (All-drop (λ p. first_transition_of net e ≤ from_of net p) k d least) (All-take (λ p. first_transition_of net e ≤ from_of net p) k d least);
       any = any_turned P d k (omega arith);
       time = turned_sum (λ p. (place_at net p).hold) d k;
       tokens = turned_sum (λ p. (place_at net p).tokens) d k;

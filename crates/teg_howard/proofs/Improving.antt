@@ -35,8 +35,10 @@ pub cases_marked : (cs : List Bool) (t : ℕ) → IsMarked cs t ⊎ (IsMarked cs
 cases_marked cs t = ⊎_elim (λ (e : get_or cs t false ≡ true). inl e) (λ (e : get_or cs t false ≡ false). inr (λ f. cc)) (cases_Bool (get_or cs t false))
 
 -- no place has made its offer
-pub improving_none : (net : NetLists) (parts : List ℕ) (part a b : ℕ) (v : ℕ → ℤ) (ps : List PlaceId) (gs : List ℤ) (cs : List Bool) (i : ℕ) → length ps ≡ length parts → length gs ≡ length parts → length cs ≡ length parts
-    → ((t : ℕ) → IsMarked cs t → ⊥) → ((q : PlaceId) → IsPlaceOfPart net parts part q → q.index < i → ⊥) → All (λ p. p.index < length net.places) ps → Improving net parts part a b v (policy_of ps) ps gs cs i
+pub improving_none : (net : NetLists) (parts : List ℕ) (part a b : ℕ) (v : ℕ → ℤ) (ps : List PlaceId) (gs : List ℤ) (cs : List Bool)
+    (i : ℕ) → length ps ≡ length parts → length gs ≡ length parts → length cs ≡ length parts
+    → ((t : ℕ) → IsMarked cs t → ⊥) → ((q : PlaceId) → IsPlaceOfPart net parts part q → q.index < i → ⊥)
+    → All (λ p. p.index < length net.places) ps → Improving net parts part a b v (policy_of ps) ps gs cs i
 improving_none net parts part a b v ps gs cs i count count_gs count_cs none first in_range = record {
   count = count;
   count_gs = count_gs;
@@ -47,7 +49,8 @@ improving_none net parts part a b v ps gs cs i count count_gs count_cs none firs
   in_range = in_range;
 }
 
-module _ (net : NetLists) (parts : List ℕ) (part a b : ℕ) (v : ℕ → ℤ) (first : Policy) (ps : List PlaceId) (gs : List ℤ) (cs : List Bool) (i : ℕ) (h : Improving net parts part a b v first ps gs cs i) where
+module _ (net : NetLists) (parts : List ℕ) (part a b : ℕ) (v : ℕ → ℤ) (first : Policy) (ps : List PlaceId) (gs : List ℤ)
+    (cs : List Bool) (i : ℕ) (h : Improving net parts part a b v first ps gs cs i) where
   -- a place at i enters only one transition
   at_i : (p q : PlaceId) (t : ℕ) → p.index ≡ i → Enters net parts part t q → q.index < i + 1 → (q.index < i) ⊎ (q ≡ p)
   at_i p q t e n l = ⊎_elim (λ (k : q.index < i). inl k) (λ (k : i ≤ q.index). inr (same_id q p (omega arith))) (cases_lt q.index i)
@@ -143,8 +146,10 @@ module _ (net : NetLists) (parts : List ℕ) (part a b : ℕ) (v : ℕ → ℤ) 
         improves = record { enters = enters; more = more };
         value = refl;
         before = omega arith;
-        most = λ q n l. ⊎_elim (λ (r : q.index < i). let k = less_than q n r in omega (arith, ints)) (λ (r : q ≡ p). let q_is : offer_of net a b v q ≡ new = ap (offer_of net a b v) r in omega (arith, ints)) (at_i p q t e n l);
-        lowest = λ q n l s. ⊎_elim (λ (r : q.index < i). let k = less_than q n r in absurd (omega (arith, ints))) (λ (r : q ≡ p). let is : q.index ≡ p.index = ap (λ (x : PlaceId). let y : ℕ = x.index in y) r in omega arith) (at_i p q t e n l);
+        most = λ q n l. ⊎_elim (λ (r : q.index < i). let k = less_than q n r in omega (arith, ints))
+            (λ (r : q ≡ p). let q_is : offer_of net a b v q ≡ new = ap (offer_of net a b v) r in omega (arith, ints)) (at_i p q t e n l);
+        lowest = λ q n l s. ⊎_elim (λ (r : q.index < i). let k = less_than q n r in absurd (omega (arith, ints)))
+            (λ (r : q ≡ p). let is : q.index ≡ p.index = ap (λ (x : PlaceId). let y : ℕ = x.index in y) r in omega arith) (at_i p q t e n l);
       } in
       let apart = λ (u : ℕ) (ne : u ≢ t) (q : PlaceId) (n : Enters net parts part u q) (l : q.index < i + 1).
       let r : q.index < i = ⊎_elim (λ (k : q.index < i). k) (λ (k : q ≡ p). absurd (ne (sym n.ends ∙ ap (to_of net) k))) (at_i p q u e n l) in r in
@@ -178,7 +183,8 @@ module _ (net : NetLists) (parts : List ℕ) (part a b : ℕ) (v : ℕ → ℤ) 
         in_range = All-set (λ q. q.index < length net.places) ps t p inside.in_range h.in_range;
       }
 
-pub improving_all : (net : NetLists) (parts : List ℕ) (part : ℕ) (r : Fraction) (values : List (Option ℤ)) (policy ps : List PlaceId) (gs : List ℤ) (cs : List Bool) (n : ℕ) → length net.places ≤ n → Improving net parts part r.time r.tokens (potentials values) (policy_of policy) ps gs cs n
+pub improving_all : (net : NetLists) (parts : List ℕ) (part : ℕ) (r : Fraction) (values : List (Option ℤ)) (policy ps : List PlaceId)
+    (gs : List ℤ) (cs : List Bool) (n : ℕ) → length net.places ≤ n → Improving net parts part r.time r.tokens (potentials values) (policy_of policy) ps gs cs n
     → IsBetterPolicy net parts part r values policy ps cs
 improving_all net parts part r values policy ps gs cs n long h =
     let in_all = λ (t : ℕ) (q : PlaceId) (e : Enters net parts part t q). let k = e.inside.in_range in let l : q.index < n = omega arith in l in

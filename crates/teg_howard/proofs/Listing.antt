@@ -60,7 +60,8 @@ same_transitions [] = refl
 same_transitions (c ∷ cs) = ap (λ ts. c.transition.index ∷ ts) (same_transitions cs)
 
 -- a choice is the one for its transition
-pub own_choice : (cs : List Choice) → AllPairs (λ c d. c.transition.index < d.transition.index) cs → (i : ℕ) (d : Choice) → i < length cs → choice_of_member cs (get_or cs i d).transition.index ≡ Some (get_or cs i d)
+pub own_choice : (cs : List Choice) → AllPairs (λ c d. c.transition.index < d.transition.index) cs → (i : ℕ) (d : Choice)
+    → i < length cs → choice_of_member cs (get_or cs i d).transition.index ≡ Some (get_or cs i d)
 own_choice [] h i d l = absurd (omega arith)
 own_choice (c ∷ cs) h zero d l = let b : eqb c.transition.index c.transition.index ≡ true = eq-eqb c.transition.index c.transition.index refl in rw b refl
 own_choice (c ∷ cs) h (suc i) d l =
@@ -123,7 +124,8 @@ choices_by_member parts part r h =
     ∙ (ap (given_by r) (sym (get_or-map (λ (e : Choice). e.transition.index) cs i no_choice_at 0 l))
     ∙ sym (get_or-map (given_by r) (chosen_for cs) i 0 no_choice_at (omega (arith, l, long)))))
 
-pub same_choices : (parts : List ℕ) (part : ℕ) (r q : Round) → ListsMembers parts part (chosen_for r.choices.items) → ListsMembers parts part (chosen_for q.choices.items) → chosen r ≡ chosen q → potential r ≡ potential q
+pub same_choices : (parts : List ℕ) (part : ℕ) (r q : Round) → ListsMembers parts part (chosen_for r.choices.items)
+    → ListsMembers parts part (chosen_for q.choices.items) → chosen r ≡ chosen q → potential r ≡ potential q
     → r.choices.items ≡ q.choices.items
 unfolding given_by
 same_choices parts part r q h k places values =
@@ -138,7 +140,8 @@ same_choices parts part r q h k places values =
     ∙ sym (choices_by_member parts part q k))
 
 -- what holds of each member's potential holds of each that the answer tells
-pub told_potentials : (P : ℕ → ℤ → Type 0) (r : Round) (parts : List ℕ) (part : ℕ) → ListsChoices parts part r.choices.items → ((t : ℕ) → IsMember parts part t → P t (potential r t)) → All (λ v. P v.transition.index v.value) (map potential_of r.choices.items)
+pub told_potentials : (P : ℕ → ℤ → Type 0) (r : Round) (parts : List ℕ) (part : ℕ) → ListsChoices parts part r.choices.items
+    → ((t : ℕ) → IsMember parts part t → P t (potential r t)) → All (λ v. P v.transition.index v.value) (map potential_of r.choices.items)
 told_potentials P r parts part h each =
     All-map (λ v. P v.transition.index v.value) potential_of r.choices.items
     (λ i d l.

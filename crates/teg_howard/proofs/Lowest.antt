@@ -13,7 +13,8 @@ pub record LowestFrom (net : NetLists) (parts : List ℕ) (part : ℕ) (ps : Lis
   pub found : (t : ℕ) (p : PlaceId) → i ≤ p.index → Enters net parts part t p → Enters net parts part t (policy_of ps t) × ((policy_of ps t).index ≤ p.index)
   pub others : (t : ℕ) → ((p : PlaceId) → Enters net parts part t p → ⊥) → policy_of ps t ≡ first_id
 
-pub lowest_taken : (net : NetLists) (parts : List ℕ) (part : ℕ) (ps : List PlaceId) (i : ℕ) (p : PlaceId) → LowestFrom net parts part ps (i + 1) → p.index ≡ i → IsPlaceOfPart net parts part p → LowestFrom net parts part (set ps (to_of net p) p) i
+pub lowest_taken : (net : NetLists) (parts : List ℕ) (part : ℕ) (ps : List PlaceId) (i : ℕ) (p : PlaceId)
+    → LowestFrom net parts part ps (i + 1) → p.index ≡ i → IsPlaceOfPart net parts part p → LowestFrom net parts part (set ps (to_of net p) p) i
 lowest_taken net parts part ps i p h e inside =
     let u : ℕ = to_of net p in
     let u_in : u < length ps = let m = inside.to_member.in_range in let k = h.count in omega arith in

@@ -39,7 +39,8 @@ module _ (net : NetLists) (ids : List PlaceId) where
 
   -- ---- the search for the next join
   -- where a transition gets a value, only places that leave it can become joins
-  pub none_before_next : (vs : List (Option ℤ)) (rank t exit : ℕ) (z : ℤ) → NoneLeadsOn net vs ids rank → t < length vs → IsFirstExit net ids t exit → NoneLeadsOn net (set vs t (Some z)) ids (min rank exit)
+  pub none_before_next : (vs : List (Option ℤ)) (rank t exit : ℕ) (z : ℤ) → NoneLeadsOn net vs ids rank → t < length vs
+      → IsFirstExit net ids t exit → NoneLeadsOn net (set vs t (Some z)) ids (min rank exit)
   none_before_next vs rank t exit z none l first k below leads =
       let x : ℕ = start_at k in
       let y : ℕ = to_of net (get_or ids k first_id) in

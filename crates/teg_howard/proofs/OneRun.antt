@@ -48,10 +48,13 @@ module _ (net : NetLists) (parts : List ℕ) (part : ℕ) where
         lowest = λ d k w s. h.lowest d (circuit_agrees net parts part σ π turned d k) w s;
       }
 
-  routed_agrees : (π σ : Policy) → IsPolicy net parts part π → ((t : ℕ) → IsMember parts part t → π t ≡ σ t) → (s : ℕ) (js : List PlaceId) (t : ℕ) → IsMember parts part t → IsRouted net π s js t → IsRouted net σ s js t
+  routed_agrees : (π σ : Policy) → IsPolicy net parts part π → ((t : ℕ) → IsMember parts part t → π t ≡ σ t)
+      → (s : ℕ) (js : List PlaceId) (t : ℕ) → IsMember parts part t → IsRouted net π s js t → IsRouted net σ s js t
   routed_agrees π σ ok e s js t i r = ⊎_elim (λ (w : LeadsBack net π t s). inl (leads_agrees net parts part π σ ok e t s i w)) (λ (w : Any (λ p. to_of net p ≡ t) js). inr w) r
 
-  routing_agrees : (π σ : Policy) → IsPolicy net parts part π → IsPolicy net parts part σ → ((t : ℕ) → IsMember parts part t → π t ≡ σ t) → (s : ℕ) (js : List PlaceId) (ρ : Policy) → IsRouting net parts part π s js ρ → IsRouting net parts part σ s js ρ
+  routing_agrees : (π σ : Policy) → IsPolicy net parts part π → IsPolicy net parts part σ
+      → ((t : ℕ) → IsMember parts part t → π t ≡ σ t) → (s : ℕ) (js : List PlaceId) (ρ : Policy) → IsRouting net parts part π s js ρ
+      → IsRouting net parts part σ s js ρ
   routing_agrees π σ ok oks e s js ρ h =
       let turned = λ (t : ℕ) (i : IsMember parts part t). sym (e t i) in
       let join_to = λ (ks : List PlaceId) (p : PlaceId) (j : Joins net parts part π s ks p).
@@ -74,7 +77,8 @@ module _ (net : NetLists) (parts : List ℕ) (part : ℕ) where
       }
 
   -- rounds with one circuit and one policy at the members are equal
-  finish : (live : IsLive net) (r q : Round) → IsRound net parts part r → IsRound net parts part q → r.circuit.places.items ≡ q.circuit.places.items → ((t : ℕ) → IsMember parts part t → chosen r t ≡ chosen q t)
+  finish : (live : IsLive net) (r q : Round) → IsRound net parts part r → IsRound net parts part q
+      → r.circuit.places.items ≡ q.circuit.places.items → ((t : ℕ) → IsMember parts part t → chosen r t ≡ chosen q t)
       → ((t : ℕ) → IsMember parts part t → LeadsBack net (chosen r) t (first_transition_of net r.circuit.places.items)) → Equal r q
   finish live r q h k circuit same home =
       let c : List PlaceId = r.circuit.places.items in
@@ -88,12 +92,17 @@ module _ (net : NetLists) (parts : List ℕ) (part : ℕ) where
         choices = same_functions (chosen r) (chosen q) (λ t.
             ⊎_elim
             (λ (i : IsMember parts part t). same t i)
-            (λ (o : IsMember parts part t → ⊥). ap chosen_place (no_choice r.choices.items t (only_members parts part r.choices.items h.members) o) ∙ sym (ap chosen_place (no_choice q.choices.items t (only_members parts part q.choices.items k.members) o)))
+            (λ (o : IsMember parts part t → ⊥). ap chosen_place
+            (no_choice r.choices.items t (only_members parts part r.choices.items h.members) o)
+            ∙ sym (ap chosen_place (no_choice q.choices.items t (only_members parts part q.choices.items k.members) o)))
             (cases_member parts part t));
         values = same_functions (potential r) (potential q) (λ t.
             ⊎_elim
-            (λ (i : IsMember parts part t). one_sums net parts part r.ratio.time r.ratio.tokens (first_transition_of net c) (chosen r) (chosen q) h.policy same (potential r) (potential q) h.sums sums (home t i).0 t i (home t i).1)
-            (λ (o : IsMember parts part t → ⊥). ap value_in (no_choice r.choices.items t (only_members parts part r.choices.items h.members) o) ∙ sym (ap value_in (no_choice q.choices.items t (only_members parts part q.choices.items k.members) o)))
+            (λ (i : IsMember parts part t). one_sums net parts part r.ratio.time r.ratio.tokens (first_transition_of net c) (chosen r)
+            (chosen q) h.policy same (potential r) (potential q) h.sums sums (home t i).0 t i (home t i).1)
+            (λ (o : IsMember parts part t → ⊥). ap value_in (no_choice r.choices.items t
+            (only_members parts part r.choices.items h.members) o)
+            ∙ sym (ap value_in (no_choice q.choices.items t (only_members parts part q.choices.items k.members) o)))
             (cases_member parts part t));
         circuit = circuit;
         time = ratio.0;
@@ -101,7 +110,9 @@ module _ (net : NetLists) (parts : List ℕ) (part : ℕ) where
       }
 
   -- two rounds from one policy's best circuit
-  pub one_round_of : (live : IsLive net) (kept : IsNet net) (π σ : Policy) (ok : IsPolicy net parts part π) (oks : IsPolicy net parts part σ) → ((t : ℕ) → IsMember parts part t → π t ≡ σ t) → (K L : ℕ → Type 0) → ((t : ℕ) → IsMember parts part t → K t → L t) → ((t : ℕ) → IsMember parts part t → L t → K t)
+  pub one_round_of : (live : IsLive net) (kept : IsNet net) (π σ : Policy) (ok : IsPolicy net parts part π)
+      (oks : IsPolicy net parts part σ) → ((t : ℕ) → IsMember parts part t → π t ≡ σ t) → (K L : ℕ → Type 0)
+      → ((t : ℕ) → IsMember parts part t → K t → L t) → ((t : ℕ) → IsMember parts part t → L t → K t)
       → (r q : Round) → IsRound net parts part r → IsRound net parts part q → IsRoundOf net parts part π K r → IsRoundOf net parts part σ L q
       → Equal r q × ((t : ℕ) → IsMember parts part t → LeadsBack net (chosen r) t (first_transition_of net r.circuit.places.items))
   one_round_of live kept π σ ok oks e K L to back_ r q hr hq h k =
@@ -109,7 +120,8 @@ module _ (net : NetLists) (parts : List ℕ) (part : ℕ) where
       let best = best_kind net parts part π L K q.circuit.places.items back_ to (best_agrees σ π turned L q.circuit.places.items k.best) in
       let circuit = one_best net parts part π ok kept K r.circuit.places.items q.circuit.places.items h.best best in
       let root : first_transition_of net r.circuit.places.items ≡ first_transition_of net q.circuit.places.items = ap (first_transition_of net) circuit in
-      let routing = subst (λ x. IsRouting net parts part π x k.routing.0 (chosen q)) (sym root) (routing_agrees σ π oks ok turned (first_transition_of net q.circuit.places.items) k.routing.0 (chosen q) k.routing.1) in
+      let routing = subst (λ x. IsRouting net parts part π x k.routing.0 (chosen q)) (sym root)
+      (routing_agrees σ π oks ok turned (first_transition_of net q.circuit.places.items) k.routing.0 (chosen q) k.routing.1) in
       let same = one_routing net parts part π (chosen r) (chosen q) (first_transition_of net r.circuit.places.items) h.routing.0 k.routing.0 h.routing.1 routing in
       let home = all_home net parts part π ok (first_transition_of net r.circuit.places.items) h.routing.0 (chosen r) h.routing.1 in
       (finish live r q hr hq circuit same home, home)
@@ -125,9 +137,12 @@ module _ (net : NetLists) (parts : List ℕ) (part : ℕ) where
       let a = x.lowest (g t) y.enters in
       let b = y.lowest (f t) x.enters in
       same_id (f t) (g t) (omega arith) in
-      one_round_of live kept f g (λ t i. (h.begins.1 t i).enters) (λ t i. (k.begins.1 t i).enters) same (IsMember parts part) (IsMember parts part) (λ t i y. y) (λ t i y. y) r q h.round k.round h.begins.2 k.begins.2
+      one_round_of live kept f g (λ t i. (h.begins.1 t i).enters) (λ t i. (k.begins.1 t i).enters) same (IsMember parts part)
+      (IsMember parts part) (λ t i y. y) (λ t i y. y) r q h.round k.round h.begins.2 k.begins.2
 
-  pub one_next : (live : IsLive net) (kept : IsNet net) (r r' s q : Round) → Equal r r' → IsRound net parts part r → ((t : ℕ) → IsMember parts part t → LeadsBack net (chosen r) t (first_transition_of net r.circuit.places.items)) → FollowsRound net parts part r s → FollowsRound net parts part r' q
+  pub one_next : (live : IsLive net) (kept : IsNet net) (r r' s q : Round) → Equal r r' → IsRound net parts part r
+      → ((t : ℕ) → IsMember parts part t → LeadsBack net (chosen r) t (first_transition_of net r.circuit.places.items))
+      → FollowsRound net parts part r s → FollowsRound net parts part r' q
       → Equal s q × ((t : ℕ) → IsMember parts part t → LeadsBack net (chosen s) t (first_transition_of net s.circuit.places.items))
   one_next live kept r r' s q e hr home h k =
       let a : ℕ = r.ratio.time in
@@ -148,26 +163,34 @@ module _ (net : NetLists) (parts : List ℕ) (part : ℕ) where
       ⊎_elim
       (λ (x : IsRoundOf net parts part f (IsChanged parts part (chosen r) f) s).
       ⊎_elim
-      (λ (y : IsRoundOf net parts part g (IsChanged parts part (chosen r') g) q). one_round_of live kept f g ok ok' agree (IsChanged parts part (chosen r) f) (IsChanged parts part (chosen r') g) to from s q h.round k.round x y)
+      (λ (y : IsRoundOf net parts part g (IsChanged parts part (chosen r') g) q). one_round_of live kept f g ok ok' agree
+      (IsChanged parts part (chosen r) f) (IsChanged parts part (chosen r') g) to from s q h.round k.round x y)
       (λ (y : KeepsCircuit net parts part r' q g).
-      absurd (y.none_new s.circuit.places.items (circuit_agrees net parts part f g agree s.circuit.places.items x.best.is) (any_kind net parts part (IsChanged parts part (chosen r) f) (IsChanged parts part (chosen r') g) to s.circuit.places.items x.best.is.inside x.best.through)))
+      absurd (y.none_new s.circuit.places.items (circuit_agrees net parts part f g agree s.circuit.places.items x.best.is)
+      (any_kind net parts part (IsChanged parts part (chosen r) f)
+      (IsChanged parts part (chosen r') g) to s.circuit.places.items x.best.is.inside x.best.through)))
       k.next)
       (λ (x : KeepsCircuit net parts part r s f).
       ⊎_elim
       (λ (y : IsRoundOf net parts part g (IsChanged parts part (chosen r') g) q).
-      absurd (x.none_new q.circuit.places.items (circuit_agrees net parts part g f (λ t i. sym (agree t i)) q.circuit.places.items y.best.is) (any_kind net parts part (IsChanged parts part (chosen r') g) (IsChanged parts part (chosen r) f) from q.circuit.places.items y.best.is.inside y.best.through)))
+      absurd (x.none_new q.circuit.places.items (circuit_agrees net parts part g f
+      (λ t i. sym (agree t i)) q.circuit.places.items y.best.is)
+      (any_kind net parts part (IsChanged parts part (chosen r') g)
+      (IsChanged parts part (chosen r) f) from q.circuit.places.items y.best.is.inside y.best.through)))
       (λ (y : KeepsCircuit net parts part r' q g).
       let circuit : s.circuit.places.items ≡ q.circuit.places.items = x.same_circuit ∙ (e.circuit ∙ sym y.same_circuit) in
       let still = still_back_to_root net parts part (chosen r) hr.policy a b r.circuit.places.items hr.circuit hr.ratio.same (potential r) hr.sums f h.improves home x.none_new in
       let same = λ (t : ℕ) (i : IsMember parts part t). x.same_places t i ∙ (agree t i ∙ sym (y.same_places t i)) in
-      let home' = λ (t : ℕ) (i : IsMember parts part t). leads_agrees net parts part f (chosen s) ok (λ u j. sym (x.same_places u j)) t (first_transition_of net s.circuit.places.items) i (subst (λ z. LeadsBack net f t (first_transition_of net z)) (sym x.same_circuit) (still t i)) in
+      let home' = λ (t : ℕ) (i : IsMember parts part t). leads_agrees net parts part f (chosen s) ok (λ u j. sym (x.same_places u j)) t
+      (first_transition_of net s.circuit.places.items) i (subst (λ z. LeadsBack net f t (first_transition_of net z)) (sym x.same_circuit) (still t i)) in
       (finish live s q h.round k.round circuit same home', home'))
       k.next)
       h.next
 
   -- two runs agree as far as both go
   pub runs_agree : (live : IsLive net) (kept : IsNet net) (rs qs : List Round) (d : Round) → IsRunTo net parts part rs → IsRunTo net parts part qs → (k : ℕ) → k < length rs → k < length qs
-      → Equal (get_or rs k d) (get_or qs k d) × ((t : ℕ) → IsMember parts part t → LeadsBack net (chosen (get_or rs k d)) t (first_transition_of net (get_or rs k d).circuit.places.items)) × IsRound net parts part (get_or rs k d)
+      → Equal (get_or rs k d) (get_or qs k d) × ((t : ℕ) → IsMember parts part t
+      → LeadsBack net (chosen (get_or rs k d)) t (first_transition_of net (get_or rs k d).circuit.places.items)) × IsRound net parts part (get_or rs k d)
   runs_agree live kept rs qs d h j zero l m =
       let x = one_first live kept (get_or rs 0 d) (get_or qs 0 d) (h.first d) (j.first d) in
       (x.0, x.1, (h.first d).round)
@@ -200,7 +223,8 @@ module _ (net : NetLists) (parts : List ℕ) (part : ℕ) where
       (cases_lt (length rs) (length qs))
 
   -- a part has one policy run
-  pub one_run : (live : IsLive net) (kept : IsNet net) (rs qs : List Round) (d : Round) → IsPolicyRun net parts part rs → IsPolicyRun net parts part qs → (length rs ≡ length qs) × ((k : ℕ) → k < length rs → Equal (get_or rs k d) (get_or qs k d))
+  pub one_run : (live : IsLive net) (kept : IsNet net) (rs qs : List Round) (d : Round) → IsPolicyRun net parts part rs
+      → IsPolicyRun net parts part qs → (length rs ≡ length qs) × ((k : ℕ) → k < length rs → Equal (get_or rs k d) (get_or qs k d))
   one_run live kept rs qs d h j =
       let a = not_longer live kept rs qs d h j in
       let b = not_longer live kept qs rs d j h in

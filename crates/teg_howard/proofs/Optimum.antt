@@ -44,8 +44,12 @@ sum_attained net parts part π ok a b s v sums t h home =
     (first_below (λ j. step_back net π j t ≡ s) (λ j. cases_eq (step_back net π j t) s) (suc home.0)) in
     let m : ℕ = first.0 in
     let sum = sum_back net parts part π ok a b s v sums m t h first.1.first in
-    let zero_is : v (step_back net π m t) ≡ pos 0 = ap v first.1.meets ∙ sums.start in
-    (trail net π m t, subst (λ x. IsPathBetween net x (trail net π m t) t) first.1.meets (trail_leads net parts part π ok m t h), trail_inside net parts part π ok m t h, omega (arith, ints, sum, zero_is))
+    let zero_is : v (step_back net π m t) ≡ pos 0 = ap v first.1.meets ∙ sums.start in (
+      trail net π m t,
+      subst (λ x. IsPathBetween net x (trail net π m t) t) first.1.meets (trail_leads net parts part π ok m t h),
+      trail_inside net parts part π ok m t h,
+      omega (arith, ints, sum, zero_is),
+    )
 
 -- each circuit of a live net has a token
 pub some_token : (net : NetLists) → IsLive net → (ps : List PlaceId) → IsCircuit net ps → 0 < tokens_of net ps

@@ -1,5 +1,6 @@
 -- The walk that marks what it has passed: each circuit of a policy is met once.
-use Rattle.std.proofs.Common.{ℕ, zero, suc, ◌+◌, ◌-◌, ◌*◌, ◌<◌, ◌≤◌, ◌≡◌, ◌≢◌, List, Bool, true, false, Option, Some, None, cond, is_none, count_by, length, get_or, set, refl, sym, ap, subst, ◌∙◌, arith, inl, inr, ⊎_elim}
+use Rattle.std.proofs.Common.{ℕ, zero, suc, ◌+◌, ◌-◌, ◌*◌, ◌<◌, ◌≤◌, ◌≡◌, ◌≢◌, List, Bool, true, false, Option, Some, None, cond, is_none, count_by}
+use Rattle.std.proofs.Common.{length, get_or, set, refl, sym, ap, subst, ◌∙◌, arith, inl, inr, ⊎_elim}
 use Rattle.std.specs.Prelude.{◌⊎◌}
 use Rattle.std.proofs.lemmas.Bool.{cases_eq, cases_lt}
 use Rattle.std.proofs.lemmas.List.{get_or-set_same, get_or-set_other, length-set}
@@ -21,7 +22,8 @@ abbrev pub left_over : List (Option ℕ) → ℕ
 left_over passed = count_by is_none passed
 
 -- a walk from a member ends at one
-pub end_member : (net : NetLists) (π : Policy) (parts : List ℕ) (part start : ℕ) (old new : List (Option ℕ)) (end : ℕ) → IsPolicy net parts part π → IsMember parts part start → HasWalkPassed net π start old new end → IsMember parts part end
+pub end_member : (net : NetLists) (π : Policy) (parts : List ℕ) (part start : ℕ) (old new : List (Option ℕ)) (end : ℕ)
+    → IsPolicy net parts part π → IsMember parts part start → HasWalkPassed net π start old new end → IsMember parts part end
 end_member net π parts part start old new end ok member e = subst (IsMember parts part) e.leads.1 (back_member net parts part π ok e.leads.0 start member)
 
 module _ (net : NetLists) (π : Policy) where
@@ -47,7 +49,8 @@ module _ (net : NetLists) (π : Policy) where
       let one : counted (walk_at now at) ≡ 1 = none_counts now at none in
       omega (arith, s, one)
 
-  pub passing_more : (start : ℕ) (old now : List (Option ℕ)) (at : ℕ) → Passing start old now at → at < length now → walk_at now at ≡ None → Passing start old (set now at (Some start)) (from_of net (π at))
+  pub passing_more : (start : ℕ) (old now : List (Option ℕ)) (at : ℕ) → Passing start old now at → at < length now
+      → walk_at now at ≡ None → Passing start old (set now at (Some start)) (from_of net (π at))
   passing_more start old now at h l none =
       let new : List (Option ℕ) = set now at (Some start) in
       let here : walk_at new at ≡ Some start = get_or-set_same now at (Some start) None l in
@@ -227,7 +230,8 @@ module _ (net : NetLists) (π : Policy) where
           (cases_lt t i);
     }
 
-    closed_far : (passed : List (Option ℕ)) → ((t : ℕ) → walk_at passed t ≢ None → walk_at passed (step_back net π 1 t) ≢ None) → (m t : ℕ) → walk_at passed t ≢ None → walk_at passed (step_back net π m t) ≢ None
+    closed_far : (passed : List (Option ℕ)) → ((t : ℕ) → walk_at passed t ≢ None → walk_at passed (step_back net π 1 t) ≢ None)
+        → (m t : ℕ) → walk_at passed t ≢ None → walk_at passed (step_back net π m t) ≢ None
     closed_far passed closed zero t n = n
     closed_far passed closed (suc m) t n = closed (step_back net π m t) (closed_far passed closed m t n)
 
@@ -287,7 +291,8 @@ module _ (net : NetLists) (π : Policy) where
             (λ (e : walk_at passed t ≡ None).
             let f = (w.fresh t e n).1 in
             let back = leads_again low.steps t f.0 low.some low.again in
-            let there : walk_at passed (step_back net π back.0 (step_back net π f.0 t)) ≢ None = closed_far passed h.closed back.0 (step_back net π f.0 t) (subst (λ x. walk_at passed x ≢ None) (sym f.1) old) in
+            let there : walk_at passed (step_back net π back.0 (step_back net π f.0 t)) ≢ None =
+            closed_far passed h.closed back.0 (step_back net π f.0 t) (subst (λ x. walk_at passed x ≢ None) (sym f.1) old) in
             absurd (there (ap (walk_at passed) back.1 ∙ e)))
             (λ (e : walk_at passed t ≢ None). h.all t e low)
             (was t);

@@ -21,7 +21,8 @@ module _ (net : NetLists) (parts : List ℕ) (part : ℕ) where
   rises_by_case live r s hr hs up = record {
     anew = λ better imp w.
         let d = s.circuit.places.items in
-        let gain = greater_ratio net parts part (chosen r) hr.policy r.ratio.time r.ratio.tokens r.circuit.places.items hr.circuit hr.ratio.same (potential r) hr.sums better imp d w.best.is w.best.through in
+        let gain = greater_ratio net parts part (chosen r) hr.policy r.ratio.time r.ratio.tokens r.circuit.places.items hr.circuit
+        hr.ratio.same (potential r) hr.sums better imp d w.best.is w.best.through in
         ratio_less r.ratio.time r.ratio.tokens s.ratio.time s.ratio.tokens (time_of net d) (tokens_of net d) hs.ratio.terms.some (some_token net live d w.best.is.circuit) gain hs.ratio.same;
     kept = λ better k.
         ⊎_elim

@@ -40,7 +40,8 @@ ratio_less a b c d time tokens pd pt up same =
 module _ (net : NetLists) (parts : List ℕ) (part : ℕ) where
   -- what `settle` leaves stands
   pub settled_stands :
-      (policy routed : List PlaceId) (r : Fraction) (c : List PlaceId) (st : RoundState) → CanSettle net parts part policy r c → ((t : ℕ) → (IsMember parts part t → ⊥) → policy_of policy t ≡ first_id) → length routed ≡ length parts
+      (policy routed : List PlaceId) (r : Fraction) (c : List PlaceId) (st : RoundState) → CanSettle net parts part policy r c
+      → ((t : ℕ) → (IsMember parts part t → ⊥) → policy_of policy t ≡ first_id) → length routed ≡ length parts
       → IsSettled net parts part policy routed r c st → IsRoundState net parts part routed st
   settled_stands policy routed r c st can out count h =
       let s : ℕ = first_transition_of net c in
@@ -65,7 +66,8 @@ module _ (net : NetLists) (parts : List ℕ) (part : ℕ) where
         is_policy = ok;
         circuit = subst (IsPolicyCircuit net parts part (policy_of routed)) (sym h.circuit) kept;
         lowest_first = subst (λ x. All (λ p. first_transition_of net x ≤ from_of net p) x) (sym h.circuit) can.lowest_first;
-        ratio = subst (λ x. IsRatioOf (time_of net st.round.circuit.places.items) (tokens_of net st.round.circuit.places.items) x) (sym h.ratio) (subst (λ x. IsRatioOf (time_of net x) (tokens_of net x) r) (sym h.circuit) can.ratio);
+        ratio = subst (λ x. IsRatioOf (time_of net st.round.circuit.places.items) (tokens_of net st.round.circuit.places.items) x)
+            (sym h.ratio) (subst (λ x. IsRatioOf (time_of net x) (tokens_of net x) r) (sym h.circuit) can.ratio);
         sums = subst (λ x. AreSums net parts part x.time x.tokens (policy_of routed) (first_transition_of net st.round.circuit.places.items) (potentials st.values.items)) (sym h.ratio)
             (subst (λ x. AreSums net parts part r.time r.tokens (policy_of routed) x (potentials st.values.items)) root h.members.sums);
         home = λ t m. subst (λ x. LeadsBack net (policy_of routed) t x) root (all_home net parts part (policy_of policy) can.is_policy s joins (policy_of routed) routing t m);
@@ -94,13 +96,15 @@ module _ (net : NetLists) (parts : List ℕ) (part : ℕ) where
             (subst (λ x. AreSums net parts part st.round.ratio.time st.round.ratio.tokens x (first_transition_of net c) (potentials st.values.items)) f h.sums);
       }
 
-  pub any_kind : (K L : ℕ → Type 0) → ((t : ℕ) → IsMember parts part t → K t → L t) → (d : List PlaceId) → All (IsPlaceOfPart net parts part) d → Any (λ p. K (to_of net p)) d → Any (λ p. L (to_of net p)) d
+  pub any_kind : (K L : ℕ → Type 0) → ((t : ℕ) → IsMember parts part t → K t → L t) → (d : List PlaceId)
+      → All (IsPlaceOfPart net parts part) d → Any (λ p. K (to_of net p)) d → Any (λ p. L (to_of net p)) d
   any_kind K L k d h w =
       let inside : IsPlaceOfPart net parts part w.1 = subst (IsPlaceOfPart net parts part) w.3 (h w.0 w.1 w.2) in
       (w.0, w.1, w.2, w.3, k (to_of net w.1) inside.to_member w.4)
 
   -- the best circuit through one kind is that through another kind of the same members
-  pub best_kind : (π : Policy) (K L : ℕ → Type 0) (c : List PlaceId) → ((t : ℕ) → IsMember parts part t → K t → L t) → ((t : ℕ) → IsMember parts part t → L t → K t) → IsBestCircuit net parts part π K c → IsBestCircuit net parts part π L c
+  pub best_kind : (π : Policy) (K L : ℕ → Type 0) (c : List PlaceId) → ((t : ℕ) → IsMember parts part t → K t → L t)
+      → ((t : ℕ) → IsMember parts part t → L t → K t) → IsBestCircuit net parts part π K c → IsBestCircuit net parts part π L c
   best_kind π K L c k l b = record {
     is = b.is;
     through = any_kind K L k c b.is.inside b.through;
@@ -110,7 +114,8 @@ module _ (net : NetLists) (parts : List ℕ) (part : ℕ) where
 
   -- a round made from a policy's best circuit
   pub round_from :
-      (policy routed : List PlaceId) (r : Fraction) (c : List PlaceId) (st : RoundState) (Kind : ℕ → Type 0) → IsRoundState net parts part routed st → IsSettled net parts part policy routed r c st → IsBestCircuit net parts part (policy_of policy) Kind c
+      (policy routed : List PlaceId) (r : Fraction) (c : List PlaceId) (st : RoundState) (Kind : ℕ → Type 0)
+      → IsRoundState net parts part routed st → IsSettled net parts part policy routed r c st → IsBestCircuit net parts part (policy_of policy) Kind c
       → IsRoundOf net parts part (policy_of policy) Kind st.round
   round_from policy routed r c st Kind state h best =
       let f : policy_of routed ≡ chosen st.round = sym (same_functions (chosen st.round) (policy_of routed) state.chosen_is) in
@@ -127,7 +132,8 @@ module _ (net : NetLists) (parts : List ℕ) (part : ℕ) where
   module _ (policy better : List PlaceId) (st : RoundState) (marked : List Bool) (state : IsRoundState net parts part policy st)
       (up : IsBetterPolicy net parts part st.round.ratio st.values.items policy better marked) where
     pub step_policy : IsPolicy net parts part (policy_of better)
-    step_policy = better_is_policy net parts part (policy_of policy) state.is_policy st.round.ratio.time st.round.ratio.tokens st.round.circuit.places.items state.circuit state.ratio.same (potentials st.values.items) state.sums (policy_of better) up.improves
+    step_policy = better_is_policy net parts part (policy_of policy) state.is_policy st.round.ratio.time st.round.ratio.tokens
+        st.round.circuit.places.items state.circuit state.ratio.same (potentials st.values.items) state.sums (policy_of better) up.improves
 
     -- the marked members are the changed ones
     changed_marked : (t : ℕ) → IsMember parts part t → policy_of better t ≢ policy_of policy t → IsMarked marked t
@@ -136,8 +142,11 @@ module _ (net : NetLists) (parts : List ℕ) (part : ℕ) where
     marked_changed : (t : ℕ) → IsMember parts part t → IsMarked marked t → policy_of better t ≢ policy_of policy t
     marked_changed t m y e =
         let more = (up.marks t y).more in
-        let same : offer_of net st.round.ratio.time st.round.ratio.tokens (potentials st.values.items) (policy_of better t) ≡ offer_of net st.round.ratio.time st.round.ratio.tokens (potentials st.values.items) (policy_of policy t) = ap (offer_of net st.round.ratio.time st.round.ratio.tokens (potentials st.values.items)) e in
-        let here = everywhere net parts part (policy_of policy) state.is_policy st.round.ratio.time st.round.ratio.tokens st.round.circuit.places.items state.circuit state.ratio.same (potentials st.values.items) state.sums t m in
+        let same : offer_of net st.round.ratio.time st.round.ratio.tokens (potentials st.values.items)
+        (policy_of better t) ≡ offer_of net st.round.ratio.time st.round.ratio.tokens (potentials st.values.items)
+        (policy_of policy t) = ap (offer_of net st.round.ratio.time st.round.ratio.tokens (potentials st.values.items)) e in
+        let here = everywhere net parts part (policy_of policy) state.is_policy st.round.ratio.time st.round.ratio.tokens
+        st.round.circuit.places.items state.circuit state.ratio.same (potentials st.values.items) state.sums t m in
         omega (arith, ints, more, same, here)
 
     chosen_to : chosen st.round ≡ policy_of policy
@@ -164,13 +173,16 @@ module _ (net : NetLists) (parts : List ℕ) (part : ℕ) where
     none_marked none t p i = up.none t (none t) p (subst (λ x. Improves net parts part st.round.ratio.time st.round.ratio.tokens x t p) potential_to i)
 
     -- the better policy has a circuit through a marked member
-    pub step_new : (routed : List PlaceId) (r : Fraction) (f : FoundCircuit) (next : RoundState) (live : IsLive net) → IsBestFound net parts part (policy_of better) marked f → IsRatioOf (time_of net f.places.items) (tokens_of net f.places.items) r
+    pub step_new : (routed : List PlaceId) (r : Fraction) (f : FoundCircuit) (next : RoundState) (live : IsLive net)
+        → IsBestFound net parts part (policy_of better) marked f → IsRatioOf (time_of net f.places.items) (tokens_of net f.places.items) r
         → IsRoundState net parts part routed next → IsSettled net parts part better routed r f.places.items next → IsNextRoundState net parts part routed st next
     step_new routed r f next live best ratio standing h =
         let c : List PlaceId = f.places.items in
         let through : Any (λ p. IsMarked marked (to_of net p)) c = best.best.through in
         let new = any_kind (IsMarked marked) (λ t. IsChanged parts part (policy_of policy) (policy_of better) t) (λ t m y. (m, marked_changed t m y)) c best.best.is.inside through in
-        let up_ratio = greater_ratio net parts part (policy_of policy) state.is_policy st.round.ratio.time st.round.ratio.tokens st.round.circuit.places.items state.circuit state.ratio.same (potentials st.values.items) state.sums (policy_of better) up.improves c best.best.is new in
+        let up_ratio = greater_ratio net parts part
+        (policy_of policy) state.is_policy st.round.ratio.time st.round.ratio.tokens st.round.circuit.places.items state.circuit
+        state.ratio.same (potentials st.values.items) state.sums (policy_of better) up.improves c best.best.is new in
         let tokens = some_token net live c best.best.is.circuit in
         let less = ratio_less st.round.ratio.time st.round.ratio.tokens r.time r.tokens (time_of net c) (tokens_of net c) ratio.terms.some tokens up_ratio ratio.same in
         record {
@@ -180,7 +192,8 @@ module _ (net : NetLists) (parts : List ℕ) (part : ℕ) where
             improvable = improvable (to_of net through.1) through.4;
             better = policy_of better;
             improves = improvement;
-            next = inl (round_from better routed r c next (IsChanged parts part (chosen st.round) (policy_of better)) standing h (best_kind (policy_of better) (IsMarked marked) (IsChanged parts part (chosen st.round) (policy_of better)) c kind_to kind_from best.best));
+            next = inl (round_from better routed r c next (IsChanged parts part (chosen st.round) (policy_of better)) standing h
+                (best_kind (policy_of better) (IsMarked marked) (IsChanged parts part (chosen st.round) (policy_of better)) c kind_to kind_from best.best));
           };
           rises = inl (subst (λ x. st.round.ratio.time * x.tokens < x.time * st.round.ratio.tokens) (sym h.ratio) less);
         }
@@ -191,10 +204,14 @@ module _ (net : NetLists) (parts : List ℕ) (part : ℕ) where
       none_new d h w = none d h (any_kind (λ t. IsChanged parts part (policy_of policy) (policy_of better) t) (IsMarked marked) (λ t m y. changed_marked t m y.1) d h.inside w)
 
       pub same_circuit_stands : IsPolicyCircuit net parts part (policy_of better) st.round.circuit.places.items
-      same_circuit_stands = still_circuit net parts part (policy_of policy) state.is_policy st.round.ratio.time st.round.ratio.tokens st.round.circuit.places.items state.circuit state.ratio.same (potentials st.values.items) state.sums (policy_of better) up.improves state.home none_new
+      same_circuit_stands = still_circuit net parts part
+          (policy_of policy) state.is_policy st.round.ratio.time st.round.ratio.tokens st.round.circuit.places.items state.circuit
+          state.ratio.same (potentials st.values.items) state.sums (policy_of better) up.improves state.home none_new
 
       leads_back : (t : ℕ) → IsMember parts part t → LeadsBack net (policy_of better) t (first_transition_of net st.round.circuit.places.items)
-      leads_back = still_back_to_root net parts part (policy_of policy) state.is_policy st.round.ratio.time st.round.ratio.tokens st.round.circuit.places.items state.circuit state.ratio.same (potentials st.values.items) state.sums (policy_of better) up.improves state.home none_new
+      leads_back = still_back_to_root net parts part
+          (policy_of policy) state.is_policy st.round.ratio.time st.round.ratio.tokens st.round.circuit.places.items state.circuit
+          state.ratio.same (potentials st.values.items) state.sums (policy_of better) up.improves state.home none_new
 
       pub step_same : (routed : List PlaceId) (next : RoundState) (kept : IsNet net) (count : length parts ≡ length net.transitions) (t : ℕ) → IsMarked marked t
           → IsRoundState net parts part routed next → IsSettled net parts part better routed st.round.ratio st.round.circuit.places.items next → IsNextRoundState net parts part routed st next
@@ -235,7 +252,9 @@ module _ (net : NetLists) (parts : List ℕ) (part : ℕ) where
                   let z = standing.potential_is u in
                   ⊎_elim
                   (λ (m : IsMember parts part u). rw (x, z) (low u m))
-                  (λ (o : IsMember parts part u → ⊥). let e : v u ≡ pos 0 = ap value_or_zero (state.no_value u o) in let f : w u ≡ pos 0 = ap value_or_zero (standing.no_value u o) in rw (x, z, e, f) (omega (arith, ints)))
+                  (λ (o : IsMember parts part u → ⊥). let e : v u ≡ pos 0 =
+                  ap value_or_zero (state.no_value u o) in let f : w u ≡ pos 0 =
+                  ap value_or_zero (standing.no_value u o) in rw (x, z, e, f) (omega (arith, ints)))
                   (cases_member parts part u);
               higher = (t, omega arith, rw (state.potential_is t, standing.potential_is t) (high t member (marked_changed t member y)));
             });
@@ -243,22 +262,28 @@ module _ (net : NetLists) (parts : List ℕ) (part : ℕ) where
 
   -- ---- the first round
   pub first_stands :
-      (policy routed : List PlaceId) (everywhere_marked : List Bool) (r : Fraction) (f : FoundCircuit) (st : RoundState) → AreLowest net parts part policy → ((t : ℕ) → IsMember parts part t → (p : PlaceId) × Enters net parts part t p) → ((t : ℕ) → IsMember parts part t → IsMarked everywhere_marked t)
-      → IsBestFound net parts part (policy_of policy) everywhere_marked f → IsRoundState net parts part routed st → IsSettled net parts part policy routed r f.places.items st → IsFirstRound net parts part st.round
+      (policy routed : List PlaceId) (everywhere_marked : List Bool) (r : Fraction) (f : FoundCircuit) (st : RoundState)
+      → AreLowest net parts part policy → ((t : ℕ) → IsMember parts part t → (p : PlaceId) × Enters net parts part t p)
+      → ((t : ℕ) → IsMember parts part t → IsMarked everywhere_marked t)
+      → IsBestFound net parts part (policy_of policy) everywhere_marked f → IsRoundState net parts part routed st
+      → IsSettled net parts part policy routed r f.places.items st → IsFirstRound net parts part st.round
   first_stands policy routed all r f st low entered marks best standing h = record {
     round = standing_round routed st standing;
     begins = (
       policy_of policy,
       λ t m. low.lowest t (entered t m).0 (entered t m).1,
-      round_from policy routed r f.places.items st (IsMember parts part) standing h (best_kind (policy_of policy) (IsMarked all) (IsMember parts part) f.places.items (λ t m y. m) (λ t m y. marks t m) best.best),
+      round_from policy routed r f.places.items st (IsMember parts part) standing h
+          (best_kind (policy_of policy) (IsMarked all) (IsMember parts part) f.places.items (λ t m y. m) (λ t m y. marks t m) best.best),
     );
   }
 
-pub ratio_to : (net : NetLists) (f : FoundCircuit) (r : Fraction) → f.time ≡ time_of net f.places.items → f.tokens ≡ tokens_of net f.places.items → IsRatioOf f.time f.tokens r → IsRatioOf (time_of net f.places.items) (tokens_of net f.places.items) r
+pub ratio_to : (net : NetLists) (f : FoundCircuit) (r : Fraction) → f.time ≡ time_of net f.places.items
+    → f.tokens ≡ tokens_of net f.places.items → IsRatioOf f.time f.tokens r → IsRatioOf (time_of net f.places.items) (tokens_of net f.places.items) r
 ratio_to net f r t k h = subst (λ x. IsRatioOf (time_of net f.places.items) x r) k (subst (λ x. IsRatioOf x f.tokens r) t h)
 
 pub can_settle :
-    (net : NetLists) (parts : List ℕ) (part : ℕ) (ps : List PlaceId) (r : Fraction) (f : FoundCircuit) (marked : List Bool) → HasCircuit net parts part → length ps ≡ length parts → IsPolicy net parts part (policy_of ps) → All (λ p. p.index < length net.places) ps
+    (net : NetLists) (parts : List ℕ) (part : ℕ) (ps : List PlaceId) (r : Fraction) (f : FoundCircuit) (marked : List Bool)
+    → HasCircuit net parts part → length ps ≡ length parts → IsPolicy net parts part (policy_of ps) → All (λ p. p.index < length net.places) ps
     → IsBestFound net parts part (policy_of ps) marked f → IsRatioOf f.time f.tokens r → r.time ≤ f.time → r.tokens ≤ f.tokens → CanSettle net parts part ps r f.places.items
 can_settle net parts part ps r f marked h count ok in_range best ratio time tokens =
     let t = best.time_in in
@@ -275,19 +300,24 @@ can_settle net parts part ps r f marked h count ok in_range best ratio time toke
       small = record { time_in = omega arith; tokens_in = omega arith };
     }
 
-better_outside : (net : NetLists) (parts : List ℕ) (part : ℕ) (policy better : List PlaceId) (st : RoundState) (marked : List Bool) → IsRoundState net parts part policy st → IsBetterPolicy net parts part st.round.ratio st.values.items policy better marked → (t : ℕ) → (IsMember parts part t → ⊥) → policy_of better t ≡ first_id
+better_outside : (net : NetLists) (parts : List ℕ) (part : ℕ) (policy better : List PlaceId) (st : RoundState) (marked : List Bool)
+    → IsRoundState net parts part policy st → IsBetterPolicy net parts part st.round.ratio st.values.items policy better marked → (t : ℕ)
+    → (IsMember parts part t → ⊥) → policy_of better t ≡ first_id
 better_outside net parts part policy better st marked state up t o =
     up.rest t (λ y. let e = (up.marks t y).enters in o (subst (IsMember parts part) e.ends e.inside.to_member)) ∙ state.outside t o
 
 pub ready_new :
-    (net : NetLists) (parts : List ℕ) (part : ℕ) (policy better : List PlaceId) (st : RoundState) (marked : List Bool) (r : Fraction) (f : FoundCircuit) → HasCircuit net parts part → IsRoundState net parts part policy st
-    → IsBetterPolicy net parts part st.round.ratio st.values.items policy better marked → length better ≡ length parts → IsBestFound net parts part (policy_of better) marked f → IsRatioOf f.time f.tokens r → r.time ≤ f.time → r.tokens ≤ f.tokens
+    (net : NetLists) (parts : List ℕ) (part : ℕ) (policy better : List PlaceId) (st : RoundState) (marked : List Bool) (r : Fraction)
+    (f : FoundCircuit) → HasCircuit net parts part → IsRoundState net parts part policy st
+    → IsBetterPolicy net parts part st.round.ratio st.values.items policy better marked → length better ≡ length parts
+    → IsBestFound net parts part (policy_of better) marked f → IsRatioOf f.time f.tokens r → r.time ≤ f.time → r.tokens ≤ f.tokens
     → CanSettle net parts part better r f.places.items
 ready_new net parts part policy better st marked r f h state up count best ratio time tokens =
     can_settle net parts part better r f marked h count (step_policy net parts part policy better st marked state up) up.in_range best ratio time tokens
 
 pub goes_new :
-    (net : NetLists) (parts : List ℕ) (part : ℕ) (policy better routed : List PlaceId) (st next : RoundState) (marked : List Bool) (r : Fraction) (f : FoundCircuit) → HasCircuit net parts part → IsRoundState net parts part policy st
+    (net : NetLists) (parts : List ℕ) (part : ℕ) (policy better routed : List PlaceId) (st next : RoundState) (marked : List Bool)
+    (r : Fraction) (f : FoundCircuit) → HasCircuit net parts part → IsRoundState net parts part policy st
     → IsBetterPolicy net parts part st.round.ratio st.values.items policy better marked → IsBestFound net parts part (policy_of better) marked f → IsRatioOf f.time f.tokens r
     → CanSettle net parts part better r f.places.items → length routed ≡ length parts → IsSettled net parts part better routed r f.places.items next → IsNextRoundState net parts part routed st next
 goes_new net parts part policy better routed st next marked r f h state up best ratio can count done =
@@ -296,7 +326,8 @@ goes_new net parts part policy better routed st next marked r f h state up best 
 
 pub ready_same :
     (net : NetLists) (parts : List ℕ) (part : ℕ) (policy better : List PlaceId) (st : RoundState) (marked : List Bool) → HasCircuit net parts part → IsRoundState net parts part policy st
-    → IsBetterPolicy net parts part st.round.ratio st.values.items policy better marked → length better ≡ length parts → ((d : List PlaceId) → IsPolicyCircuit net parts part (policy_of better) d → Any (λ p. IsMarked marked (to_of net p)) d → ⊥)
+    → IsBetterPolicy net parts part st.round.ratio st.values.items policy better marked → length better ≡ length parts
+    → ((d : List PlaceId) → IsPolicyCircuit net parts part (policy_of better) d → Any (λ p. IsMarked marked (to_of net p)) d → ⊥)
     → CanSettle net parts part better st.round.ratio st.round.circuit.places.items
 ready_same net parts part policy better st marked h state up count none = record {
   kept = h.kept;
@@ -312,8 +343,11 @@ ready_same net parts part policy better st marked h state up count none = record
 
 pub goes_same :
     (net : NetLists) (parts : List ℕ) (part : ℕ) (policy better routed : List PlaceId) (st next : RoundState) (marked : List Bool) → HasCircuit net parts part → IsRoundState net parts part policy st
-    → IsBetterPolicy net parts part st.round.ratio st.values.items policy better marked → ((d : List PlaceId) → IsPolicyCircuit net parts part (policy_of better) d → Any (λ p. IsMarked marked (to_of net p)) d → ⊥) → (t : ℕ) → IsMarked marked t
-    → CanSettle net parts part better st.round.ratio st.round.circuit.places.items → length routed ≡ length parts → IsSettled net parts part better routed st.round.ratio st.round.circuit.places.items next → IsNextRoundState net parts part routed st next
+    → IsBetterPolicy net parts part st.round.ratio st.values.items policy better marked
+    → ((d : List PlaceId) → IsPolicyCircuit net parts part (policy_of better) d → Any (λ p. IsMarked marked (to_of net p)) d → ⊥)
+    → (t : ℕ) → IsMarked marked t
+    → CanSettle net parts part better st.round.ratio st.round.circuit.places.items → length routed ≡ length parts
+    → IsSettled net parts part better routed st.round.ratio st.round.circuit.places.items next → IsNextRoundState net parts part routed st next
 goes_same net parts part policy better routed st next marked h state up none t y can count done =
     step_same net parts part policy better st marked state up none routed next h.kept h.parts_.count t y
     (settled_stands net parts part better routed st.round.ratio st.round.circuit.places.items next can (better_outside net parts part policy better st marked state up) count done) done

@@ -11,7 +11,8 @@ use Rattle.teg_net.specs.PartAnswers.{first_transition_of}
 use Rattle.teg_howard.proofs.Back.{back_add, back_member}
 use Rattle.teg_howard.proofs.Turns.{on_circuit}
 
-module _ (net : NetLists) (parts : List ℕ) (part : ℕ) (π : Policy) (ok : IsPolicy net parts part π) (s : ℕ) (joins : List PlaceId) (routed : Policy) (r : IsRouting net parts part π s joins routed) where
+module _ (net : NetLists) (parts : List ℕ) (part : ℕ) (π : Policy) (ok : IsPolicy net parts part π) (s : ℕ) (joins : List PlaceId)
+    (routed : Policy) (r : IsRouting net parts part π s joins routed) where
   -- what led step_back leads step_back the same way
   same_back : (m t : ℕ) → IsMember parts part t → step_back net π m t ≡ s → (j : ℕ) → j ≤ m → step_back net routed j t ≡ step_back net π j t
   same_back m t h e zero l = refl

@@ -113,7 +113,8 @@ module _ (net : NetLists) (parts : List ℕ) (part : ℕ) where
 
 -- the last round's answer tells the greatest ratio of the part, a circuit that has it, and the greatest sums
 pub last_answers :
-    (net : NetLists) (parts : List ℕ) (part : ℕ) (policy : List PlaceId) (st : RoundState) (answer : PartAnswer) → IsRoundState net parts part policy st → IsLastRound net parts part st.round → IsAnswerOf st.round answer
+    (net : NetLists) (parts : List ℕ) (part : ℕ) (policy : List PlaceId) (st : RoundState) (answer : PartAnswer)
+    → IsRoundState net parts part policy st → IsLastRound net parts part st.round → IsAnswerOf st.round answer
     → IsPartAnswer net parts part answer
 last_answers net parts part policy st NoCircuit h last is = absurd is
 last_answers net parts part policy st (Best ratio circuit told) h last is =
@@ -147,7 +148,8 @@ last_answers net parts part policy st (Best ratio circuit told) h last is =
     (subst (λ x. IsBestOfPart net parts part r c x) (sym is.2) best))
 
 -- and keeps the limits
-pub last_keeps : (net : NetLists) (parts : List ℕ) (part : ℕ) (policy : List PlaceId) (st : RoundState) (answer : PartAnswer) → IsRoundState net parts part policy st → IsAnswerOf st.round answer → KeepsLimits answer
+pub last_keeps : (net : NetLists) (parts : List ℕ) (part : ℕ) (policy : List PlaceId) (st : RoundState) (answer : PartAnswer)
+    → IsRoundState net parts part policy st → IsAnswerOf st.round answer → KeepsLimits answer
 last_keeps net parts part policy st NoCircuit h is = absurd is
 last_keeps net parts part policy st (Best ratio circuit told) h is =
     let t = h.small.time_in in

@@ -1,5 +1,6 @@
 -- Potentials spread from the root to the followers of what has one.
-use Rattle.std.proofs.Common.{ℕ, ◌+◌, ◌<◌, ◌≤◌, ◌≡◌, ◌≢◌, List, [], ◌∷◌, ◌++◌, AllPairs, Option, Some, None, cond, is_none, count_by, length, get_or, set, refl, sym, ap, subst, ◌∙◌, arith, inl, inr, ⊎_elim}
+use Rattle.std.proofs.Common.{ℕ, ◌+◌, ◌<◌, ◌≤◌, ◌≡◌, ◌≢◌, List, [], ◌∷◌, ◌++◌, AllPairs, Option, Some, None, cond, is_none, count_by, length, get_or}
+use Rattle.std.proofs.Common.{set, refl, sym, ap, subst, ◌∙◌, arith, inl, inr, ⊎_elim}
 use Rattle.std.specs.Prelude.{ℤ, pos, All, Any, ◌⊎◌}
 use Rattle.std.proofs.lemmas.List.Sums.{sum_by-set}
 use Rattle.std.proofs.lemmas.List.Elements.{All-push}
@@ -130,14 +131,17 @@ module _ (net : NetLists) (parts : List ℕ) (part : ℕ) (π : Policy) (root : 
             (λ (q : y ≡ x).
             let read : get_or (set highest x (Some i)) y None ≡ Some i = ap (λ z. get_or (set highest x (Some i)) z None) q ∙ get_or-set_same highest x (Some i) None x_in in
             subst (IsHighestFollowerBelow net parts part π root y (i + 1)) (sym read) (omega arith, subst (λ z. At z i) (sym q) here, λ t a b c. absurd (omega arith)))
-            (λ (q : y ≢ x). subst (IsHighestFollowerBelow net parts part π root y (i + 1)) (sym (get_or-set_other highest x y (Some i) None q)) (still y i (get_or highest y None) (λ a. q (sym a.starts)) (h.highest_ y m)))
+            (λ (q : y ≢ x). subst (IsHighestFollowerBelow net parts part π root y (i + 1))
+            (sym (get_or-set_other highest x y (Some i) None q)) (still y i (get_or highest y None) (λ a. q (sym a.starts)) (h.highest_ y m)))
             (cases_eq y x);
         lower_ = λ y t m a.
             ⊎_elim
             (λ (q : t ≡ i).
             let read : get_or (set lower i old) t None ≡ old = ap (λ z. get_or (set lower i old) z None) q ∙ get_or-set_same lower i old None i_in in
             let at : y ≡ x = sym a.starts ∙ ap start_of q in
-            subst (IsHighestFollowerBelow net parts part π root y t) (sym read) (subst (λ z. IsHighestFollowerBelow net parts part π root y z old) (sym q) (subst (λ z. IsHighestFollowerBelow net parts part π root z i old) (sym at) (h.highest_ x l))))
+            subst (IsHighestFollowerBelow net parts part π root y t) (sym read)
+            (subst (λ z. IsHighestFollowerBelow net parts part π root y z old) (sym q)
+            (subst (λ z. IsHighestFollowerBelow net parts part π root z i old) (sym at) (h.highest_ x l))))
             (λ (q : t ≢ i). subst (IsHighestFollowerBelow net parts part π root y t) (sym (get_or-set_other lower i t old None q)) (h.lower_ y t (omega arith) a))
             (cases_eq t i);
       }
@@ -185,7 +189,8 @@ module _ (net : NetLists) (parts : List ℕ) (part : ℕ) (π : Policy) (root : 
         without = λ u l m. h.free u (omega arith) (subst (λ y. At y u) e m);
       })
 
-  add_apart : (vs : List (Option ℤ)) (old : List ℕ) (o : Option ℕ) (x bound : ℕ) → Added vs old o x bound → AllPairs (λ t u. start_of t ≢ start_of u) old → AllPairs (λ t u. start_of t ≢ start_of u) (old ++ listed_member o)
+  add_apart : (vs : List (Option ℤ)) (old : List ℕ) (o : Option ℕ) (x bound : ℕ) → Added vs old o x bound
+      → AllPairs (λ t u. start_of t ≢ start_of u) old → AllPairs (λ t u. start_of t ≢ start_of u) (old ++ listed_member o)
   add_apart vs old None x bound h w = subst (AllPairs (λ t u. start_of t ≢ start_of u)) (sym (append-nil old)) w
   add_apart vs old (Some t) x bound h w =
       Pairs_push (λ t u. start_of t ≢ start_of u) old t w (λ i d l. subst (λ y. start_of (get_or old i d) ≢ y) (sym h.link.1.starts) (h.alone i d l))
@@ -234,7 +239,8 @@ module _ (net : NetLists) (parts : List ℕ) (part : ℕ) (π : Policy) (root : 
       }
 
   -- the member that waited last gets its value, and its next and its own highest follower wait
-  pub spread_more : (a b : ℕ) (vs : List (Option ℤ)) (rest : List ℕ) (t : ℕ) (z : ℤ) (f : Followers) → AreFollowers net parts part π root f → Spreading a b vs (rest ++ t ∷ []) → Followed net parts part a b root π (set vs t (Some z))
+  pub spread_more : (a b : ℕ) (vs : List (Option ℤ)) (rest : List ℕ) (t : ℕ) (z : ℤ) (f : Followers)
+      → AreFollowers net parts part π root f → Spreading a b vs (rest ++ t ∷ []) → Followed net parts part a b root π (set vs t (Some z))
       → Spreading a b (set vs t (Some z)) ((rest ++ listed_member (get_or f.lower.items t None)) ++ listed_member (get_or f.highest.items t None))
   spread_more a b vs rest t z f links h followed =
       let new : List (Option ℤ) = set vs t (Some z) in

@@ -48,7 +48,8 @@ trail_add net π (suc m) k t =
     rw (e, back_add net π m k t, trail_add net π m k t) refl
 
 -- a path of the policy's own places is a trail
-pub own_trail : (net : NetLists) (π : Policy) (n : ℕ) (ps : List PlaceId) (s t : ℕ) → length ps ≡ n → All (λ p. π (to_of net p) ≡ p) ps → IsPathBetween net s ps t → (ps ≡ trail net π n t) × (s ≡ step_back net π n t)
+pub own_trail : (net : NetLists) (π : Policy) (n : ℕ) (ps : List PlaceId) (s t : ℕ) → length ps ≡ n → All (λ p. π (to_of net p) ≡ p) ps
+    → IsPathBetween net s ps t → (ps ≡ trail net π n t) × (s ≡ step_back net π n t)
 own_trail net π zero [] s t e h l = (refl, l)
 own_trail net π (suc n) [] s t e h l = absurd (omega arith)
 own_trail net π zero (p ∷ ps) s t e h l = absurd (omega arith)

@@ -43,7 +43,9 @@ cases_less x y = by_lt_z x y (λ l. inl l) (λ l. inr (λ m. absurd (omega (arit
 module _ (net : NetLists) (parts : List ℕ) (part : ℕ) where
   pub cases_enters : (t : ℕ) (p : PlaceId) → Enters net parts part t p ⊎ (Enters net parts part t p → ⊥)
   cases_enters t p =
-      let range : (p.index < length net.places) ⊎ (p.index < length net.places → ⊥) = ⊎_elim (λ (l : p.index < length net.places). inl l) (λ (l : length net.places ≤ p.index). inr (λ m. absurd (omega arith))) (cases_lt p.index (length net.places)) in
+      let range : (p.index < length net.places) ⊎ (p.index < length net.places → ⊥) =
+      ⊎_elim (λ (l : p.index < length net.places). inl l) (λ (l : length net.places ≤ p.index). inr (λ m. absurd (omega arith)))
+      (cases_lt p.index (length net.places)) in
       let ends = cases_both (cases_member parts part (from_of net p)) (cases_both (cases_member parts part (to_of net p)) (cases_eq (to_of net p) t)) in
       ⊎_elim
       (λ (w : (p.index < length net.places) × (IsMember parts part (from_of net p) × (IsMember parts part (to_of net p) × (to_of net p ≡ t)))).
@@ -69,7 +71,8 @@ module _ (net : NetLists) (parts : List ℕ) (part : ℕ) where
       (first_below (λ i. Improves net parts part a b v t (at i)) (λ i. cases_improves_by a b v t (at i)) (length net.places))
 
   -- a policy's circuit is the trail from where it begins
-  pub circuit_trail : (π : Policy) (c : List PlaceId) → IsPolicyCircuit net parts part π c → (c ≡ trail net π (length c) (first_transition_of net c)) × (step_back net π (length c) (first_transition_of net c) ≡ first_transition_of net c)
+  pub circuit_trail : (π : Policy) (c : List PlaceId) → IsPolicyCircuit net parts part π c
+      → (c ≡ trail net π (length c) (first_transition_of net c)) × (step_back net π (length c) (first_transition_of net c) ≡ first_transition_of net c)
   circuit_trail π [] h = absurd (omega (arith, h.circuit.not_empty))
   circuit_trail π (p ∷ ps) h =
       let s : ℕ = h.circuit.closed.0 in
@@ -134,14 +137,17 @@ module _ (net : NetLists) (parts : List ℕ) (part : ℕ) where
         let sum = sum_back net parts part π ok a b root v sums (n - 1) x member (λ j l. subst (λ y. y ≢ root) (sym (shift j)) (off_root (j + 1) (omega arith) (omega arith))) in
         let home : step_back net π (n - 1) x ≡ root = shift (n - 1) ∙ (ap (λ m. step_back net π m root) one_less ∙ t.1) in
         let parts_of : trail net π n root ≡ trail net π (n - 1) x ++ trail net π 1 root = ap (λ m. trail net π m root) (sym one_less) ∙ trail_add net π (n - 1) 1 root in
-        let whole : reduced_time_of net a b c ≡ (reduced_time_of net a b (trail net π (n - 1) x) +ℤ (reduced_time net a b (π root) +ℤ pos 0)) = ap (reduced_time_of net a b) (t.0 ∙ parts_of) ∙ weight-append net a b (trail net π (n - 1) x) (trail net π 1 root) in
+        let whole : reduced_time_of net a b c ≡ (reduced_time_of net a b (trail net π (n - 1) x) +ℤ
+        (reduced_time net a b (π root) +ℤ pos 0)) = ap (reduced_time_of net a b) (t.0 ∙ parts_of)
+        ∙ weight-append net a b (trail net π (n - 1) x) (trail net π 1 root) in
         let zero_is = weight_zero in
         let homely : v (step_back net π (n - 1) x) ≡ v root = ap v home in
         let start = sums.start in
         omega (arith, ints, sum, whole, zero_is, homely, start)
 
     pub everywhere : (t : ℕ) → IsMember parts part t → v t ≡ offer_of net a b v (π t)
-    everywhere t h = ⊎_elim (λ (e : t ≡ first_transition_of net c). subst (λ x. v x ≡ offer_of net a b v (π x)) (sym e) at_root) (λ (e : t ≢ first_transition_of net c). sums.others t h e) (cases_eq t (first_transition_of net c))
+    everywhere t h = ⊎_elim (λ (e : t ≡ first_transition_of net c). subst (λ x. v x ≡ offer_of net a b v (π x)) (sym e) at_root)
+        (λ (e : t ≢ first_transition_of net c). sums.others t h e) (cases_eq t (first_transition_of net c))
 
     -- ---- and the better policy
     module _ (better : Policy) (imp : IsImprovement net parts part a b π v better) where
@@ -178,7 +184,9 @@ module _ (net : NetLists) (parts : List ℕ) (part : ℕ) where
           let s : ℕ = h.circuit.closed.0 in
           let k : ℕ = new.0 in
           let x : PlaceId = new.1 in
-          let more : v (to_of net x) <ℤ offer_of net a b v x = subst (λ q. v (to_of net x) <ℤ offer_of net a b v q) (subst (λ q. better (to_of net q) ≡ q) new.3 (h.own k x new.2)) (offers_more (to_of net x) new.4.0 new.4.1) in
+          let more : v (to_of net x) <ℤ offer_of net a b v x =
+          subst (λ q. v (to_of net x) <ℤ offer_of net a b v q) (subst (λ q. better (to_of net q) ≡ q) new.3 (h.own k x new.2))
+          (offers_more (to_of net x) new.4.0 new.4.1) in
           let there : v (to_of net (get_or d k x)) <ℤ offer_of net a b v (get_or d k x) = subst (λ q. v (to_of net q) <ℤ offer_of net a b v q) (sym new.3) more in
           let up = above_by_one net a b v d s s k x (offers_on d h.inside h.own) h.circuit.closed.1 new.2 there in
           let w = weight_is net a b d in
@@ -197,7 +205,8 @@ module _ (net : NetLists) (parts : List ℕ) (part : ℕ) where
             let circuit = trail_circuit net parts part better better_is_policy m t h f.1 f.3 f.4 in
             let at : m - 1 < length (trail net better m t) = omega (arith, length-trail net better m t, f.1) in
             let none_back : m - suc (m - 1) ≡ 0 = omega (arith, f.1) in
-            let read : get_or (trail net better m t) (m - 1) (better t) ≡ better t = get_or-trail net better m t (m - 1) (better t) (omega (arith, f.1)) ∙ ap (λ j. better (step_back net better j t)) none_back in
+            let read : get_or (trail net better m t) (m - 1) (better t) ≡ better t =
+            get_or-trail net better m t (m - 1) (better t) (omega (arith, f.1)) ∙ ap (λ j. better (step_back net better j t)) none_back in
             let ends = (better_is_policy t h).ends in
             let change : IsChanged parts part π better (to_of net (better t)) = subst (λ x. IsChanged parts part π better x) (sym ends) (h, ne) in
             absurd (none_new (trail net better m t) circuit (m - 1, better t, at, read, change)))
@@ -209,7 +218,9 @@ module _ (net : NetLists) (parts : List ℕ) (part : ℕ) where
         same_way k x h l e (suc j) =
             let rest = same_way k x h l e j in
             let y : ℕ = step_back net better j x in
-            let turned : step_back net better k y ≡ y = back_add net better k j x ∙ (ap (λ n. step_back net better n x) (let s : k + j ≡ j + k = omega arith in s) ∙ (sym (back_add net better j k x) ∙ ap (step_back net better j) e)) in
+            let turned : step_back net better k y ≡ y = back_add net better k j x
+            ∙ (ap (λ n. step_back net better n x) (let s : k + j ≡ j + k = omega arith in s)
+            ∙ (sym (back_add net better j k x) ∙ ap (step_back net better j) e)) in
             ap (from_of net) (unchanged k y (back_member net parts part better better_is_policy j x h) l turned ∙ ap π rest)
 
         pub still_back_to_root : (t : ℕ) → IsMember parts part t → LeadsBack net better t (first_transition_of net c)
@@ -230,8 +241,13 @@ module _ (net : NetLists) (parts : List ℕ) (part : ℕ) where
             let x_in = back_member net parts part better better_is_policy e.0 root h in
             let home = back_to_root x x_in in
             let there : step_back net better home.0 x ≡ root = same_way e.1 x x_in e.2 e.3 home.0 ∙ home.1 in
-            let k : ℕ = e.1 in
-            (k, e.2, ap (step_back net better k) (sym there) ∙ (back_add net better k home.0 x ∙ (ap (λ n. step_back net better n x) (let s : k + home.0 ≡ home.0 + k = omega arith in s) ∙ (sym (back_add net better home.0 k x) ∙ (ap (step_back net better home.0) e.3 ∙ there)))))
+            let k : ℕ = e.1 in (
+              k,
+              e.2,
+              ap (step_back net better k) (sym there)
+                  ∙ (back_add net better k home.0 x ∙ (ap (λ n. step_back net better n x)
+                  (let s : k + home.0 ≡ home.0 + k = omega arith in s) ∙ (sym (back_add net better home.0 k x) ∙ (ap (step_back net better home.0) e.3 ∙ there)))),
+            )
 
         pub still_circuit : IsPolicyCircuit net parts part better c
         still_circuit = record {
@@ -253,7 +269,9 @@ module _ (net : NetLists) (parts : List ℕ) (part : ℕ) where
               let step : from_of net (better (step_back net better j root)) ≡ from_of net (π (step_back net π j root)) = way (suc j) in
               let y : ℕ = step_back net better j root in
               let k : ℕ = r.0 in
-              let turned : step_back net better k y ≡ y = back_add net better k j root ∙ (ap (λ n. step_back net better n root) (let s : k + j ≡ j + k = omega arith in s) ∙ (sym (back_add net better j k root) ∙ ap (step_back net better j) r.2)) in
+              let turned : step_back net better k y ≡ y = back_add net better k j root
+              ∙ (ap (λ n. step_back net better n root) (let s : k + j ≡ j + k = omega arith in s)
+              ∙ (sym (back_add net better j k root) ∙ ap (step_back net better j) r.2)) in
               let same : better y ≡ π y = unchanged k y (back_member net parts part better better_is_policy j root root_in) r.1 turned in
               let y_is : to_of net p ≡ y = end ∙ sym (way j) in
               ap better y_is ∙ (same ∙ (ap π (sym y_is) ∙ own));
@@ -276,7 +294,9 @@ module _ (net : NetLists) (parts : List ℕ) (part : ℕ) where
               let m : ℕ = f.0 in
               let sum = sum_back net parts part better better_is_policy a b (first_transition_of net c) w next m t h f.2 in
               let path = trail_leads net parts part better better_is_policy m t h in
-              let low = below_along net a b v (trail net better m t) (step_back net better m t) t (offers_on (trail net better m t) (trail_inside net parts part better better_is_policy m t h) (trail_own net parts part better better_is_policy m t h)) path in
+              let low = below_along net a b v (trail net better m t) (step_back net better m t) t
+              (offers_on (trail net better m t) (trail_inside net parts part better better_is_policy m t h)
+              (trail_own net parts part better better_is_policy m t h)) path in
               let vs : v (step_back net better m t) ≡ pos 0 = ap v f.1 ∙ sums.start in
               let ws : w (step_back net better m t) ≡ pos 0 = ap w f.1 ∙ next.start in
               omega (arith, ints, sum, low, vs, ws)
@@ -296,10 +316,14 @@ module _ (net : NetLists) (parts : List ℕ) (part : ℕ) where
               let path = trail_leads net parts part better better_is_policy m t h in
               let at : m - 1 < length (trail net better m t) = omega (arith, length-trail net better m t) in
               let none_back : m - suc (m - 1) ≡ 0 = omega arith in
-              let read : get_or (trail net better m t) (m - 1) (better t) ≡ better t = get_or-trail net better m t (m - 1) (better t) (omega arith) ∙ ap (λ j. better (step_back net better j t)) none_back in
+              let read : get_or (trail net better m t) (m - 1) (better t) ≡ better t =
+              get_or-trail net better m t (m - 1) (better t) (omega arith) ∙ ap (λ j. better (step_back net better j t)) none_back in
               let here : v (to_of net (better t)) <ℤ offer_of net a b v (better t) = subst (λ x. v x <ℤ offer_of net a b v (better t)) (sym ends) (offers_more t h ne) in
-              let there : v (to_of net (get_or (trail net better m t) (m - 1) (better t))) <ℤ offer_of net a b v (get_or (trail net better m t) (m - 1) (better t)) = subst (λ q. v (to_of net q) <ℤ offer_of net a b v q) (sym read) here in
-              let low = above_by_one net a b v (trail net better m t) (step_back net better m t) t (m - 1) (better t) (offers_on (trail net better m t) (trail_inside net parts part better better_is_policy m t h) (trail_own net parts part better better_is_policy m t h)) path at there in
+              let there : v (to_of net (get_or (trail net better m t) (m - 1) (better t))) <ℤ offer_of net a b v
+              (get_or (trail net better m t) (m - 1) (better t)) = subst (λ q. v (to_of net q) <ℤ offer_of net a b v q) (sym read) here in
+              let low = above_by_one net a b v (trail net better m t) (step_back net better m t) t (m - 1) (better t)
+              (offers_on (trail net better m t) (trail_inside net parts part better better_is_policy m t h)
+              (trail_own net parts part better better_is_policy m t h)) path at there in
               let vs : v (step_back net better m t) ≡ pos 0 = ap v f.1 ∙ sums.start in
               let ws : w (step_back net better m t) ≡ pos 0 = ap w f.1 ∙ next.start in
               omega (arith, ints, sum, low, vs, ws))

@@ -22,7 +22,8 @@ one_between x y a b = omega (arith, ints)
 
 module _ (net : NetLists) (parts : List ℕ) (part : ℕ) where
   -- a better policy is determined at the members
-  pub one_improvement : (a b : ℕ) (π : Policy) (v : ℕ → ℤ) (f g : Policy) → IsImprovement net parts part a b π v f → IsImprovement net parts part a b π v g → (t : ℕ) → IsMember parts part t → f t ≡ g t
+  pub one_improvement : (a b : ℕ) (π : Policy) (v : ℕ → ℤ) (f g : Policy) → IsImprovement net parts part a b π v f
+      → IsImprovement net parts part a b π v g → (t : ℕ) → IsMember parts part t → f t ≡ g t
   one_improvement a b π v f g h k t m =
       ⊎_elim
       (λ (w : (p : PlaceId) × Improves net parts part a b v t p).
@@ -51,7 +52,8 @@ module _ (net : NetLists) (parts : List ℕ) (part : ℕ) where
   circuit_agrees π σ e c h = record { circuit = h.circuit; inside = h.inside; own = λ i d l. sym (e (to_of net (get_or c i d)) (h.inside i d l).to_member) ∙ h.own i d l }
 
   -- the best circuit is determined
-  pub one_best : (π : Policy) (ok : IsPolicy net parts part π) (kept : IsNet net) (Kind : ℕ → Type 0) (c d : List PlaceId) → IsBestCircuit net parts part π Kind c → IsBestCircuit net parts part π Kind d → c ≡ d
+  pub one_best : (π : Policy) (ok : IsPolicy net parts part π) (kept : IsNet net) (Kind : ℕ → Type 0) (c d : List PlaceId)
+      → IsBestCircuit net parts part π Kind c → IsBestCircuit net parts part π Kind d → c ≡ d
   one_best π ok kept Kind c d h k =
       let one = h.greatest d k.is k.through in
       let two = k.greatest c h.is h.through in
@@ -68,7 +70,8 @@ module _ (net : NetLists) (parts : List ℕ) (part : ℕ) where
       let b = k.lowest p h.joins_ in
       same_id p q (omega arith)
 
-  joins_equal : (π ρ σ : Policy) (s : ℕ) (js ks : List PlaceId) → IsRouting net parts part π s js ρ → IsRouting net parts part π s ks σ → (n : ℕ) → n ≤ length js → n ≤ length ks → take n js ≡ take n ks
+  joins_equal : (π ρ σ : Policy) (s : ℕ) (js ks : List PlaceId) → IsRouting net parts part π s js ρ → IsRouting net parts part π s ks σ
+      → (n : ℕ) → n ≤ length js → n ≤ length ks → take n js ≡ take n ks
   joins_equal π ρ σ s js ks h k zero l m = refl
   joins_equal π ρ σ s js ks h k (suc n) l m =
       let rest = joins_equal π ρ σ s js ks h k n (omega arith) (omega arith) in
@@ -112,7 +115,8 @@ module _ (net : NetLists) (parts : List ℕ) (part : ℕ) where
       (h.all t i)
 
   -- the potentials are determined
-  pub one_sums : (a b s : ℕ) (ρ σ : Policy) → IsPolicy net parts part ρ → ((t : ℕ) → IsMember parts part t → ρ t ≡ σ t) → (v w : ℕ → ℤ) → AreSums net parts part a b ρ s v → AreSums net parts part a b σ s w
+  pub one_sums : (a b s : ℕ) (ρ σ : Policy) → IsPolicy net parts part ρ → ((t : ℕ) → IsMember parts part t → ρ t ≡ σ t) → (v w : ℕ → ℤ)
+      → AreSums net parts part a b ρ s v → AreSums net parts part a b σ s w
       → (m t : ℕ) → IsMember parts part t → step_back net ρ m t ≡ s → v t ≡ w t
   one_sums a b s ρ σ ok e v w h k zero t i l = ap v l ∙ (h.start ∙ (sym k.start ∙ ap w (sym l)))
   one_sums a b s ρ σ ok e v w h k (suc m) t i l =

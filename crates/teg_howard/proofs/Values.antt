@@ -1,5 +1,6 @@
 -- The two loops of `settle`: potentials given by following the policy, and then by routing.
-use Rattle.std.proofs.Common.{ℕ, zero, suc, ◌+◌, ◌*◌, ◌<◌, ◌≤◌, ◌≡◌, ◌≢◌, List, [], ◌∷◌, ◌++◌, Option, Some, None, is_some, cond, length, get_or, set, take, refl, sym, ap, subst, ◌∙◌, arith, rules, inl, inr, ⊎_elim}
+use Rattle.std.proofs.Common.{ℕ, zero, suc, ◌+◌, ◌*◌, ◌<◌, ◌≤◌, ◌≡◌, ◌≢◌, List, [], ◌∷◌, ◌++◌, Option, Some, None, is_some, cond, length, get_or, set}
+use Rattle.std.proofs.Common.{take, refl, sym, ap, subst, ◌∙◌, arith, rules, inl, inr, ⊎_elim}
 use Rattle.std.specs.Prelude.{ℤ, pos, ◌+ℤ◌, All, Any, IsSome, ◌⊎◌}
 use Rattle.std.proofs.lemmas.Int.{ints}
 use mir.Val.{SFits}
@@ -89,8 +90,12 @@ valued_more net parts part a b s π σ vs t p y h m none starts mine same small 
           (λ (q : u ≢ t).
           let old = h.sums u z (sym (there u q) ∙ e) ne in
           let place : σ u ≡ π u = same u q in
-          let from : from_of net (σ u) ≡ from_of net (π u) = ap (from_of net) place in
-          (old.0, ap (value_held (set vs t (Some new))) from ∙ (there (from_of net (π u)) (apart (from_of net (π u)) old.0 old.1) ∙ old.1), old.2 ∙ ap (λ x. reduced_time net a b x +ℤ old.0) (sym place)))
+          let from : from_of net (σ u) ≡ from_of net (π u) = ap (from_of net) place in (
+            old.0,
+            ap (value_held (set vs t (Some new))) from
+                ∙ (there (from_of net (π u)) (apart (from_of net (π u)) old.0 old.1) ∙ old.1),
+            old.2 ∙ ap (λ x. reduced_time net a b x +ℤ old.0) (sym place),
+          ))
           (cases_eq u t);
       small = λ u z e.
           rw more
@@ -178,7 +183,9 @@ routed_more net parts part a b s first joins π σ vs p y h j low e small mine s
     let r : IsJoin net parts part vs q = record {
       inside = w.inside;
       starts = h.has (from_of net q) w.inside.from_member w.from_routed;
-      without = ⊎_elim (λ (n : value_held vs (to_of net q) ≡ None). n) (λ (n : (z : ℤ) × (value_held vs (to_of net q) ≡ Some z)). absurd (w.to_unrouted (h.had (to_of net q) n.0 n.1))) (cases_option (value_held vs (to_of net q)));
+      without = ⊎_elim (λ (n : value_held vs (to_of net q) ≡ None). n)
+          (λ (n : (z : ℤ) × (value_held vs (to_of net q) ≡ Some z)). absurd (w.to_unrouted (h.had (to_of net q) n.0 n.1)))
+          (cases_option (value_held vs (to_of net q)));
     } in r in
     let next : JoinsNext net parts part first s joins p = record {
       joins_ = record { inside = j.inside; from_routed = h.had (from_of net p) y e; to_unrouted = not_routed };
@@ -244,7 +251,8 @@ routed_more net parts part a b s first joins π σ vs p y h j low e small mine s
 
 -- ---- a part is strongly connected, so all members are routed
 pub path_inside :
-    (net : NetLists) (parts : List ℕ) (part : ℕ) → IsNet net → AreStrong net parts → (ps : List PlaceId) (s t : ℕ) → IsMember parts part s → IsMember parts part t → IsPathBetween net s ps t → All (IsPlaceOfPart net parts part) ps
+    (net : NetLists) (parts : List ℕ) (part : ℕ) → IsNet net → AreStrong net parts → (ps : List PlaceId) (s t : ℕ)
+    → IsMember parts part s → IsMember parts part t → IsPathBetween net s ps t → All (IsPlaceOfPart net parts part) ps
 path_inside net parts part kept strong [] s t hs ht l = λ i d m. absurd (omega arith)
 path_inside net parts part kept strong (p ∷ ps) s t hs ht l =
     let there = strong.strong s t hs.in_range ht.in_range in
@@ -259,7 +267,8 @@ path_inside net parts part kept strong (p ∷ ps) s t hs ht l =
     All-cons (IsPlaceOfPart net parts part) p ps (record { in_range = l.0; from_member = from; to_member = hu }) (path_inside net parts part kept strong ps u t hu ht l.2)
 
 pub spread :
-    (net : NetLists) (parts : List ℕ) (part : ℕ) (vs : List (Option ℤ)) → ((p : PlaceId) → IsJoin net parts part vs p → ⊥) → (ps : List PlaceId) (s t : ℕ) → IsPathBetween net s ps t → All (IsPlaceOfPart net parts part) ps → value_held vs s ≢ None → value_held vs t ≢ None
+    (net : NetLists) (parts : List ℕ) (part : ℕ) (vs : List (Option ℤ)) → ((p : PlaceId) → IsJoin net parts part vs p → ⊥)
+    → (ps : List PlaceId) (s t : ℕ) → IsPathBetween net s ps t → All (IsPlaceOfPart net parts part) ps → value_held vs s ≢ None → value_held vs t ≢ None
 spread net parts part vs none [] s t l h v = subst (λ x. value_held vs x ≢ None) l v
 spread net parts part vs none (p ∷ ps) s t l h v =
     let from : value_held vs (from_of net p) ≢ None = subst (λ x. value_held vs x ≢ None) (sym l.1) v in
@@ -287,7 +296,8 @@ valued_sums net parts part a b s π vs h all = record {
       (cases_option (value_held vs t));
 }
 
-pub routed_routing : (net : NetLists) (parts : List ℕ) (part a b s : ℕ) (first : Policy) (joins : List PlaceId) (π : Policy) (vs : List (Option ℤ)) → Routed net parts part a b s first joins π vs → ((t : ℕ) → IsMember parts part t → value_held vs t ≢ None)
+pub routed_routing : (net : NetLists) (parts : List ℕ) (part a b s : ℕ) (first : Policy) (joins : List PlaceId) (π : Policy)
+    (vs : List (Option ℤ)) → Routed net parts part a b s first joins π vs → ((t : ℕ) → IsMember parts part t → value_held vs t ≢ None)
     → IsRouting net parts part first s joins π
 routed_routing net parts part a b s first joins π vs h all = record {
   each = h.each;
@@ -299,7 +309,8 @@ routed_routing net parts part a b s first joins π vs h all = record {
 filled_in : (vs : List (Option ℤ)) → length vs ≤ 400 → filled vs * step_bound ≤ 160000000000000000
 filled_in vs l = omega (arith, count_by-le-length is_some vs)
 
-pub all_within : (net : NetLists) (parts : List ℕ) (part a b s : ℕ) (π : Policy) (vs : List (Option ℤ)) → Valued net parts part a b s π vs → length vs ≤ 400 → (t : ℕ) (z : ℤ) → value_held vs t ≡ Some z → IsMagnitudeWithin greatest_scaled_potential z
+pub all_within : (net : NetLists) (parts : List ℕ) (part a b s : ℕ) (π : Policy) (vs : List (Option ℤ))
+    → Valued net parts part a b s π vs → length vs ≤ 400 → (t : ℕ) (z : ℤ) → value_held vs t ≡ Some z → IsMagnitudeWithin greatest_scaled_potential z
 all_within net parts part a b s π vs h l t z e =
     let w = h.small t z e in
     let low = w.low in
@@ -307,7 +318,8 @@ all_within net parts part a b s π vs h l t z e =
     let f = filled_in vs l in
     record { low = omega (arith, ints); high = omega (arith, ints) }
 
-pub held_within : (vs : List (Option ℤ)) (t : ℕ) → ((z : ℤ) → value_held vs t ≡ Some z → IsMagnitudeWithin greatest_scaled_potential z) → IsMagnitudeWithin greatest_scaled_potential (value_or_zero (value_held vs t))
+pub held_within : (vs : List (Option ℤ)) (t : ℕ) → ((z : ℤ) → value_held vs t ≡ Some z → IsMagnitudeWithin greatest_scaled_potential z)
+    → IsMagnitudeWithin greatest_scaled_potential (value_or_zero (value_held vs t))
 held_within vs t h =
     ⊎_elim
     (λ (n : value_held vs t ≡ None). subst (IsMagnitudeWithin greatest_scaled_potential) (sym (ap value_or_zero n)) (record { low = omega (arith, ints); high = omega (arith, ints) }))
@@ -315,7 +327,8 @@ held_within vs t h =
     (cases_option (value_held vs t))
 
 -- only the root has a value
-pub followed_start : (net : NetLists) (parts : List ℕ) (part a b s : ℕ) (π : Policy) (vs : List (Option ℤ)) → IsMember parts part s → HasRootAlone (length parts) s vs → Followed net parts part a b s π vs
+pub followed_start : (net : NetLists) (parts : List ℕ) (part a b s : ℕ) (π : Policy) (vs : List (Option ℤ)) → IsMember parts part s
+    → HasRootAlone (length parts) s vs → Followed net parts part a b s π vs
 followed_start net parts part a b s π vs m h =
     let only = λ (t : ℕ) (z : ℤ) (e : value_held vs t ≡ Some z).
     let r : t ≡ s = ⊎_elim (λ (q : t ≡ s). q) (λ (q : t ≢ s). let n = h.others t q in cc) (cases_eq t s) in r in
@@ -355,7 +368,8 @@ follow_step net parts part s r π vs t offered kept small ok h f o =
     rw o (followed_more net parts part r.time r.tokens s π vs t (potentials vs x) h f (value_is vs x f.starts) (count_small net r (π t) kept small is))
 
 pub route_step :
-    (net : NetLists) (parts : List ℕ) (part s : ℕ) (r : Fraction) (first : Policy) (joins : List PlaceId) (ps : List PlaceId) (vs : List (Option ℤ)) (p : PlaceId) (offered : ℤ) → IsNet net → IsCircuitRatio r → length ps ≡ length parts
+    (net : NetLists) (parts : List ℕ) (part s : ℕ) (r : Fraction) (first : Policy) (joins : List PlaceId) (ps : List PlaceId)
+    (vs : List (Option ℤ)) (p : PlaceId) (offered : ℤ) → IsNet net → IsCircuitRatio r → length ps ≡ length parts
     → Routed net parts part r.time r.tokens s first joins (policy_of ps) vs → IsNextJoin net parts part vs p → offered ≡ offer_of net r.time r.tokens (potentials vs) p
     → Routed net parts part r.time r.tokens s first (joins ++ p ∷ []) (policy_of (set ps (to_of net p) p)) (set vs (to_of net p) (Some offered))
 route_step net parts part s r first joins ps vs p offered kept small count h n o =
@@ -363,19 +377,24 @@ route_step net parts part s r first joins ps vs p offered kept small count h n o
     let j = n.join in
     let x : ℕ = from_of net p in
     let t_in : t < length ps = let m = j.inside.to_member.in_range in omega arith in
-    rw o (routed_more net parts part r.time r.tokens s first joins (policy_of ps) (policy_of (set ps t p)) vs p (potentials vs x) h j n.lowest (value_is vs x j.starts) (count_small net r p kept small j.inside.in_range)
+    rw o (routed_more net parts part r.time r.tokens s first joins (policy_of ps) (policy_of (set ps t p)) vs p
+    (potentials vs x) h j n.lowest (value_is vs x j.starts) (count_small net r p kept small j.inside.in_range)
     (get_or-set_same ps t p first_id t_in) (λ u ne. get_or-set_other ps t u p first_id ne))
 
 -- each value keeps its bound
-pub held_at : (net : NetLists) (parts : List ℕ) (part a b s : ℕ) (π : Policy) (vs : List (Option ℤ)) → Valued net parts part a b s π vs → length parts ≤ 400 → (t : ℕ) → IsMagnitudeWithin greatest_scaled_potential (potentials vs t)
+pub held_at : (net : NetLists) (parts : List ℕ) (part a b s : ℕ) (π : Policy) (vs : List (Option ℤ)) → Valued net parts part a b s π vs
+    → length parts ≤ 400 → (t : ℕ) → IsMagnitudeWithin greatest_scaled_potential (potentials vs t)
 held_at net parts part a b s π vs h l t = held_within vs t (λ z e. all_within net parts part a b s π vs h (let k = h.count in omega arith) t z e)
 
-pub only_members : (net : NetLists) (parts : List ℕ) (part a b s : ℕ) (π : Policy) (vs : List (Option ℤ)) → Valued net parts part a b s π vs → (t : ℕ) → (IsMember parts part t → ⊥) → value_held vs t ≡ None
-only_members net parts part a b s π vs h t out = ⊎_elim (λ (n : value_held vs t ≡ None). n) (λ (w : (z : ℤ) × (value_held vs t ≡ Some z)). absurd (out (h.members t w.0 w.1))) (cases_option (value_held vs t))
+pub only_members : (net : NetLists) (parts : List ℕ) (part a b s : ℕ) (π : Policy) (vs : List (Option ℤ))
+    → Valued net parts part a b s π vs → (t : ℕ) → (IsMember parts part t → ⊥) → value_held vs t ≡ None
+only_members net parts part a b s π vs h t out = ⊎_elim (λ (n : value_held vs t ≡ None). n)
+    (λ (w : (z : ℤ) × (value_held vs t ≡ Some z)). absurd (out (h.members t w.0 w.1))) (cases_option (value_held vs t))
 
 -- where no place joins any more, all members are routed
 pub routed_all :
-    (net : NetLists) (parts : List ℕ) (part : ℕ) → IsNet net → AreStrong net parts → (s : ℕ) → IsMember parts part s → (policy ps : List PlaceId) (r : Fraction) (joins : List PlaceId) (vs : List (Option ℤ)) → All (λ p. p.index < length net.places) ps
+    (net : NetLists) (parts : List ℕ) (part : ℕ) → IsNet net → AreStrong net parts → (s : ℕ) → IsMember parts part s
+    → (policy ps : List PlaceId) (r : Fraction) (joins : List PlaceId) (vs : List (Option ℤ)) → All (λ p. p.index < length net.places) ps
     → Routed net parts part r.time r.tokens s (policy_of policy) joins (policy_of ps) vs → ((p : PlaceId) → IsJoin net parts part vs p → ⊥) → AreRouted net parts part policy ps r s vs
 routed_all net parts part kept strong s m policy ps r joins vs in_range h none =
     let all = all_valued net parts part kept strong vs s m (some_apart _ _ h.valued.start) none in

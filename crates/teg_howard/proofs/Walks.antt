@@ -65,7 +65,8 @@ module _ (net : NetLists) (π : Policy) (start m at : ℕ) (backs : List PlaceId
       })
 
 -- the walk has come below its start
-pub walked_below : (net : NetLists) (π : Policy) (start m at : ℕ) (backs : List PlaceId) (time tokens n : ℕ) → Walked net π start m at backs time tokens → from_of net (π at) < start → GoesBelow net π start n
+pub walked_below : (net : NetLists) (π : Policy) (start m at : ℕ) (backs : List PlaceId) (time tokens n : ℕ)
+    → Walked net π start m at backs time tokens → from_of net (π at) < start → GoesBelow net π start n
 walked_below net π start m at backs time tokens n h low k some few e =
     let here = step_here net π start m at backs time tokens h in
     ⊎_elim

@@ -63,7 +63,8 @@ IsFoundSmall (Some f) = (f.time ≤ greatest_circuit_time) × (f.tokens ≤ most
 -- the circuit is taken where it passes a marked transition and is above the best so far, and else that best stays
 abbrev pub IsBetterOf : NetLists → List Bool → FoundCircuit → Option FoundCircuit → Option FoundCircuit → Type 0
 IsBetterOf net marked c best result =
-    (Any (λ p. IsMarked marked (to_of net p)) c.places.items × IsAbove c best × (result ≡ Some c)) ⊎ (((Any (λ p. IsMarked marked (to_of net p)) c.places.items → ⊥) ⊎ (IsAbove c best → ⊥)) × (result ≡ best))
+    (Any (λ p. IsMarked marked (to_of net p)) c.places.items × IsAbove c best × (result ≡ Some c))
+    ⊎ (((Any (λ p. IsMarked marked (to_of net p)) c.places.items → ⊥) ⊎ (IsAbove c best → ⊥)) × (result ≡ best))
 
 -- the best circuit, with its sums
 pub record IsBestFound (net : NetLists) (parts : List ℕ) (part : ℕ) (policy : Policy) (marked : List Bool) (f : FoundCircuit) : Type 0 where

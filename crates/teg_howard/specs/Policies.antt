@@ -44,7 +44,8 @@ pub record IsBestCircuit (net : NetLists) (parts : List ℕ) (part : ℕ) (polic
   pub is : IsPolicyCircuit net parts part policy c
   pub through : Any (λ p. Kind (to_of net p)) c
   pub greatest : (d : List PlaceId) → IsPolicyCircuit net parts part policy d → Any (λ p. Kind (to_of net p)) d → time_of net d * tokens_of net c ≤ time_of net c * tokens_of net d
-  pub lowest : (d : List PlaceId) → IsPolicyCircuit net parts part policy d → Any (λ p. Kind (to_of net p)) d → time_of net d * tokens_of net c ≡ time_of net c * tokens_of net d → first_transition_of net c ≤ first_transition_of net d
+  pub lowest : (d : List PlaceId) → IsPolicyCircuit net parts part policy d → Any (λ p. Kind (to_of net p)) d
+      → time_of net d * tokens_of net c ≡ time_of net c * tokens_of net d → first_transition_of net c ≤ first_transition_of net d
 
 -- routed to s once the places `joins` have joined their ends
 abbrev pub IsRouted : NetLists → Policy → ℕ → List PlaceId → ℕ → Type 0

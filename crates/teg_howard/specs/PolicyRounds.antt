@@ -89,4 +89,5 @@ last_policy_round rounds d = slice_index_or rounds (length rounds - 1) d
 -- the rounds begin with the first round of the part, each follows from the one before, and no place improves the last
 pub record IsPolicyRun (net : NetLists) (parts : List ℕ) (part : ℕ) (rounds : List Round) : Type 0 where
   pub run : IsRunTo net parts part rounds
-  pub last : (d : Round) (t : ℕ) (p : PlaceId) → Improves net parts part (last_policy_round rounds d).ratio.time (last_policy_round rounds d).ratio.tokens (potential (last_policy_round rounds d)) t p → ⊥
+  pub last : (d : Round) (t : ℕ) (p : PlaceId) → Improves net parts part (last_policy_round rounds d).ratio.time
+      (last_policy_round rounds d).ratio.tokens (potential (last_policy_round rounds d)) t p → ⊥

@@ -75,7 +75,8 @@ onward_kept net due y z v s d (By p) next place h =
 there_kept :
     (net : NetLists) (due : ℕ → ℕ → Option ℕ) (y z : ℕ → ℕ → Date) (v s : ℕ) (b : LatestDate)
     → ((d : ℕ) (w : Onward) → b ≡ At d w → (w ≡ Due → ⊥) → z v (s + 1) ≡ y v (s + 1))
-    → ((d : ℕ) (w : Onward) → b ≡ At d w → (p : PlaceId) → w ≡ By p → p.index < length net.places → z (place_at net p).to.index (s + (place_at net p).tokens) ≡ y (place_at net p).to.index (s + (place_at net p).tokens))
+    → ((d : ℕ) (w : Onward) → b ≡ At d w → (p : PlaceId) → w ≡ By p → p.index < length net.places
+    → z (place_at net p).to.index (s + (place_at net p).tokens) ≡ y (place_at net p).to.index (s + (place_at net p).tokens))
     → HasOnward net due y v s b → HasOnward net due z v s b
 there_kept net due y z v s Free next place h = tt
 there_kept net due y z v s (At d w) next place h = onward_kept net due y z v s d w (next d w refl) (place d w refl) h

@@ -46,7 +46,9 @@ begun_starts w rows last dates full free = record {
 
 -- a row more
 pub begun_more :
-    (w : ℕ) (rows : List DueRow) (last : ℕ) (dates : List LatestDate) (i : ℕ) (r : DueRow) → ((j : ℕ) (q : DueRow) → j < length rows → ((get_or rows j q).transition.index < w) × (1 ≤ (get_or rows j q).number)) → BegunTo w rows last dates i → i < length rows → ((q : DueRow) → get_or rows i q ≡ r) → r.transition.index < w → 1 ≤ r.number → r.number ≤ last
+    (w : ℕ) (rows : List DueRow) (last : ℕ) (dates : List LatestDate) (i : ℕ) (r : DueRow)
+    → ((j : ℕ) (q : DueRow) → j < length rows → ((get_or rows j q).transition.index < w) × (1 ≤ (get_or rows j q).number))
+    → BegunTo w rows last dates i → i < length rows → ((q : DueRow) → get_or rows i q ≡ r) → r.transition.index < w → 1 ≤ r.number → r.number ≤ last
     → due_in rows r.transition.index r.number ≡ Some r.date
     → BegunTo w rows last (set dates (firing_position w r.transition.index r.number) (lowered (get_or dates (firing_position w r.transition.index r.number) Free) r.date Due)) (i + 1)
 begun_more w rows last dates i r range h l at t_in one m due =
@@ -74,7 +76,8 @@ begun_more w rows last dates i r range h l at t_in one m due =
           ⊎_elim
           (λ (c : j < i).
           let in' = range j q a in
-          at_most_trans (dates_of_latest w fresh (get_or rows j q).transition.index (get_or rows j q).number) (dates_of_latest w dates (get_or rows j q).transition.index (get_or rows j q).number) (on_date (pos (get_or rows j q).date))
+          at_most_trans (dates_of_latest w fresh (get_or rows j q).transition.index (get_or rows j q).number)
+          (dates_of_latest w dates (get_or rows j q).transition.index (get_or rows j q).number) (on_date (pos (get_or rows j q).date))
           (less (get_or rows j q).transition.index (get_or rows j q).number in'.0 in'.1) (h.dues j q a c))
           (λ (c : i ≤ j).
           let is : j ≡ i = omega arith in
@@ -109,7 +112,8 @@ only_above (At d o) x h = h d o refl
 abbrev pub no_row : DueRow
 no_row = record { row = 0; transition = record { index = 0 }; number = 0; date = 0 }
 
-pub begun_is : (net : NetLists) (rows : List DueRow) (last : ℕ) (dates : List LatestDate) (i : ℕ) → IsNet net → BegunTo (length net.transitions) rows last dates i → length rows ≤ i → ArePassedAbove net (due_in rows) last last dates
+pub begun_is : (net : NetLists) (rows : List DueRow) (last : ℕ) (dates : List LatestDate) (i : ℕ) → IsNet net
+    → BegunTo (length net.transitions) rows last dates i → length rows ≤ i → ArePassedAbove net (due_in rows) last last dates
 begun_is net rows last dates i ok h end order =
     let w : ℕ = length net.transitions in
     let never : (t s : ℕ) → last < s → dates_of_latest w dates t s ≡ Never = λ t s l. ap date_or_never (past_last w last dates t s h.full l) in
@@ -121,7 +125,8 @@ begun_is net rows last dates i ok h end order =
           rw (named.0, named.1, named.2) at (h.dues r.0 no_row r.1 (omega (arith, r.1)));
       above = λ x f keeps t s l o.
           only_above (latest_in w dates t s) (x t s) (λ d q is. keeps t s d l o (h.only t s d q l o is).1);
-      places = λ p s in' l. rw (never (place_at net p).to.index (s + (place_at net p).tokens) (omega arith)) (never_last (delayed (place_at net p).hold (dates_of_latest w dates (place_at net p).from.index s)));
+      places = λ p s in' l. rw (never (place_at net p).to.index (s + (place_at net p).tokens) (omega arith))
+          (never_last (delayed (place_at net p).hold (dates_of_latest w dates (place_at net p).from.index s)));
       climbs = λ t s l m. rw (never t (s + 1) (omega arith)) (never_last (dates_of_latest w dates t s));
       nexts = λ t l m. absurd (omega arith);
       done = λ c d l m. absurd (omega arith);

@@ -61,7 +61,8 @@ earlier order i j q o at m apart =
     (cases_lt j i)
 
 pub take_more :
-    (net : NetLists) (rows : List DueRow) (order : List Numbered) (number k : ℕ) (before cells dates : List ℕ) (i cell : ℕ) (o : Numbered) → AreRowsNumbered rows order → NameFirings net rows → TakenTo net rows order number before dates i → i < length order
+    (net : NetLists) (rows : List DueRow) (order : List Numbered) (number k : ℕ) (before cells dates : List ℕ) (i cell : ℕ)
+    (o : Numbered) → AreRowsNumbered rows order → NameFirings net rows → TakenTo net rows order number before dates i → i < length order
     → ((q : Numbered) → get_or order i q ≡ o) → o.number ≡ k → length cells ≡ length net.transitions → HaveRow net k cells → cell ≡ get_or cells (get_or rows o.index no_row).transition.index 0
     → ((d : DueRow) → get_or rows o.index d ≡ get_or rows o.index no_row)
     → TakenTo net rows order k cells (set dates o.index cell) (i + 1)
@@ -86,7 +87,8 @@ take_more net rows order number k before cells dates i cell o ord names h l at i
           rw same (λ d.
           let one : 1 ≤ k = omega (arith, own.from_one, number_is) in
           let date = ((row one).same x least).same r.transition.index own.in_range in
-          let read_cell : get_or (map date_of_cell cells) r.transition.index Early ≡ date_of_cell (get_or cells r.transition.index 0) = get_or-map date_of_cell cells r.transition.index 0 Early (omega (arith, full, own.in_range)) in
+          let read_cell : get_or (map date_of_cell cells) r.transition.index Early ≡ date_of_cell (get_or cells r.transition.index 0) =
+          get_or-map date_of_cell cells r.transition.index 0 Early (omega (arith, full, own.in_range)) in
           rw (read d, number_is, here, cell_is) (sym date ∙ read_cell)))
           (λ (apart : (get_or order j q).index ≢ o.index).
           let older : j < i = earlier order i j q o at m apart in
@@ -97,7 +99,8 @@ take_more net rows order number k before cells dates i cell o ord names h l at i
 
 -- with all of the order each row has its date
 pub all_taken :
-    (net : NetLists) (rows : List DueRow) (order : List Numbered) (number : ℕ) (cells dates : List ℕ) (i : ℕ) → AreRowsNumbered rows order → TakenTo net rows order number cells dates i → length order ≤ i
+    (net : NetLists) (rows : List DueRow) (order : List Numbered) (number : ℕ) (cells dates : List ℕ) (i : ℕ)
+    → AreRowsNumbered rows order → TakenTo net rows order number cells dates i → length order ≤ i
     → (x : ℕ → ℕ → Date) → IsLeastDating net x → AreDatesOfRows x rows dates
 all_taken net rows order number cells dates i ord h end x least = record {
   count = h.count;

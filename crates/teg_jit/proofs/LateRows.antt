@@ -39,7 +39,8 @@ bare_least net x h = record {
 }
 
 -- each least date is a number, and a small one
-pub date_is_small : (net : NetLists) (ranks : List ℕ) (x : ℕ → ℕ → Date) → IsNet net → IsRanking net ranks → IsLeastUnder net inputs_at_zero x → (t k : ℕ) → t < length net.transitions → 1 ≤ k → k ≤ most_numbers
+pub date_is_small : (net : NetLists) (ranks : List ℕ) (x : ℕ → ℕ → Date) → IsNet net → IsRanking net ranks
+    → IsLeastUnder net inputs_at_zero x → (t k : ℕ) → t < length net.transitions → 1 ≤ k → k ≤ most_numbers
     → (n : ℕ) × (n < most_cell_date) × (x t k ≡ on_date (pos n))
 date_is_small net ranks x ok r h t k l o few =
     let rr = ranks_of net ranks ok r in
@@ -64,7 +65,9 @@ number_is a b e = ap number_of e
 
 -- ---- the loop
 
-pub first_late_is : (x : ℕ → ℕ → Date) (rows : List DueRow) (i least : ℕ) (r : DueRow) → ((j : ℕ) (q : DueRow) → j < length rows → j < i → KeepsRow x (get_or rows j q)) → i < length rows → ((q : DueRow) → get_or rows i q ≡ r) → x r.transition.index r.number ≡ on_date (pos least) → r.date < least
+pub first_late_is : (x : ℕ → ℕ → Date) (rows : List DueRow) (i least : ℕ) (r : DueRow)
+    → ((j : ℕ) (q : DueRow) → j < length rows → j < i → KeepsRow x (get_or rows j q)) → i < length rows
+    → ((q : DueRow) → get_or rows i q ≡ r) → x r.transition.index r.number ≡ on_date (pos least) → r.date < least
     → IsFirstLateDue x rows r.transition r.number r.date least
 first_late_is x rows i least r kept l at is late = record {
   before = i;
@@ -101,7 +104,8 @@ cell_is c n e =
 
 -- without input lists the dates of rows are small numbers
 row_has_number :
-    (net : NetLists) (ranks : List ℕ) (x : ℕ → ℕ → Date) (rows : List DueRow) (dates : List ℕ) → IsNet net → IsRanking net ranks → IsLeastUnder net inputs_at_zero x → NameFirings net rows → All (λ r. r.number ≤ most_numbers) rows
+    (net : NetLists) (ranks : List ℕ) (x : ℕ → ℕ → Date) (rows : List DueRow) (dates : List ℕ) → IsNet net → IsRanking net ranks
+    → IsLeastUnder net inputs_at_zero x → NameFirings net rows → All (λ r. r.number ≤ most_numbers) rows
     → AreDatesOfRows x rows dates → (i : ℕ) (d : DueRow) → i < length rows
     → (get_or dates i 0 < most_cell_date) × (x (get_or rows i d).transition.index (get_or rows i d).number ≡ on_date (pos (get_or dates i 0)))
 row_has_number net ranks x rows dates ok r h names few all i d l =
@@ -111,7 +115,8 @@ row_has_number net ranks x rows dates ok r h names few all i d l =
     rw same (n.1, n.2)
 
 pub rows_have_numbers :
-    (net : NetLists) (ranks : List ℕ) (x : ℕ → ℕ → Date) (rows : List DueRow) (dates : List ℕ) → IsNet net → IsRanking net ranks → IsLeastUnder net inputs_at_zero x → NameFirings net rows → All (λ r. r.number ≤ most_numbers) rows
+    (net : NetLists) (ranks : List ℕ) (x : ℕ → ℕ → Date) (rows : List DueRow) (dates : List ℕ) → IsNet net → IsRanking net ranks
+    → IsLeastUnder net inputs_at_zero x → NameFirings net rows → All (λ r. r.number ≤ most_numbers) rows
     → AreDatesOfRows x rows dates → AreNumbersOfRows x rows dates
 rows_have_numbers net ranks x rows dates ok r h names few all = record {
   count = all.count;

@@ -43,7 +43,8 @@ due_one r t k d h =
     let i = row_of_due (r ∷ []) t k d h in
     rw (first_of_one r i.0 i.1) at (i.2 no_row)
 
-pub one_meets : (net : NetLists) (r : DueRow) (x : ℕ → ℕ → Date) → IsLeastUnder net inputs_at_zero x → x r.transition.index r.number ≡ on_date (pos r.date) → InputsMeet net (due_in (r ∷ [])) inputs_at_zero
+pub one_meets : (net : NetLists) (r : DueRow) (x : ℕ → ℕ → Date) → IsLeastUnder net inputs_at_zero x
+    → x r.transition.index r.number ≡ on_date (pos r.date) → InputsMeet net (due_in (r ∷ [])) inputs_at_zero
 one_meets net r x h is = (
   x,
   h,
@@ -72,7 +73,8 @@ pub record Reached (net : NetLists) (x : ℕ → ℕ → Date) (t k : ℕ) : Typ
   pub walk : Walks net from number steps t k
   pub is : x t k ≡ on_date (pos (start_date net from number + walk_time net steps))
 
-pub reached : (net : NetLists) (x : ℕ → ℕ → Date) (bound : ℕ) (rank : ℕ → ℕ) → HasEndsInRange net → AreRanks net.places bound rank → IsLeastUnder net inputs_at_zero x → (t k : ℕ) → t < length net.transitions → 1 ≤ k → Reached net x t k
+pub reached : (net : NetLists) (x : ℕ → ℕ → Date) (bound : ℕ) (rank : ℕ → ℕ) → HasEndsInRange net → AreRanks net.places bound rank
+    → IsLeastUnder net inputs_at_zero x → (t k : ℕ) → t < length net.transitions → 1 ≤ k → Reached net x t k
 reached net x bound rank ends rr h t k l o =
     let g = (least_is_walk net inputs_at_zero x bound rank ends rr h t k l o).reached in
     record {
@@ -86,14 +88,16 @@ reached net x bound rank ends rr h t k l o =
     }
 
 -- no latest date is before the start of its firing, where a feasible dating keeps the due dates
-pub starts_are_kept : (net : NetLists) (due : ℕ → ℕ → Option ℕ) (x : ℕ → ℕ → Date) (plan : PlanDates) → IsNet net → IsPlanFor net due plan → IsLeastUnder net inputs_at_zero x → KeepsDues net due x → StartsAreKept net plan
+pub starts_are_kept : (net : NetLists) (due : ℕ → ℕ → Option ℕ) (x : ℕ → ℕ → Date) (plan : PlanDates) → IsNet net
+    → IsPlanFor net due plan → IsLeastUnder net inputs_at_zero x → KeepsDues net due x → StartsAreKept net plan
 starts_are_kept net due x plan ok for h keeps t k l o =
     at_most_trans (on_date (pos (start_date net t k))) (x t k) (dates_of_plan plan t k)
     (not_before_ready net inputs_at_zero x h.feasible t k l o)
     (kept_below net due inputs_at_zero x (net_ends net ok) h.feasible keeps t k (dates_of_plan plan t k) l o (for.latest t k l o))
 
 -- the plan of the one row has a firing whose latest date is its start, where the walk of the least date begins
-pub start_is_there : (net : NetLists) (r : DueRow) (x : ℕ → ℕ → Date) (plan : PlanDates) → IsNet net → KeepsSizes plan → IsPlanFor net (due_in (r ∷ [])) plan → NamesFiring net r → IsLeastUnder net inputs_at_zero x
+pub start_is_there : (net : NetLists) (r : DueRow) (x : ℕ → ℕ → Date) (plan : PlanDates) → IsNet net → KeepsSizes plan
+    → IsPlanFor net (due_in (r ∷ [])) plan → NamesFiring net r → IsLeastUnder net inputs_at_zero x
     → x r.transition.index r.number ≡ on_date (pos r.date) → StartsAreKept net plan → HasDateAtStart net plan
 start_is_there net r x plan ok is for names h here kept =
     let ends = net_ends net ok in

@@ -40,7 +40,9 @@ scan net rows x ok live due h (suc j) i e kept =
     let r : DueRow = get_or rows i no_row in
     let l : i < length rows = omega arith in
     let own = due.each i no_row l in
-    let w : Reached net x r.transition.index r.number = reached net x (rank_bound net) (rank_in net) (net_ends net ok) (ranks_in net (net_ends net ok) live) h r.transition.index r.number own.in_range own.from_one in
+    let w : Reached net x r.transition.index r.number =
+    reached net x (rank_bound net) (rank_in net) (net_ends net ok)
+    (ranks_in net (net_ends net ok) live) h r.transition.index r.number own.in_range own.from_one in
     let date : ℕ = start_date net w.from w.number + walk_time net w.steps in
     ⊎_elim
     (λ (late : r.date < date).

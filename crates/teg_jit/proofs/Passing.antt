@@ -77,7 +77,8 @@ next_some net due order last k i d dates ok h l o m e =
       from_one = o;
       to_last = m;
       before = q.1;
-      above = λ x f keeps. rw there at (at_most_trans (x i k) (x i (k + 1)) (dates_of_latest n dates i (k + 1)) ((feasible_keeps net inputs_at_zero x f).next i k l o) (h.above x f keeps i (k + 1) l (omega arith)));
+      above = λ x f keeps. rw there at (at_most_trans (x i k) (x i (k + 1)) (dates_of_latest n dates i (k + 1))
+          ((feasible_keeps net inputs_at_zero x f).next i k l o) (h.above x f keeps i (k + 1) l (omega arith)));
       step = (there, not_due net due order last k i 0 0 dates i d h l o q.1);
       known = λ c f c_in none. absurd (omega arith);
       apart = λ c f c_in none. absurd (omega arith);
@@ -99,8 +100,11 @@ later_again h e l =
 -- ---- places
 
 -- one more place is done
-done_more : (net : NetLists) (due : ℕ → ℕ → Option ℕ) (order : List Depth) (last k i by : ℕ) (o : Depth) (dates : List LatestDate) → ArePassed net due order last k (length net.transitions) i by dates → by ≤ i + 1 → ((d : Depth) → get_or order i d ≡ o)
-    → IsAtMostDate (delayed (place_at net o.place).hold (dates_of_latest (length net.transitions) dates (place_at net o.place).from.index k)) (dates_of_latest (length net.transitions) dates (place_at net o.place).to.index (k + (place_at net o.place).tokens))
+done_more : (net : NetLists) (due : ℕ → ℕ → Option ℕ) (order : List Depth) (last k i by : ℕ) (o : Depth) (dates : List LatestDate)
+    → ArePassed net due order last k (length net.transitions) i by dates → by ≤ i + 1 → ((d : Depth) → get_or order i d ≡ o)
+    → IsAtMostDate (delayed (place_at net o.place).hold
+    (dates_of_latest (length net.transitions) dates (place_at net o.place).from.index k))
+    (dates_of_latest (length net.transitions) dates (place_at net o.place).to.index (k + (place_at net o.place).tokens))
     → ArePassed net due order last k (length net.transitions) (i + 1) (i + 1) dates
 done_more net due order last k i by o dates h few at below = record {
   full = h.full;
@@ -116,17 +120,21 @@ done_more net due order last k i by o dates h few at below = record {
 }
 
 -- nothing is known of the date at the end of the place
-pub place_none : (net : NetLists) (due : ℕ → ℕ → Option ℕ) (order : List Depth) (last k i : ℕ) (o : Depth) (dates : List LatestDate) → ArePassed net due order last k (length net.transitions) i i dates → ((d : Depth) → get_or order i d ≡ o)
+pub place_none : (net : NetLists) (due : ℕ → ℕ → Option ℕ) (order : List Depth) (last k i : ℕ) (o : Depth) (dates : List LatestDate)
+    → ArePassed net due order last k (length net.transitions) i i dates → ((d : Depth) → get_or order i d ≡ o)
     → None ≡ date_there (latest_in (length net.transitions) dates (place_at net o.place).to.index (k + (place_at net o.place).tokens))
     → ArePassed net due order last k (length net.transitions) (i + 1) (i + 1) dates
 place_none net due order last k i o dates h at e =
     let place : Place = place_at net o.place in
     done_more net due order last k i i o dates h (omega arith) at
-    (rw (there_none (latest_in (length net.transitions) dates place.to.index (k + place.tokens)) e) (never_last (delayed place.hold (dates_of_latest (length net.transitions) dates place.from.index k))))
+    (rw (there_none (latest_in (length net.transitions) dates place.to.index (k + place.tokens)) e)
+    (never_last (delayed place.hold (dates_of_latest (length net.transitions) dates place.from.index k))))
 
 -- a feasible dating leaves room for the hold
-pub has_room : (net : NetLists) (due : ℕ → ℕ → Option ℕ) (order : List Depth) (last k next first by e : ℕ) (p : PlaceId) (dates : List LatestDate) (x : ℕ → ℕ → Date) → IsNet net → IsFeasibleUnder net inputs_at_zero x → KeepsDues net due x
-    → ArePassed net due order last k next first by dates → p.index < length net.places → 1 ≤ k → Some e ≡ date_there (latest_in (length net.transitions) dates (place_at net p).to.index (k + (place_at net p).tokens))
+pub has_room : (net : NetLists) (due : ℕ → ℕ → Option ℕ) (order : List Depth) (last k next first by e : ℕ) (p : PlaceId)
+    (dates : List LatestDate) (x : ℕ → ℕ → Date) → IsNet net → IsFeasibleUnder net inputs_at_zero x → KeepsDues net due x
+    → ArePassed net due order last k next first by dates → p.index < length net.places → 1 ≤ k
+    → Some e ≡ date_there (latest_in (length net.transitions) dates (place_at net p).to.index (k + (place_at net p).tokens))
     → ((place_at net p).hold ≤ e) × IsAtMostDate (x (place_at net p).from.index k) (on_date (pos (e - (place_at net p).hold)))
 has_room net due order last k next first by e p dates x ok f keeps h in' o some =
     let n : ℕ = length net.transitions in
@@ -145,7 +153,8 @@ has_room net due order last k next first by e p dates x ok f keeps h in' o some 
     (fits, delayed_back place.hold (x place.from.index k) (on_date (pos (e - place.hold))) (rw back below))
 
 -- a place passed before has its end where none passed from here on begins, if it has no tokens
-ends_apart : (net : NetLists) (ranks : List ℕ) (order : List Depth) (c i : ℕ) (e : Depth) (q : PlaceId) → IsNet net → IsRanking net ranks → IsBackOrder net ranks order → c ≤ i → i < length order → ((d : Depth) → (get_or order i d).place ≡ q)
+ends_apart : (net : NetLists) (ranks : List ℕ) (order : List Depth) (c i : ℕ) (e : Depth) (q : PlaceId) → IsNet net
+    → IsRanking net ranks → IsBackOrder net ranks order → c ≤ i → i < length order → ((d : Depth) → (get_or order i d).place ≡ q)
     → (place_at net (get_or order c e).place).tokens ≡ 0 → (place_at net (get_or order c e).place).to.index ≡ (place_at net q).from.index → ⊥
 ends_apart net ranks order c i e q ok r ord l m is none same =
     let known : IsDepth net ranks (get_or order c e) = ord.known c e (omega arith) in
@@ -162,12 +171,15 @@ ends_apart net ranks order c i e q ok r ord l m is none same =
 
 -- the date at the beginning of the place is lowered to what the hold leaves of that at its end
 pub place_some :
-    (net : NetLists) (due : ℕ → ℕ → Option ℕ) (ranks : List ℕ) (order : List Depth) (last k i e : ℕ) (o : Depth) (dates : List LatestDate) → IsNet net → IsRanking net ranks → IsBackOrder net ranks order
+    (net : NetLists) (due : ℕ → ℕ → Option ℕ) (ranks : List ℕ) (order : List Depth) (last k i e : ℕ) (o : Depth)
+    (dates : List LatestDate) → IsNet net → IsRanking net ranks → IsBackOrder net ranks order
     → ((x : ℕ → ℕ → Date) → IsFeasibleUnder net inputs_at_zero x → KeepsDues net due x → IsAtMostDate (x (place_at net o.place).from.index k) (on_date (pos (e - (place_at net o.place).hold))))
     → (place_at net o.place).hold ≤ e → ArePassed net due order last k (length net.transitions) i i dates → i < length order → ((d : Depth) → get_or order i d ≡ o) → 1 ≤ k → k ≤ last
     → Some e ≡ date_there (latest_in (length net.transitions) dates (place_at net o.place).to.index (k + (place_at net o.place).tokens))
     → ArePassed net due order last k (length net.transitions) (i + 1) (i + 1)
-    (set dates (firing_position (length net.transitions) (place_at net o.place).from.index k) (lowered (get_or dates (firing_position (length net.transitions) (place_at net o.place).from.index k) Free) (e - (place_at net o.place).hold) (By o.place)))
+    (set dates (firing_position (length net.transitions) (place_at net o.place).from.index k)
+    (lowered (get_or dates (firing_position (length net.transitions) (place_at net o.place).from.index k) Free)
+    (e - (place_at net o.place).hold) (By o.place)))
 place_some net due ranks order last k i e o dates ok r ord room fits h l at one m some =
     let n : ℕ = length net.transitions in
     let place : Place = place_at net o.place in

@@ -37,5 +37,6 @@ past_last w last dates t k full l = get_or_past dates (firing_position w t k) Fr
 pub set_here : (w last : ℕ) (dates : List LatestDate) (t k : ℕ) (b : LatestDate) → length dates ≡ last * w → t < w → 1 ≤ k → k ≤ last → latest_in w (set dates (firing_position w t k) b) t k ≡ b
 set_here w last dates t k b full l o m = get_or-set_same dates (firing_position w t k) b Free (omega (arith, full, cell_in w t k last l o m))
 
-pub set_other : (w : ℕ) (dates : List LatestDate) (t k v s : ℕ) (b : LatestDate) → t < w → v < w → 1 ≤ k → 1 ≤ s → (v ≡ t → s ≡ k → ⊥) → latest_in w (set dates (firing_position w t k) b) v s ≡ latest_in w dates v s
+pub set_other : (w : ℕ) (dates : List LatestDate) (t k v s : ℕ) (b : LatestDate) → t < w → v < w → 1 ≤ k → 1 ≤ s → (v ≡ t → s ≡ k → ⊥)
+    → latest_in w (set dates (firing_position w t k) b) v s ≡ latest_in w dates v s
 set_other w dates t k v s b l m o p apart = get_or-set_other dates (firing_position w t k) (firing_position w v s) b Free (cells_apart w v t s k m l p o apart)

@@ -72,7 +72,10 @@ nearer last bound k j r q l m n o p =
 -- a date is attained by its step
 by_step :
     (net : NetLists) (due : ℕ → ℕ → Option ℕ) (last bound : ℕ) (rank : ℕ → ℕ) (dates : List LatestDate) → IsNet net → AreRanks net.places bound rank
-    → (n t k d : ℕ) → ((v s e : ℕ) → distance last bound rank v s < n → v < length net.transitions → 1 ≤ s → dates_of_latest (length net.transitions) dates v s ≡ on_date (pos e) → IsDateToDue net due v s (on_date (pos e))) → distance last bound rank t k < suc n → t < length net.transitions → 1 ≤ k → k ≤ last → (o : Onward) → HasOnward net due (dates_of_latest (length net.transitions) dates) t k (At d o) → IsDateToDue net due t k (on_date (pos d))
+    → (n t k d : ℕ) → ((v s e : ℕ) → distance last bound rank v s < n → v < length net.transitions → 1 ≤ s
+    → dates_of_latest (length net.transitions) dates v s ≡ on_date (pos e) → IsDateToDue net due v s (on_date (pos e)))
+    → distance last bound rank t k < suc n → t < length net.transitions → 1 ≤ k → k ≤ last → (o : Onward)
+    → HasOnward net due (dates_of_latest (length net.transitions) dates) t k (At d o) → IsDateToDue net due t k (on_date (pos d))
 by_step net due last bound rank dates ok rr n t k d rec s l one few Due h = due_here net due t k d h
 by_step net due last bound rank dates ok rr n t k d rec s l one few Next h =
     let down = nearer last bound k (k + 1) (rank t) (rank t) few (rr.below t) (rr.below t) (omega arith) (λ e. absurd (omega arith)) in
@@ -89,8 +92,10 @@ by_step net due last bound rank dates ok rr n t k d rec s l one few (By p) h =
 
 -- by induction on that: a date that is there is attained by a walk
 attained :
-    (net : NetLists) (due : ℕ → ℕ → Option ℕ) (last bound : ℕ) (rank : ℕ → ℕ) (dates : List LatestDate) → IsNet net → AreRanks net.places bound rank → length dates ≡ last * length net.transitions → HaveOnward net due dates
-    → (n t k d : ℕ) → distance last bound rank t k < n → t < length net.transitions → 1 ≤ k → dates_of_latest (length net.transitions) dates t k ≡ on_date (pos d) → IsDateToDue net due t k (on_date (pos d))
+    (net : NetLists) (due : ℕ → ℕ → Option ℕ) (last bound : ℕ) (rank : ℕ → ℕ) (dates : List LatestDate) → IsNet net
+    → AreRanks net.places bound rank → length dates ≡ last * length net.transitions → HaveOnward net due dates
+    → (n t k d : ℕ) → distance last bound rank t k < n → t < length net.transitions → 1 ≤ k
+    → dates_of_latest (length net.transitions) dates t k ≡ on_date (pos d) → IsDateToDue net due t k (on_date (pos d))
 attained net due last bound rank dates ok rr full on zero t k d s l o is = absurd (omega arith)
 attained net due last bound rank dates ok rr full on (suc n) t k d s l o is =
     let w : ℕ = length net.transitions in
@@ -105,7 +110,8 @@ attained net due last bound rank dates ok rr full on (suc n) t k d s l o is =
 
 -- settled dates are the latest dates
 pub passed_are_latest :
-    (net : NetLists) (due : ℕ → ℕ → Option ℕ) (last bound : ℕ) (rank : ℕ → ℕ) (dates : List LatestDate) → IsNet net → AreRanks net.places bound rank → ArePassedAbove net due last 0 dates → AreLatestDates net due (dates_of_latest (length net.transitions) dates)
+    (net : NetLists) (due : ℕ → ℕ → Option ℕ) (last bound : ℕ) (rank : ℕ → ℕ) (dates : List LatestDate) → IsNet net
+    → AreRanks net.places bound rank → ArePassedAbove net due last 0 dates → AreLatestDates net due (dates_of_latest (length net.transitions) dates)
 passed_are_latest net due last bound rank dates ok rr settled t k l o =
     let w : ℕ = length net.transitions in
     let y : ℕ → ℕ → Date = dates_of_latest w dates in
@@ -133,7 +139,8 @@ ranks_of net ranks ok r = record {
 }
 
 -- settled dates are a plan
-pub plan_is : (net : NetLists) (due : ℕ → ℕ → Option ℕ) (ranks : List ℕ) (last : ℕ) (dates : List LatestDate) (plan : PlanDates) → IsNet net → IsLive net → IsRanking net ranks → ArePassedAbove net due last 0 dates
+pub plan_is : (net : NetLists) (due : ℕ → ℕ → Option ℕ) (ranks : List ℕ) (last : ℕ) (dates : List LatestDate) (plan : PlanDates)
+    → IsNet net → IsLive net → IsRanking net ranks → ArePassedAbove net due last 0 dates
     → plan ≡ record { width = length net.transitions; numbers = last; dates = dates } → IsPlanFor net due plan
 plan_is net due ranks last dates plan ok live r settled is =
     let all : IsPlanFor net due (record { width = length net.transitions; numbers = last; dates = dates }) =

@@ -76,7 +76,8 @@ step_is a b e = ap (λ o. unwrap_or o a) e
 none_is_no_step : (a : Step) → None ≡ Some a → ⊥
 none_is_no_step a e = subst IsNoStep e tt
 
-pub next_step : (net : NetLists) (plan : PlanDates) (due : ℕ → ℕ → Option ℕ) (t k : ℕ) (steps : List Step) (at count : ℕ) → IsNet net → KeepsSizes plan → IsPlanFor net due plan → WalkedTo net plan t k steps at count
+pub next_step : (net : NetLists) (plan : PlanDates) (due : ℕ → ℕ → Option ℕ) (t k : ℕ) (steps : List Step) (at count : ℕ) → IsNet net
+    → KeepsSizes plan → IsPlanFor net due plan → WalkedTo net plan t k steps at count
     → (d : ℕ) → latest_at plan at count ≡ At d Next → IsStepTo net plan t k steps to_next at count at (count + 1)
 next_step net plan due t k steps at count ok is for h d here =
     let rr = ranks_in net (net_ends net ok) for.live in
@@ -101,7 +102,8 @@ next_step net plan due t k steps at count ok is for h d here =
       smaller = nearer plan.numbers (rank_bound net) count (count + 1) (rank_in net at) (rank_in net at) h.to_last (rr.below at) (rr.below at) (omega arith) (λ e. absurd (omega arith));
     }
 
-pub place_step : (net : NetLists) (plan : PlanDates) (due : ℕ → ℕ → Option ℕ) (t k : ℕ) (steps : List Step) (at count : ℕ) → IsNet net → KeepsSizes plan → IsPlanFor net due plan → WalkedTo net plan t k steps at count
+pub place_step : (net : NetLists) (plan : PlanDates) (due : ℕ → ℕ → Option ℕ) (t k : ℕ) (steps : List Step) (at count : ℕ) → IsNet net
+    → KeepsSizes plan → IsPlanFor net due plan → WalkedTo net plan t k steps at count
     → (d : ℕ) (p : PlaceId) → latest_at plan at count ≡ At d (By p) → IsStepTo net plan t k steps (by_place p) at count (place_at net p).to.index (count + (place_at net p).tokens)
 place_step net plan due t k steps at count ok is for h d p here =
     let rr = ranks_in net (net_ends net ok) for.live in
@@ -127,7 +129,8 @@ place_step net plan due t k steps at count ok is for h d p here =
         time = ap (λ n. delayed n (dates_of_plan plan t k)) time ∙ (delayed_twice (walk_time net steps) place.hold (dates_of_plan plan t k) ∙ (ap (delayed place.hold) (h.time ∙ same) ∙ sym sum));
         follows = λ rest f. subst (λ z. FollowsPlan net plan t k z) (sym (append_assoc steps last rest)) (h.follows (by_place p ∷ rest) (d, here, f));
       };
-      smaller = nearer plan.numbers (rank_bound net) count (count + place.tokens) (rank_in net at) (rank_in net place.to.index) h.to_last (rr.below at) (rr.below place.to.index) (omega arith) (λ e. rw from at (rises (omega arith)));
+      smaller = nearer plan.numbers (rank_bound net) count (count + place.tokens) (rank_in net at)
+          (rank_in net place.to.index) h.to_last (rr.below at) (rr.below place.to.index) (omega arith) (λ e. rw from at (rises (omega arith)));
     }
 
 abbrev place_or : PlaceId → Step → PlaceId
@@ -160,7 +163,8 @@ step_next Free h = absurd (none_is_no_step to_next (sym h))
 step_next (At d o) h = (d, ap (At d) (onward_next o h))
 
 -- the place of a step is one of the net
-pub place_in : (net : NetLists) (plan : PlanDates) (due : ℕ → ℕ → Option ℕ) (at count d : ℕ) (p : PlaceId) → IsPlanFor net due plan → at < plan.width → 1 ≤ count → latest_at plan at count ≡ At d (By p) → p.index < length net.places
+pub place_in : (net : NetLists) (plan : PlanDates) (due : ℕ → ℕ → Option ℕ) (at count d : ℕ) (p : PlaceId) → IsPlanFor net due plan
+    → at < plan.width → 1 ≤ count → latest_at plan at count ≡ At d (By p) → p.index < length net.places
 place_in net plan due at count d p for l o here =
     let w = for.width in
     let onward : HasOnward net due (dates_of_plan plan) at count (At d (By p)) = rw here at (rw (← w) at (for.onward at count (rw w at l) o)) in
@@ -191,7 +195,8 @@ numbers_to net (to_next ∷ steps) a s b k h =
     let rest = numbers_to net steps a (s + 1) b k h in
     (more_below s k (numbers_of net (s + 1) steps) (omega (arith, rest.1)) rest.0, omega (arith, rest.1))
 
-pub walk_is_tight : (net : NetLists) (plan : PlanDates) (due : ℕ → ℕ → Option ℕ) (t k : ℕ) (at count : ℕ) (w : Walk) → IsNet net → KeepsSizes plan → IsPlanFor net due plan → WalkedTo net plan t k w.steps.items at count
+pub walk_is_tight : (net : NetLists) (plan : PlanDates) (due : ℕ → ℕ → Option ℕ) (t k : ℕ) (at count : ℕ) (w : Walk) → IsNet net
+    → KeepsSizes plan → IsPlanFor net due plan → WalkedTo net plan t k w.steps.items at count
     → t < plan.width → 1 ≤ k → IsFirstStep (latest_at plan at count) None → w.start.index ≡ t → w.number ≡ k → IsTightWalk net due t k (dates_of_plan plan t k) w
 walk_is_tight net plan due t k at count w ok is for h l o last start number =
     let wide = for.width in
@@ -214,7 +219,8 @@ walk_is_tight net plan due t k at count w ok is for h l o last start number =
     }
 
 -- the walk that the steps give
-pub follows_to_end : (net : NetLists) (plan : PlanDates) (t k : ℕ) (steps : List Step) (at count : ℕ) → WalkedTo net plan t k steps at count → IsFirstStep (latest_at plan at count) None → FollowsPlan net plan t k steps
+pub follows_to_end : (net : NetLists) (plan : PlanDates) (t k : ℕ) (steps : List Step) (at count : ℕ)
+    → WalkedTo net plan t k steps at count → IsFirstStep (latest_at plan at count) None → FollowsPlan net plan t k steps
 follows_to_end net plan t k steps at count h last =
     let there = number_there (latest_at plan at count) h.date h.there in
     let is_due : there.0 ≡ Due = no_step there.0 (rw there.1 at last) in
@@ -222,15 +228,19 @@ follows_to_end net plan t k steps at count h last =
     subst (λ z. FollowsPlan net plan t k z) (append-nil steps) (h.follows [] (h.date, here))
 
 abbrev LeadsOn : NetLists → PlanDates → (ℕ → ℕ → Option ℕ) → ℕ → ℕ → Type 0
-LeadsOn net plan due t k = (steps : List Step) × FollowsPlan net plan t k steps × (b : ℕ) × (n : ℕ) × (d : ℕ) × Walks net t k steps b n × (due b n ≡ Some d) × (delayed (walk_time net steps) (dates_of_plan plan t k) ≡ on_date (pos d))
+LeadsOn net plan due t k = (steps : List Step) × FollowsPlan net plan t k steps × (b : ℕ) × (n : ℕ) × (d : ℕ) × Walks net t k steps b n
+    × (due b n ≡ Some d) × (delayed (walk_time net steps) (dates_of_plan plan t k) ≡ on_date (pos d))
 
-lead : (net : NetLists) (plan : PlanDates) (due : ℕ → ℕ → Option ℕ) → IsNet net → KeepsSizes plan → IsPlanFor net due plan → (fuel t k : ℕ) (steps : List Step) (at count : ℕ) → WalkedTo net plan t k steps at count
+lead : (net : NetLists) (plan : PlanDates) (due : ℕ → ℕ → Option ℕ) → IsNet net → KeepsSizes plan → IsPlanFor net due plan
+    → (fuel t k : ℕ) (steps : List Step) (at count : ℕ) → WalkedTo net plan t k steps at count
     → distance plan.numbers (rank_bound net) (rank_in net) at count < fuel → LeadsOn net plan due t k
 lead net plan due ok is for zero t k steps at count h l = absurd (omega (arith, l))
 lead net plan due ok is for (suc fuel) t k steps at count h l =
     let there = number_there (latest_at plan at count) h.date h.there in
     by_onward (λ s a c w m. lead net plan due ok is for fuel t k s a c w m) there.0 there.1 where
-      by_onward : ((s : List Step) (a c : ℕ) → WalkedTo net plan t k s a c → distance plan.numbers (rank_bound net) (rank_in net) a c < fuel → LeadsOn net plan due t k) → (o : Onward) → latest_at plan at count ≡ At h.date o → LeadsOn net plan due t k
+      by_onward : ((s : List Step) (a c : ℕ) → WalkedTo net plan t k s a c
+          → distance plan.numbers (rank_bound net) (rank_in net) a c < fuel → LeadsOn net plan due t k) → (o : Onward)
+          → latest_at plan at count ≡ At h.date o → LeadsOn net plan due t k
       by_onward again Due e =
           let wide = for.width in
           let onward : HasOnward net due (dates_of_plan plan) at count (At h.date Due) = rw e at (rw (← wide) at (for.onward at count (rw wide at h.at_in) h.from_one)) in

@@ -33,16 +33,19 @@ IsFreeOrDue date = (d : ℕ) (onward : Onward) → date ≡ At d onward → onwa
 pub record ArePassed (net : NetLists) (due : ℕ → ℕ → Option ℕ) (order : List Depth) (last k next first by : ℕ) (dates : List LatestDate) : Type 0 where
   pub full : length dates ≡ last * length net.transitions
   pub dues : KeepsDues net due (dates_of_latest (length net.transitions) dates)
-  pub above : (x : ℕ → ℕ → Date) → IsFeasibleUnder net inputs_at_zero x → KeepsDues net due x → (t s : ℕ) → t < length net.transitions → 1 ≤ s → IsAtMostDate (x t s) (dates_of_latest (length net.transitions) dates t s)
+  pub above : (x : ℕ → ℕ → Date) → IsFeasibleUnder net inputs_at_zero x → KeepsDues net due x → (t s : ℕ) → t < length net.transitions
+      → 1 ≤ s → IsAtMostDate (x t s) (dates_of_latest (length net.transitions) dates t s)
   pub places : (p : PlaceId) (s : ℕ) → p.index < length net.places → k < s
-      → IsAtMostDate (delayed (place_at net p).hold (dates_of_latest (length net.transitions) dates (place_at net p).from.index s)) (dates_of_latest (length net.transitions) dates (place_at net p).to.index (s + (place_at net p).tokens))
+      → IsAtMostDate (delayed (place_at net p).hold (dates_of_latest (length net.transitions) dates (place_at net p).from.index s))
+      (dates_of_latest (length net.transitions) dates (place_at net p).to.index (s + (place_at net p).tokens))
   pub climbs : (t s : ℕ) → t < length net.transitions → k < s → IsAtMostDate (dates_of_latest (length net.transitions) dates t s) (dates_of_latest (length net.transitions) dates t (s + 1))
   pub nexts : (t : ℕ) → t < length net.transitions → t < next → IsAtMostDate (dates_of_latest (length net.transitions) dates t k) (dates_of_latest (length net.transitions) dates t (k + 1))
   pub done : (c : ℕ) (d : Depth) → c < length order → c < first
       → IsAtMostDate (delayed (place_at net (slice_index_or order c d).place).hold (dates_of_latest (length net.transitions) dates (place_at net (slice_index_or order c d).place).from.index k))
       (dates_of_latest (length net.transitions) dates (place_at net (slice_index_or order c d).place).to.index (k + (place_at net (slice_index_or order c d).place).tokens))
   pub onward : HaveOnward net due dates
-  pub steps : (t d : ℕ) (p : PlaceId) → t < length net.transitions → 1 ≤ k → latest_in (length net.transitions) dates t k ≡ At d (By p) → (c : ℕ) × (c < by) × (c < length order) × ((o : Depth) → (slice_index_or order c o).place ≡ p)
+  pub steps : (t d : ℕ) (p : PlaceId) → t < length net.transitions → 1 ≤ k → latest_in (length net.transitions) dates t k ≡ At d (By p)
+      → (c : ℕ) × (c < by) × (c < length order) × ((o : Depth) → (slice_index_or order c o).place ≡ p)
   pub untouched : (t s : ℕ) → t < length net.transitions → 1 ≤ s → s < k → IsFreeOrDue (latest_in (length net.transitions) dates t s)
 
 -- what holds of the dates of numbers 1 to last while those of number k are settled and no place of the order is passed

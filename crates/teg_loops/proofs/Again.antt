@@ -1,5 +1,6 @@
 -- A long path meets one transition twice with a multiple of m tokens between.
-use Rattle.std.proofs.Common.{ℕ, zero, suc, ◌+◌, ◌-◌, ◌*◌, ◌%◌, ◌<◌, ◌≤◌, ◌≡◌, ◌≢◌, List, [], ◌∷◌, ◌++◌, length, get_or, take, drop, refl, sym, ap, subst, ◌∙◌, arith, ⊎_elim, ◌⊎◌, cond, ltb, Bool, true, false}
+use Rattle.std.proofs.Common.{ℕ, zero, suc, ◌+◌, ◌-◌, ◌*◌, ◌%◌, ◌<◌, ◌≤◌, ◌≡◌, ◌≢◌, List, [], ◌∷◌, ◌++◌, length, get_or, take, drop, refl, sym, ap}
+use Rattle.std.proofs.Common.{subst, ◌∙◌, arith, ⊎_elim, ◌⊎◌, cond, ltb, Bool, true, false}
 use Rattle.std.specs.Prelude.{All, sum_by}
 use Rattle.std.proofs.lemmas.Bool.{cases_lt}
 use Rattle.std.proofs.lemmas.Bool.Decides.{nat_tests}
@@ -42,7 +43,8 @@ round_between net a b m most ps i d h pos_m some l low same alike =
     let rest : IsPathBetween net (meets net b ps i) (drop i ps) b = from_met net ps a b i h (omega arith) in
     let long : length (drop i ps) ≡ length ps - i = length-drop i ps in
     let there : meets net b (drop i ps) d ≡ meets net b ps i = met_drop net b ps i d (omega arith) ∙ sym same in
-    let sums : tokens_to net ps (i + d) ≡ tokens_to net ps i + tokens_of net (take d (drop i ps)) = ap (λ (z : List PlaceId). tokens_of net z) (take_more ps i d (omega arith)) ∙ sum_by-append f (take i ps) (take d (drop i ps)) in
+    let sums : tokens_to net ps (i + d) ≡ tokens_to net ps i + tokens_of net (take d (drop i ps)) =
+    ap (λ (z : List PlaceId). tokens_of net z) (take_more ps i d (omega arith)) ∙ sum_by-append f (take i ps) (take d (drop i ps)) in
     let multiple : (q : ℕ) × (tokens_of net (take d (drop i ps)) ≡ q * m) = difference (tokens_to net ps i) (tokens_of net (take d (drop i ps))) m pos_m (alike ∙ ap (λ (z : ℕ). z % m) sums) in
     let one = length-take-le i ps (omega arith) in
     let two = length-take-le d (drop i ps) (omega arith) in
@@ -97,7 +99,8 @@ pub round_in : LongPathsComeRound
 round_in net n m ps a b e lb h pos_m l = round_by_codes net a b m (n * m) ps (λ i. meets net b ps i * m + tokens_to net ps i % m) h pos_m l
     (record {
       low = λ i w. low_code n m (meets net b ps i) (tokens_to net ps i % m) (met_below net n ps a b i e lb h (omega arith)) (mod_below (tokens_to net ps i) m pos_m);
-      same = λ i j w v q. one_code m (meets net b ps i) (tokens_to net ps i % m) (meets net b ps j) (tokens_to net ps j % m) (mod_below (tokens_to net ps i) m pos_m) (mod_below (tokens_to net ps j) m pos_m) q;
+      same = λ i j w v q. one_code m (meets net b ps i) (tokens_to net ps i % m) (meets net b ps j) (tokens_to net ps j % m)
+          (mod_below (tokens_to net ps i) m pos_m) (mod_below (tokens_to net ps j) m pos_m) q;
     })
 
 -- the numbers but c, counted on
@@ -119,9 +122,12 @@ skip_one c s t ns nt e = by_test (ltb c s) refl (ltb c t) refl where
   under x ne h = ⊎_elim (λ (l : x < c). l) (λ (l : c ≤ x). absurd (ne (let k : ltb c x ≡ false = h in grind (arith, nat_tests)))) (cases_lt x c)
 
   by_test : (p : Bool) → ltb c s ≡ p → (q : Bool) → ltb c t ≡ q → s ≡ t
-  by_test true hp true hq = let a = over s hp in let b = over t hq in let f : s - 1 ≡ t - 1 = (let u : skip c s ≡ s - 1 = rw hp refl in let v : skip c t ≡ t - 1 = rw hq refl in sym u ∙ e ∙ v) in omega arith
-  by_test true hp false hq = let a = over s hp in let b = under t nt hq in let f : s - 1 ≡ t - 0 = (let u : skip c s ≡ s - 1 = rw hp refl in let v : skip c t ≡ t - 0 = rw hq refl in sym u ∙ e ∙ v) in omega arith
-  by_test false hp true hq = let a = under s ns hp in let b = over t hq in let f : s - 0 ≡ t - 1 = (let u : skip c s ≡ s - 0 = rw hp refl in let v : skip c t ≡ t - 1 = rw hq refl in sym u ∙ e ∙ v) in omega arith
+  by_test true hp true hq = let a = over s hp in let b = over t hq in let f : s - 1 ≡ t - 1 =
+      (let u : skip c s ≡ s - 1 = rw hp refl in let v : skip c t ≡ t - 1 = rw hq refl in sym u ∙ e ∙ v) in omega arith
+  by_test true hp false hq = let a = over s hp in let b = under t nt hq in let f : s - 1 ≡ t - 0 =
+      (let u : skip c s ≡ s - 1 = rw hp refl in let v : skip c t ≡ t - 0 = rw hq refl in sym u ∙ e ∙ v) in omega arith
+  by_test false hp true hq = let a = under s ns hp in let b = over t hq in let f : s - 0 ≡ t - 1 =
+      (let u : skip c s ≡ s - 0 = rw hp refl in let v : skip c t ≡ t - 1 = rw hq refl in sym u ∙ e ∙ v) in omega arith
   by_test false hp false hq = let f : s - 0 ≡ t - 0 = (let u : skip c s ≡ s - 0 = rw hp refl in let v : skip c t ≡ t - 0 = rw hq refl in sym u ∙ e ∙ v) in omega arith
 
 -- a path of more than (n - 1) m places, none of which begins at c
@@ -131,10 +137,12 @@ round_off net n m c ps a b e lb lc h pos_m l off =
     let never : (i : ℕ) → i ≤ (n - 1) * m → meets net b ps i ≢ c = λ i w z. off i no_id (omega arith) (sym (met_at net b ps i no_id (omega arith)) ∙ z) in
     round_by_codes net a b m ((n - 1) * m) ps (λ i. skip c (meets net b ps i) * m + tokens_to net ps i % m) h pos_m (omega arith)
     (record {
-      low = λ i w. low_code (n - 1) m (skip c (meets net b ps i)) (tokens_to net ps i % m) (skip_low n c (meets net b ps i) lc (met_below net n ps a b i e lb h (omega arith)) (never i w)) (mod_below (tokens_to net ps i) m pos_m);
+      low = λ i w. low_code (n - 1) m (skip c (meets net b ps i)) (tokens_to net ps i % m)
+          (skip_low n c (meets net b ps i) lc (met_below net n ps a b i e lb h (omega arith)) (never i w)) (mod_below (tokens_to net ps i) m pos_m);
       same = λ i j w v q.
           let both : (skip c (meets net b ps i) ≡ skip c (meets net b ps j)) × (tokens_to net ps i % m ≡ tokens_to net ps j % m) =
-          one_code m (skip c (meets net b ps i)) (tokens_to net ps i % m) (skip c (meets net b ps j)) (tokens_to net ps j % m) (mod_below (tokens_to net ps i) m pos_m) (mod_below (tokens_to net ps j) m pos_m) q in
+          one_code m (skip c (meets net b ps i)) (tokens_to net ps i % m) (skip c (meets net b ps j)) (tokens_to net ps j % m)
+          (mod_below (tokens_to net ps i) m pos_m) (mod_below (tokens_to net ps j) m pos_m) q in
           (skip_one c (meets net b ps i) (meets net b ps j) (never i w) (never j v) both.0, both.1);
     })
 

@@ -16,7 +16,8 @@ more_rounds : (net : NetLists) (b : ℕ) (c : List PlaceId) (cs : List (List Pla
 more_rounds net b c cs h all zero d l = h
 more_rounds net b c cs h all (suc i) d l = all i d (omega arith)
 
-split_on : (net : NetLists) (a b fuel : ℕ) (ps : List PlaceId) → length ps < fuel → IsPathBetween net a ps b → (straight : List PlaceId) × (circuits : List (List PlaceId)) × IsSplit net a ps b straight circuits
+split_on : (net : NetLists) (a b fuel : ℕ) (ps : List PlaceId) → length ps < fuel → IsPathBetween net a ps b → (straight : List PlaceId)
+    × (circuits : List (List PlaceId)) × IsSplit net a ps b straight circuits
 split_on net a b zero ps l h = absurd (omega arith)
 split_on net a b (suc fuel) ps l h = ⊎_elim
     (λ (loop : HasLoop net a b ps).
@@ -39,7 +40,8 @@ pub split : PathsSplit
 split net ps a b h = split_on net a b (suc (length ps)) ps (omega arith) h
 
 -- what circuits gain in all
-rounds_gain : (net : NetLists) (gain cost : PlaceId → ℕ) (b : ℕ) → NoCircuitGains net gain cost → (cs : List (List PlaceId)) → All (IsCircuitTowards net b) cs → sum_by (λ c. sum_by gain c) cs ≤ sum_by (λ c. sum_by cost c) cs
+rounds_gain : (net : NetLists) (gain cost : PlaceId → ℕ) (b : ℕ) → NoCircuitGains net gain cost → (cs : List (List PlaceId))
+    → All (IsCircuitTowards net b) cs → sum_by (λ c. sum_by gain c) cs ≤ sum_by (λ c. sum_by cost c) cs
 rounds_gain net gain cost b none [] all = omega arith
 rounds_gain net gain cost b none (c ∷ cs) all =
     let here = none c (all 0 c (omega arith)).circuit in

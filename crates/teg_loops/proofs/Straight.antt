@@ -115,7 +115,8 @@ apart_below net n ps a b q e lb h any =
 pub apart_short : (net : NetLists) (n : ℕ) (ps : List PlaceId) (a b : ℕ) → EndsBelow net n → b < n → IsPathBetween net a ps b → AreApart (met net b ps) → length ps < n
 apart_short net n ps a b e lb h apart =
     let wide = met_length net b ps in
-    let few = length-le_from_distinct_below (met net b ps) n (IsDistinct-from_AllPairs Decides-eqb (met net b ps) apart) (λ q t. apart_below net n ps a b q e lb h (Any-from_list_any (eqb q) (met net b ps) t)) in
+    let few = length-le_from_distinct_below (met net b ps) n (IsDistinct-from_AllPairs Decides-eqb (met net b ps) apart)
+    (λ q t. apart_below net n ps a b q e lb h (Any-from_list_any (eqb q) (met net b ps) t)) in
     omega (arith, few)
 
 -- a path of at least n places, over n transitions, has a loop

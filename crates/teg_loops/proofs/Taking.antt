@@ -59,7 +59,8 @@ pub shortened : (net : NetLists) (n a b : ℕ) → EndsBelow net n → b < n →
 shortened net n a b e lb ps h = by_loops net n a b (λ _. (qs : List PlaceId) × IsPathBetween net a qs b × (length qs < n)) e lb (λ qs g l. (qs, g, l)) (λ qs g loop old. old) ps h
 
 -- each of the sums is at most so many times the length
-pub sum_most : (f : PlaceId → ℕ) (m : ℕ) (net : NetLists) → ((id : PlaceId) → id.index < length net.places → f id ≤ m) → (ps : List PlaceId) (a b : ℕ) → IsPathBetween net a ps b → sum_by f ps ≤ length ps * m
+pub sum_most : (f : PlaceId → ℕ) (m : ℕ) (net : NetLists) → ((id : PlaceId) → id.index < length net.places → f id ≤ m)
+    → (ps : List PlaceId) (a b : ℕ) → IsPathBetween net a ps b → sum_by f ps ≤ length ps * m
 sum_most f m net most [] a b h = omega arith
 sum_most f m net most (p ∷ ps) a b h =
     let here = most p h.0 in

@@ -76,7 +76,8 @@ least_is_walk net u x bound r ends rr h t k l o =
     let time = walk_time net w.steps in
     let up : IsAtMostDate w.start start = w.starts.least start (start_not_before net u w.from w.number) in
     let is : x t k ≡ delayed time w.start = sym (least_is_over net u x bound r rr h t k l o) ∙ w.is in
-    let low : IsAtMostDate (x t k) (delayed time start) = at_most_trans (x t k) (delayed time w.start) (delayed time start) (at_most_is (x t k) (delayed time w.start) is) (delayed_rises time w.start start up) in
+    let low : IsAtMostDate (x t k) (delayed time start) =
+    at_most_trans (x t k) (delayed time w.start) (delayed time start) (at_most_is (x t k) (delayed time w.start) is) (delayed_rises time w.start start up) in
     let high : IsAtMostDate (delayed time start) (x t k) =
     at_most_trans (delayed time start) (delayed time (x w.from w.number)) (x t k)
     (delayed_rises time start (x w.from w.number) (start_below net u x h.feasible w.from w.number w.from_in w.from_one))

@@ -42,7 +42,8 @@ latest_upper (p ∷ ps) init x t k d (suc i) e l = λ q.
       | false ↦ more
     ]
 
-pub latest_least : (ps : List Place) (init : InitialDates) (x : Dating) (t k : ℕ) (d z : Date) → All (λ p. p.to.index ≡ t → IsAtMostDate (available_in init x p k) z) ps → IsAtMostDate d z → IsAtMostDate (latest_into ps init x t k d) z
+pub latest_least : (ps : List Place) (init : InitialDates) (x : Dating) (t k : ℕ) (d z : Date)
+    → All (λ p. p.to.index ≡ t → IsAtMostDate (available_in init x p k) z) ps → IsAtMostDate d z → IsAtMostDate (latest_into ps init x t k d) z
 unfolding latest_into
 latest_least [] init x t k d z h l = l
 latest_least (p ∷ ps) init x t k d z h l =
@@ -54,7 +55,8 @@ latest_least (p ∷ ps) init x t k d z h l =
     (λ (e : eqb p.to.index t ≡ false). rw e rest)
     (cases_Bool (eqb p.to.index t))
 
-latest_same : (ps : List Place) (init : InitialDates) (x y : Dating) (t k : ℕ) (d : Date) → All (λ p. p.to.index ≡ t → available_in init x p k ≡ available_in init y p k) ps → latest_into ps init x t k d ≡ latest_into ps init y t k d
+latest_same : (ps : List Place) (init : InitialDates) (x y : Dating) (t k : ℕ) (d : Date)
+    → All (λ p. p.to.index ≡ t → available_in init x p k ≡ available_in init y p k) ps → latest_into ps init x t k d ≡ latest_into ps init y t k d
 unfolding latest_into
 latest_same [] init x y t k d h = refl
 latest_same (p ∷ ps) init x y t k d h =
@@ -153,7 +155,8 @@ pub least_is_tight : (s : System) (bound : ℕ) (r : ℕ → ℕ) → AreRanks s
 least_is_tight s bound r rr t k z h l =
     rw (fixed s bound r rr t k) (latest_least s.places s.initial (least_over s bound r) t k (s.release t k) z h l)
 
-pub available_rises : (init : InitialDates) (x y : Dating) (p : Place) (k : ℕ) → ((j : ℕ) → 1 ≤ j → IsAtMostDate (x p.from.index j) (y p.from.index j)) → IsAtMostDate (available_in init x p k) (available_in init y p k)
+pub available_rises : (init : InitialDates) (x y : Dating) (p : Place) (k : ℕ)
+    → ((j : ℕ) → 1 ≤ j → IsAtMostDate (x p.from.index j) (y p.from.index j)) → IsAtMostDate (available_in init x p k) (available_in init y p k)
 available_rises init x y p k h =
     ⊎_elim
     (λ (e : ltb p.tokens k ≡ true).
@@ -181,7 +184,8 @@ unfolding least_over
 least_is_least s bound r y f t k l = round_below s y f (suc (size bound r t k)) t k l
 
 -- the latest is d, or what some place available
-pub latest_attained : (ps : List Place) (init : InitialDates) (x : Dating) (t k : ℕ) (d : Date) → (latest_into ps init x t k d ≡ d) ⊎ ((i : ℕ) × (i < length ps) × ((get_or ps i no_place).to.index ≡ t) × (latest_into ps init x t k d ≡ available_in init x (get_or ps i no_place) k))
+pub latest_attained : (ps : List Place) (init : InitialDates) (x : Dating) (t k : ℕ) (d : Date) → (latest_into ps init x t k d ≡ d)
+    ⊎ ((i : ℕ) × (i < length ps) × ((get_or ps i no_place).to.index ≡ t) × (latest_into ps init x t k d ≡ available_in init x (get_or ps i no_place) k))
 unfolding latest_into
 latest_attained [] init x t k d = inl refl
 latest_attained (p ∷ ps) init x t k d =
@@ -213,7 +217,8 @@ least_is_attained s bound r rr t k =
     let e = fixed s bound r rr t k in
     ⊎_elim
     (λ (a : latest_into s.places s.initial x t k (s.release t k) ≡ s.release t k). inl (e ∙ a))
-    (λ (a : (i : ℕ) × (i < length s.places) × ((get_or s.places i no_place).to.index ≡ t) × (latest_into s.places s.initial x t k (s.release t k) ≡ available s x (get_or s.places i no_place) k)). inr (a.0, a.1, a.2, e ∙ a.3))
+    (λ (a : (i : ℕ) × (i < length s.places) × ((get_or s.places i no_place).to.index ≡ t)
+    × (latest_into s.places s.initial x t k (s.release t k) ≡ available s x (get_or s.places i no_place) k)). inr (a.0, a.1, a.2, e ∙ a.3))
     (latest_attained s.places s.initial x t k (s.release t k))
 
 pub least_over_is_least : (s : System) (bound : ℕ) (r : ℕ → ℕ) → AreRanks s.places bound r → IsLeastIn s (least_over s bound r)

@@ -31,7 +31,8 @@ abbrev LeavesOnce : NetLists → List PlaceId → Type 0
 LeavesOnce net ps = AllPairs (λ p q. from_of net p ≢ from_of net q) ps
 
 -- the places up to that one, with one more before them
-once_more : (net : NetLists) (p : PlaceId) (ps : List PlaceId) (i : ℕ) → i ≤ length ps → LeavesOnce net ps → ((j : ℕ) (d : PlaceId) → j < i → from_of net p ≢ from_of net (get_or ps j d)) → LeavesOnce net (p ∷ take i ps)
+once_more : (net : NetLists) (p : PlaceId) (ps : List PlaceId) (i : ℕ) → i ≤ length ps → LeavesOnce net ps
+    → ((j : ℕ) (d : PlaceId) → j < i → from_of net p ≢ from_of net (get_or ps j d)) → LeavesOnce net (p ∷ take i ps)
 once_more net p ps i within once apart zero zero d m n = absurd (omega arith)
 once_more net p ps i within once apart zero (suc k) d m n =
     let long = length-take-le i ps within in
@@ -56,7 +57,12 @@ apart_on : (net : NetLists) (p : PlaceId) (ps : List PlaceId) (a b : ℕ) → Is
 apart_on net p ps a b live h none once zero i d l m = absurd (omega arith)
 apart_on net p ps a b live h none once (suc n) i d l m = λ e.
     let first : from_of net p ≡ a = h.1 in
-    let closed : IsPathBetween net a (p ∷ take i ps) a = (h.0, h.1, subst (λ z. IsPathBetween net (place_at net p).to.index (take i ps) z) (sym e ∙ first) (path_to net ps (place_at net p).to.index b i d h.2 m)) in
+    let closed : IsPathBetween net a (p ∷ take i ps) a = (
+      h.0,
+      h.1,
+      subst (λ z. IsPathBetween net (place_at net p).to.index (take i ps) z) (sym e ∙ first)
+          (path_to net ps (place_at net p).to.index b i d h.2 m),
+    ) in
     live (p ∷ take i ps)
     (record {
       not_empty = omega arith;
@@ -98,7 +104,8 @@ path_short net ps a b ok live h none =
     let long = length-map ps (from_of net) in
     let apart : AllPairs (λ x y. x ≢ y) froms =
     λ j k d m n. rw (get_or-map (from_of net) ps j first_id d (omega arith), get_or-map (from_of net) ps k first_id d (omega arith)) (once_all net ps a b live h none j k first_id m (omega arith)) in
-    let few = length-le_from_distinct_below froms (length net.transitions) (IsDistinct-from_AllPairs Decides-eqb froms apart) (λ q e. from_below net ps a b q ok h (Any-from_list_any (eqb q) froms e)) in
+    let few = length-le_from_distinct_below froms (length net.transitions) (IsDistinct-from_AllPairs Decides-eqb froms apart)
+    (λ q e. from_below net ps a b q ok h (Any-from_list_any (eqb q) froms e)) in
     omega (arith, few)
 
 -- ---- how many such places lead on
@@ -121,7 +128,8 @@ depth_below places (suc n) t =
     ⊎_elim (λ (e : leads_on places (suc n) t ≡ true). rw e (omega arith)) (λ (e : leads_on places (suc n) t ≡ false). rw e (omega arith)) (cases_Bool (leads_on places (suc n) t))
 
 -- a place without tokens leads one further on
-leads_more : (places : List Place) (i j : ℕ) (d : Place) → i < length places → (get_or places i d).tokens ≡ 0 → leads_on places j (get_or places i d).to.index ≡ true → leads_on places (suc j) (get_or places i d).from.index ≡ true
+leads_more : (places : List Place) (i j : ℕ) (d : Place) → i < length places → (get_or places i d).tokens ≡ 0
+    → leads_on places j (get_or places i d).to.index ≡ true → leads_on places (suc j) (get_or places i d).from.index ≡ true
 unfolding leads_on
 leads_more places i j d l none e =
     let p : Place = get_or places i d in
@@ -129,7 +137,8 @@ leads_more places i j d l none e =
     let here : eqb p.from.index p.from.index ≡ true = grind (arith, nat_tests) in
     list_any_at (λ q. eqb q.tokens 0 && (eqb q.from.index p.from.index && leads_on places j q.to.index)) places i d l (rw (no_tokens, here, e) refl)
 
-depth_more : (places : List Place) (i : ℕ) (d : Place) → i < length places → (get_or places i d).tokens ≡ 0 → (n : ℕ) → depth places n (get_or places i d).to.index + 1 ≤ depth places (suc n) (get_or places i d).from.index
+depth_more : (places : List Place) (i : ℕ) (d : Place) → i < length places → (get_or places i d).tokens ≡ 0 → (n : ℕ)
+    → depth places n (get_or places i d).to.index + 1 ≤ depth places (suc n) (get_or places i d).from.index
 unfolding depth leads_on
 depth_more places i d l none zero = rw (leads_more places i 0 d l none refl) (omega arith)
 depth_more places i d l none (suc n) =

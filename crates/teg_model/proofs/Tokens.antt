@@ -64,7 +64,8 @@ not_before_zero net u x f t (suc (suc k)) l o =
     (rw implicit_after at (implicit_keeps net u x f t (suc (suc k)) l (omega arith)))
 
 -- datings that agree where a token comes from have it available at the same date
-pub available_same : (init : InitialDates) (x y : Dating) (p : Place) (k : ℕ) → (p.tokens < k → x p.from.index (k - p.tokens) ≡ y p.from.index (k - p.tokens)) → available_in init x p k ≡ available_in init y p k
+pub available_same : (init : InitialDates) (x y : Dating) (p : Place) (k : ℕ)
+    → (p.tokens < k → x p.from.index (k - p.tokens) ≡ y p.from.index (k - p.tokens)) → available_in init x p k ≡ available_in init y p k
 available_same init x y p k h =
     ⊎_elim
     (λ (l : p.tokens < k). available_after init x p k (y p.from.index (k - p.tokens)) l (h l) ∙ sym (available_after init y p k (y p.from.index (k - p.tokens)) l refl))

@@ -39,7 +39,8 @@ feasible_keeps_in net init release x f = record {
       let place : Place = place_at net p in
       let back : (s + place.tokens) - place.tokens ≡ s = omega arith in
       let is = available_after init x place (s + place.tokens) (x place.from.index s) (omega arith) (ap (x place.from.index) back) in
-      rw is at (extended_has net (λ q. IsAtMostDate (available_in init x q (s + place.tokens)) (x q.to.index (s + place.tokens))) (λ i m. f.places (s + place.tokens) (omega arith) i no_place m) p.index in');
+      rw is at (extended_has net (λ q. IsAtMostDate (available_in init x q (s + place.tokens)) (x q.to.index (s + place.tokens)))
+      (λ i m. f.places (s + place.tokens) (omega arith) i no_place m) p.index in');
   next = λ t s l o.
       let own = implicit_is net t l in
       rw (implicit_gives init x t s o) at (rw own.2 at (f.places (s + 1) (omega arith) own.0 no_place own.1));

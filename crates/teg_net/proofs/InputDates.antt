@@ -1,5 +1,6 @@
 -- What the dates of an input list come to.
-use Rattle.std.proofs.Common.{ℕ, zero, suc, ◌+◌, ◌-◌, ◌*◌, ◌/◌, ◌<◌, ◌≤◌, ◌≡◌, ◌≢◌, List, [], ◌∷◌, true, false, eqb, leb, length, get_or, Option, Some, None, refl, sym, ap, subst, ◌∙◌, arith, ⊎_elim, ◌⊎◌, inl, inr}
+use Rattle.std.proofs.Common.{ℕ, zero, suc, ◌+◌, ◌-◌, ◌*◌, ◌/◌, ◌<◌, ◌≤◌, ◌≡◌, ◌≢◌, List, [], ◌∷◌, true, false, eqb, leb, length, get_or, Option}
+use Rattle.std.proofs.Common.{Some, None, refl, sym, ap, subst, ◌∙◌, arith, ⊎_elim, ◌⊎◌, inl, inr}
 use Rattle.std.specs.Prelude.{All, AllPairs, Any, IfSome, find, ◌==◌}
 use Rattle.std.proofs.lemmas.Bool.{cases_Bool, cases_lt, cases_eq}
 use Rattle.std.proofs.lemmas.Bool.Decides.{nat_tests}
@@ -166,7 +167,8 @@ date_le dates i h =
     (λ (l : length dates ≤ i). let is : get_or dates i 0 ≡ 0 = get_or_past dates i 0 l in omega arith)
     (cases_lt i (length dates))
 
-past-most : (dates : List ℕ) (o : Option Again) (k : ℕ) → All (λ d. d ≤ greatest_input_date) dates → EndsOrGoesOn dates o → length dates < k → IfSome (list_date_past dates o k) (λ d. d ≤ greatest_input_date * (k + 1))
+past-most : (dates : List ℕ) (o : Option Again) (k : ℕ) → All (λ d. d ≤ greatest_input_date) dates → EndsOrGoesOn dates o
+    → length dates < k → IfSome (list_date_past dates o k) (λ d. d ≤ greatest_input_date * (k + 1))
 past-most dates None k h e l = tt
 past-most dates (Some a) k h e l =
     let r : ℕ = laps_past (length dates) a.every k in
@@ -176,7 +178,8 @@ past-most dates (Some a) k h e l =
     omega arith
 
 -- no date is later than that of a list that goes on by the greatest gap
-pub list_date-most : (dates : List ℕ) (o : Option Again) (k : ℕ) → All (λ d. d ≤ greatest_input_date) dates → EndsOrGoesOn dates o → IfSome (list_date dates o k) (λ d. d ≤ greatest_input_date * (k + 1))
+pub list_date-most : (dates : List ℕ) (o : Option Again) (k : ℕ) → All (λ d. d ≤ greatest_input_date) dates → EndsOrGoesOn dates o
+    → IfSome (list_date dates o k) (λ d. d ≤ greatest_input_date * (k + 1))
 list_date-most dates o k h e =
     ⊎_elim
     (λ (l : length dates < k). rw (past_list dates o k l) (past-most dates o k h e l))

@@ -57,7 +57,8 @@ first_on net Next rest a s b k c n h w =
 
 -- where the first step leads nowhere, no steps do that begin with it
 first_none :
-    (net : NetLists) (step : Step) (rest : List Step) (a s : ℕ) → s ≤ greatest_firing_number → ((b k : ℕ) → WalksWithin net a s (step ∷ []) b k → ⊥) → (c n : ℕ) → WalksWithin net a s (step ∷ rest) c n → ⊥
+    (net : NetLists) (step : Step) (rest : List Step) (a s : ℕ) → s ≤ greatest_firing_number
+    → ((b k : ℕ) → WalksWithin net a s (step ∷ []) b k → ⊥) → (c n : ℕ) → WalksWithin net a s (step ∷ rest) c n → ⊥
 first_none net (By p) rest a s l none c n w =
     let to : ℕ = s + (place_at net p).tokens in
     let small : to ≤ greatest_firing_number = small_first net to rest (small_rest s (numbers_of net to rest) w.1) in

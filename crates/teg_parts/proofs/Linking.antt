@@ -27,7 +27,8 @@ linked_none net way highest e = record {
   lower_ = λ p l. absurd (omega arith);
 }
 
-still_highest : (net : NetLists) (way : Way) (u : ℕ) (p : PlaceId) (o : Option PlaceId) → near_of way net p ≢ u → IsHighestPlaceBelow net way u p.index o → IsHighestPlaceBelow net way u (p.index + 1) o
+still_highest : (net : NetLists) (way : Way) (u : ℕ) (p : PlaceId) (o : Option PlaceId) → near_of way net p ≢ u
+    → IsHighestPlaceBelow net way u p.index o → IsHighestPlaceBelow net way u (p.index + 1) o
 still_highest net way u p None n h = λ r l.
     ⊎_elim
     (λ (q : r.index < p.index). h r q)
@@ -58,11 +59,14 @@ linked_more net way highest lower p h l =
           (λ (q : u ≡ t).
           let read : get_or (set highest t (Some p)) u None ≡ Some p = ap (λ x. get_or (set highest t (Some p)) x None) q ∙ get_or-set_same highest t (Some p) None in' in
           subst (IsHighestPlaceBelow net way u (p.index + 1)) (sym read) (omega arith, sym q, λ r a b. absurd (omega arith)))
-          (λ (q : u ≢ t). subst (IsHighestPlaceBelow net way u (p.index + 1)) (sym (get_or-set_other highest t u (Some p) None q)) (still_highest net way u p (get_or highest u None) (λ e. q (sym e)) (h.highest_ u m)))
+          (λ (q : u ≢ t). subst (IsHighestPlaceBelow net way u (p.index + 1)) (sym (get_or-set_other highest t u (Some p) None q))
+          (still_highest net way u p (get_or highest u None) (λ e. q (sym e)) (h.highest_ u m)))
           (cases_eq u t);
       lower_ = λ r m.
           ⊎_elim
-          (λ (q : r.index < p.index). let at : r.index < length lower = let c = h.lower_count in omega arith in subst (IsHighestPlaceBelow net way (near_of way net r) r.index) (sym (get_or_append_left lower (old ∷ []) None r.index at)) (h.lower_ r q))
+          (λ (q : r.index < p.index). let at : r.index < length lower = let c =
+          h.lower_count in omega arith in subst (IsHighestPlaceBelow net way (near_of way net r) r.index)
+          (sym (get_or_append_left lower (old ∷ []) None r.index at)) (h.lower_ r q))
           (λ (q : p.index ≤ r.index).
           let e : p ≡ r = same_id p r (omega arith) in
           let read : get_or (lower ++ old ∷ []) p.index None ≡ old = get_or_push lower old None p.index h.lower_count in
@@ -121,7 +125,8 @@ listed_none net f t old h l =
       here = highest_in net f.way t (length net.places) o (h.highest t l);
     }
 
-pub listed_more : (net : NetLists) (f : PlacesAlong) (t : ℕ) (old now : List PlaceId) (q : PlaceId) → ArePlacesAlong net f → ListedTo net f.way t old now (Some q) → ListedTo net f.way t old (now ++ q ∷ []) (get_or f.lower.items q.index None)
+pub listed_more : (net : NetLists) (f : PlacesAlong) (t : ℕ) (old now : List PlaceId) (q : PlaceId) → ArePlacesAlong net f
+    → ListedTo net f.way t old now (Some q) → ListedTo net f.way t old (now ++ q ∷ []) (get_or f.lower.items q.index None)
 listed_more net f t old now q h s =
     let here = s.here q refl in
     let o : Option PlaceId = get_or f.lower.items q.index None in

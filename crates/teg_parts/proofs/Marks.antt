@@ -1,5 +1,6 @@
 -- Marks and numbers of transitions: what one more leaves, and how many are left.
-use Rattle.std.proofs.Common.{ℕ, ◌+◌, ◌*◌, ◌<◌, ◌≤◌, ◌≡◌, ◌≢◌, List, Option, Some, None, Result, Ok, Err, Bool, true, false, not, is_some, cond, count_by, length, get_or, set, refl, sym, ap, ◌∙◌, arith, rules, inl, inr, ⊎_elim}
+use Rattle.std.proofs.Common.{ℕ, ◌+◌, ◌*◌, ◌<◌, ◌≤◌, ◌≡◌, ◌≢◌, List, Option, Some, None, Result, Ok, Err, Bool, true, false, not, is_some, cond}
+use Rattle.std.proofs.Common.{count_by, length, get_or, set, refl, sym, ap, ◌∙◌, arith, rules, inl, inr, ⊎_elim}
 use Rattle.std.specs.Prelude.{◌⊎◌, IfOk, IsSome}
 use Rattle.std.proofs.lemmas.Bool.{cases_eq, cases_lt}
 use Rattle.std.proofs.lemmas.List.{get_or-set_same, get_or-set_other, get_or_past, get_or-replicate, length-replicate}

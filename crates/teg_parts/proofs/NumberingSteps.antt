@@ -17,7 +17,8 @@ pub record BlockedTo (net : NetLists) (components : List ℕ) (numbers : List (O
   pub complete : (c : ℕ) (p : PlaceId) → p.index < i → BlocksComponent net components numbers c p → get_or blocked c false ≡ true
 
 module _ (net : NetLists) (components : List ℕ) (numbers : List (Option ℕ)) where
-  pub blocked_more : (blocked : List Bool) (p : PlaceId) → BlockedTo net components numbers blocked p.index → component_at components (to_of net p) < length components → BlocksComponent net components numbers (component_at components (to_of net p)) p
+  pub blocked_more : (blocked : List Bool) (p : PlaceId) → BlockedTo net components numbers blocked p.index
+      → component_at components (to_of net p) < length components → BlocksComponent net components numbers (component_at components (to_of net p)) p
       → BlockedTo net components numbers (set blocked (component_at components (to_of net p)) true) (p.index + 1)
   blocked_more blocked p h l b =
       let u : ℕ = component_at components (to_of net p) in
@@ -39,7 +40,8 @@ module _ (net : NetLists) (components : List ℕ) (numbers : List (Option ℕ)) 
             (cases_lt q.index p.index);
       }
 
-  pub blocked_skip : (blocked : List Bool) (p : PlaceId) → BlockedTo net components numbers blocked p.index → (BlocksComponent net components numbers (component_at components (to_of net p)) p → ⊥) → BlockedTo net components numbers blocked (p.index + 1)
+  pub blocked_skip : (blocked : List Bool) (p : PlaceId) → BlockedTo net components numbers blocked p.index
+      → (BlocksComponent net components numbers (component_at components (to_of net p)) p → ⊥) → BlockedTo net components numbers blocked (p.index + 1)
   blocked_skip blocked p h none = record {
     count = h.count;
     sound = h.sound;
@@ -69,7 +71,8 @@ pub record MarkedTo (net : NetLists) (part_of : List ℕ) (count : ℕ) (inner :
   pub complete : (k : ℕ) (q : PlaceId) → q.index < i → IsPlaceOfPart net part_of k q → get_or inner k false ≡ true
 
 module _ (net : NetLists) (part_of : List ℕ) (count : ℕ) where
-  pub marked_more : (inner : List Bool) (p : PlaceId) (part : ℕ) → MarkedTo net part_of count inner p.index → part < count → IsPlaceOfPart net part_of part p → MarkedTo net part_of count (set inner part true) (p.index + 1)
+  pub marked_more : (inner : List Bool) (p : PlaceId) (part : ℕ) → MarkedTo net part_of count inner p.index → part < count
+      → IsPlaceOfPart net part_of part p → MarkedTo net part_of count (set inner part true) (p.index + 1)
   marked_more inner p part h l b =
       let in' : part < length inner = let c = h.long in omega arith in
       record {
@@ -89,7 +92,8 @@ module _ (net : NetLists) (part_of : List ℕ) (count : ℕ) where
             (cases_lt q.index p.index);
       }
 
-  pub marked_skip : (inner : List Bool) (p : PlaceId) → MarkedTo net part_of count inner p.index → (get_or part_of (from_of net p) 0 ≢ get_or part_of (to_of net p) 0) → MarkedTo net part_of count inner (p.index + 1)
+  pub marked_skip : (inner : List Bool) (p : PlaceId) → MarkedTo net part_of count inner p.index
+      → (get_or part_of (from_of net p) 0 ≢ get_or part_of (to_of net p) 0) → MarkedTo net part_of count inner (p.index + 1)
   marked_skip inner p h n = record {
     long = h.long;
     sound = h.sound;

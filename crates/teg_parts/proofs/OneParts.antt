@@ -111,7 +111,8 @@ module _ (net : NetLists) where
       (λ (l : length q.inner ≤ length p.inner). l)
       (cases_lt (length p.inner) (length q.inner))
 
-  same_mark : (p q : PartLists) → AreParts net p → AreParts net q → p.part_of ≡ q.part_of → (k : ℕ) → k < length p.inner → k < length q.inner → get_or p.inner k false ≡ true → get_or q.inner k false ≡ true
+  same_mark : (p q : PartLists) → AreParts net p → AreParts net q → p.part_of ≡ q.part_of → (k : ℕ) → k < length p.inner
+      → k < length q.inner → get_or p.inner k false ≡ true → get_or q.inner k false ≡ true
   same_mark p q h g e k l m y =
       let w = (h.inner k l).0 y in
       (g.inner k m).1 (w.0, subst (λ (ns : List ℕ). IsPlaceOfPart net ns k w.0) e w.1)

@@ -41,7 +41,8 @@ module _ (net : NetLists) (kept : IsNet net) (components : List ℕ) (comps : Ar
   to_in : (p : PlaceId) → p.index < length net.places → to_of net p < length components
   to_in p l = let c = comps.count in let f = (kept.each_place p.index no_place l).to_in in omega arith
 
-  module _ (ns ns' : List (Option ℕ)) (k f : ℕ) (h : ArePartsNumbered net components ns k) (first : IsFirstFree net components ns f) (count : length ns' ≡ length ns) (g : IsGiven components ns ns' (component_at components f) k) where
+  module _ (ns ns' : List (Option ℕ)) (k f : ℕ) (h : ArePartsNumbered net components ns k) (first : IsFirstFree net components ns f)
+      (count : length ns' ≡ length ns) (g : IsGiven components ns ns' (component_at components f) k) where
     new_is : (t : ℕ) → t < length components → comp t ≡ comp f → part_number ns' t ≡ Some k
     new_is t l e = g.given t l e
 

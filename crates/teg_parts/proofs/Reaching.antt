@@ -97,7 +97,8 @@ module _ {net : NetLists} {way : Way} {start : ℕ} where
           (set_flag_before marks t (near_of way net p) w.1);
     }
 
-  pub search_start : (n : ℕ) (ag : List PlaceId) → n ≡ length net.transitions → start < length net.transitions → AddsPlacesAlong net way start [] ag → IsSearch net way start (set (replicate n false) start true) ag
+  pub search_start : (n : ℕ) (ag : List PlaceId) → n ≡ length net.transitions → start < length net.transitions
+      → AddsPlacesAlong net way start [] ag → IsSearch net way start (set (replicate n false) start true) ag
   search_start n ag e l adds =
       let long = length-replicate n false in
       entered (replicate n false) [] ag start (omega arith) l
@@ -150,7 +151,8 @@ module _ {net : NetLists} {way : Way} {start : ℕ} where
     }
 
     -- its end is marked
-    pub gone_along : (ag : List PlaceId) → far_of way net p < length net.transitions → AddsPlacesAlong net way (far_of way net p) rest ag → IsSearch net way start (set marks (far_of way net p) true) ag
+    pub gone_along : (ag : List PlaceId) → far_of way net p < length net.transitions
+        → AddsPlacesAlong net way (far_of way net p) rest ag → IsSearch net way start (set marks (far_of way net p) true) ag
     gone_along ag l adds =
         entered marks rest ag (far_of way net p) h.count l h.led (leads_on net way start p taken_up.0 (h.led (near_of way net p) taken_up.1)) (inl h.begun) waits others adds
 

@@ -46,7 +46,8 @@ pub record RootedTo (onward back : List Bool) (root : ℕ) (old now : List (Opti
   pub kept : (t : ℕ) → (IsMarked onward t → IsMarked back t → ⊥) → found_at now t ≡ found_at old t
 
 module _ (net : NetLists) (root : ℕ) (onward back : List Bool) (old new : List (Option ℕ)) (count : length new ≡ length old) (root_in : root < length net.transitions)
-    (un : found_at old root ≡ None) (h : AreFound net old) (reached : AreReachedMarks net Onward root onward) (reaching : AreReachedMarks net Back root back) (g : IsRooted onward back root old new) where
+    (un : found_at old root ≡ None) (h : AreFound net old) (reached : AreReachedMarks net Onward root onward)
+    (reaching : AreReachedMarks net Back root back) (g : IsRooted onward back root old new) where
   given : (t : ℕ) → t < length net.transitions → AreMutual net root t → found_at new t ≡ Some root
   given t l m = let c = h.count in g.given t (omega arith) ((reached.exact t).1 m.0) ((reaching.exact t).1 m.1)
 

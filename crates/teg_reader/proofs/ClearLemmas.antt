@@ -1,5 +1,6 @@
 -- What passes over the entries say where they find nothing.
-use Rattle.std.proofs.Common.{◌≡◌, ℕ, ◌+◌, ◌-◌, ◌≤◌, pos, negsuc, Bool, true, false, not, ◌&&◌, if◌then◌else◌, nat_le, List, [], ◌∷◌, ◌++◌, map, take, length, Option, Some, None, option_map, refl, ap, arith, append_assoc, append-nil, subst}
+use Rattle.std.proofs.Common.{◌≡◌, ℕ, ◌+◌, ◌-◌, ◌≤◌, pos, negsuc, Bool, true, false, not, ◌&&◌, if◌then◌else◌, nat_le, List, [], ◌∷◌, ◌++◌, map, take}
+use Rattle.std.proofs.Common.{length, Option, Some, None, option_map, refl, ap, arith, append_assoc, append-nil, subst}
 use Rattle.std.proofs.lemmas.Bool.{and_parts}
 use Rattle.std.proofs.lemmas.List.{map-append, length-append}
 use Rattle.std.specs.List.{list_all}
@@ -45,7 +46,9 @@ none_where true x h = cc
 none_where false x h = refl
 
 -- where a look at each entry finds nothing, each passes the test that it stands for
-pub all_clear : (look : Look) (section : Section) (p : Data → Bool) → ((n : ℕ) (d : Data) → look (spot_at section n) d ≡ None → p d ≡ true) → (n : ℕ) (es : List Data) → first_finding look section n es ≡ None → list_all p es ≡ true
+pub all_clear : (look : Look) (section : Section) (p : Data → Bool)
+    → ((n : ℕ) (d : Data) → look (spot_at section n) d ≡ None → p d ≡ true) → (n : ℕ) (es : List Data)
+    → first_finding look section n es ≡ None → list_all p es ≡ true
 all_clear look section p says n [] h = refl
 all_clear look section p says n (e ∷ es) h =
     let both = neither _ _ h in
@@ -109,7 +112,8 @@ front_of front rest = rw (one_less (length front)) (taken front) where
   taken [] = refl
   taken (x ∷ xs) = ap (λ ys. x ∷ ys) (taken xs)
 
-not_earlier : (section : Section) (key : Key) (front rest : List Data) (d : Data) → repeats_earlier key (front ++ rest) (spot_at section (length front + 1)) d ≡ None → is_among (map (text_at key) front) (text_at key d) ≡ false
+not_earlier : (section : Section) (key : Key) (front rest : List Data) (d : Data)
+    → repeats_earlier key (front ++ rest) (spot_at section (length front + 1)) d ≡ None → is_among (map (text_at key) front) (text_at key d) ≡ false
 unfolding repeats_earlier
 not_earlier section key front rest d h = rw (front_of front rest) at (none_where (is_among (map (text_at key) (take ((length front + 1) - 1) (front ++ rest))) (text_at key d)) _ h)
 

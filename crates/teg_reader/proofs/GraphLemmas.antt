@@ -84,7 +84,8 @@ owner_known : (names : List (List ℕ)) (n : ℕ) (d : Data) → unknown_transit
 unfolding unknown_transition unknown_text unknown_among
 owner_known names n d h = (found_none (is_among names (text_at key.Transition d)) (text_at key.Transition d) None (unmapped _ _ h)).0
 
-pub owners_known : (top : Data) → finding (unknown_transition (entry_names (array_at key.Transition top))) top ≡ None → list_all (has_known_owner (entry_names (array_at key.Transition top))) (array_at key.Input top) ≡ true
+pub owners_known : (top : Data) → finding (unknown_transition (entry_names (array_at key.Transition top))) top ≡ None
+    → list_all (has_known_owner (entry_names (array_at key.Transition top))) (array_at key.Input top) ≡ true
 owners_known top known =
     all_clear (unknown_transition (entry_names (array_at key.Transition top))) section.Input (has_known_owner (entry_names (array_at key.Transition top)))
     (owner_known (entry_names (array_at key.Transition top))) 1 (array_at key.Input top) (clear _ top known).inputs
@@ -147,4 +148,5 @@ unfolding input_has_upstream
 end_free ts d h = rw (none_where (is_input_named ts (end_at key.To d)) _ h)
 
 pub places_free : (top : Data) → IsGraph top → list_all (enters_no_input (array_at key.Transition top)) (array_at key.Place top) ≡ true
-places_free top graph = all_passed (input_has_upstream (array_at key.Transition top)) (enters_no_input (array_at key.Transition top)) (end_free (array_at key.Transition top)) (array_at key.Place top) graph.inputs_free
+places_free top graph = all_passed (input_has_upstream (array_at key.Transition top)) (enters_no_input (array_at key.Transition top))
+    (end_free (array_at key.Transition top)) (array_at key.Place top) graph.inputs_free

@@ -25,7 +25,10 @@ use Rattle.teg_reader.specs.WrongKinds.{is_kind, has_kind, wrong_kind}
 use Rattle.teg_reader.specs.MissingKeys.{has_needed, lone_key, missing_key}
 use Rattle.teg_reader.specs.BadNames.{bad_name}
 use Rattle.teg_reader.specs.Migrated.{number_data, numbers_data, transition_entry, place_entry, input_entry, with_ready, with_again, with_entries, migrated}
-use Rattle.teg_reader.proofs.MigratedTrees.{list_of_items, all_integers, found_list, transition_name, transition_role, transition_duration, transition_text, place_name, place_from, place_to, place_hold, place_tokens, place_ready, place_text, input_owner, input_dates, input_every, input_gap, transition_entries, place_entries, input_entries, top_version, top_transitions, top_places, top_inputs, transitions_at, places_at, inputs_at}
+use Rattle.teg_reader.proofs.MigratedTrees.{list_of_items, all_integers, found_list, transition_name, transition_role, transition_duration}
+use Rattle.teg_reader.proofs.MigratedTrees.{transition_text, place_name, place_from, place_to, place_hold, place_tokens, place_ready, place_text}
+use Rattle.teg_reader.proofs.MigratedTrees.{input_owner, input_dates, input_every, input_gap, transition_entries, place_entries, input_entries}
+use Rattle.teg_reader.proofs.MigratedTrees.{top_version, top_transitions, top_places, top_inputs, transitions_at, places_at, inputs_at}
 
 -- a look that finds nothing at the entries of a list
 pub found_nowhere : {X : Type 0} (look : Look) (part : Section) (f : X → Data) (P : X → Type 0) → ((n : ℕ) (x : X) → P x → look (spot_at part n) (f x) ≡ None)
@@ -52,7 +55,9 @@ unfolding unknown_key unlisted_keys listed_fields fields_of is_field least_text 
 transition_listed n t = refl
 
 place_keys : (ready : List ℕ) (from hold name to tokens : Data)
-    → unlisted_keys (listed_fields true section.Place) (table (member (key_text key.From) from (member (key_text key.Hold) hold (member (key_text key.Name) name (with_ready ready (member (key_text key.To) to (member (key_text key.Tokens) tokens no_members))))))) ≡ []
+    → unlisted_keys (listed_fields true section.Place)
+    (table (member (key_text key.From) from (member (key_text key.Hold) hold
+    (member (key_text key.Name) name (with_ready ready (member (key_text key.To) to (member (key_text key.Tokens) tokens no_members))))))) ≡ []
 unfolding unlisted_keys listed_fields fields_of is_field key_text
 place_keys [] from hold name to tokens = refl
 place_keys (d ∷ ds) from hold name to tokens = refl
@@ -72,7 +77,8 @@ unfolding unknown_key least_text input_entry
 input_listed ts n l = ap (λ ks. option_map (λ k. refusal.UnknownKey (spot_at section.Input n) k) (least_text ks)) (input_keys l.again _ _)
 
 top_keys : (is ps ts : List Data) (version : Data)
-    → unlisted_keys (listed_fields true section.Top) (table (with_entries key.Input is (with_entries key.Place ps (with_entries key.Transition ts (member (key_text key.Version) version no_members))))) ≡ []
+    → unlisted_keys (listed_fields true section.Top)
+    (table (with_entries key.Input is (with_entries key.Place ps (with_entries key.Transition ts (member (key_text key.Version) version no_members))))) ≡ []
 unfolding unlisted_keys listed_fields fields_of is_field key_text
 top_keys [] [] [] version = refl
 top_keys [] [] (t ∷ ts) version = refl

@@ -1,5 +1,6 @@
 -- The passes on the graph, the input lists and the places find nothing in a written table.
-use Rattle.std.proofs.Common.{◌≡◌, ◌⊎◌, inl, inr, ℕ, suc, ◌+◌, ◌<◌, ◌≤◌, Bool, true, false, not, cond, ◌||◌, ◌==◌, nat_lt, List, [], ◌∷◌, map, length, Option, Some, None, is_some, option_map, All, refl, ◌∙◌, arith}
+use Rattle.std.proofs.Common.{◌≡◌, ◌⊎◌, inl, inr, ℕ, suc, ◌+◌, ◌<◌, ◌≤◌, Bool, true, false, not, cond, ◌||◌, ◌==◌, nat_lt, List, [], ◌∷◌, map, length}
+use Rattle.std.proofs.Common.{Option, Some, None, is_some, option_map, All, refl, ◌∙◌, arith}
 use Rattle.std.proofs.lemmas.Bool.Decides.{nat_tests}
 use Rattle.std.proofs.lemmas.List.{length-map}
 use Rattle.std.proofs.lemmas.List.Elements.{All-head, All-tail}
@@ -27,12 +28,14 @@ use Rattle.teg_reader.specs.Holds.{duration_named, hold_with_duration, too_slow}
 use Rattle.teg_reader.specs.Migrated.{number_data, name_of, transition_entry, place_entry, input_entry, migrated}
 use Rattle.teg_reader.proofs.Facts.{le_test}
 use Rattle.teg_reader.proofs.RoleLemmas.{is_input-from_named, named-from_is_input}
-use Rattle.teg_reader.proofs.MigratedTrees.{numbers_back, found_list, transition_duration, place_from, place_to, place_hold, place_tokens, place_ready, ready_list, input_text, input_every, input_gap, dates_list, transition_entries}
+use Rattle.teg_reader.proofs.MigratedTrees.{numbers_back, found_list, transition_duration, place_from, place_to, place_hold, place_tokens}
+use Rattle.teg_reader.proofs.MigratedTrees.{place_ready, ready_list, input_text, input_every, input_gap, dates_list, transition_entries}
 use Rattle.teg_reader.proofs.MigratedNames.{names_in, names_back, name_known, HaveDistinctNames, number_back, found_within, transitions_back}
 use Rattle.teg_reader.proofs.MigratedEntries.{found_nowhere, found_at_none, no_finding}
 
 -- a look that finds nothing at the entries of a list
-pub found_in_none : {X : Type 0} (look : Data → Option ReadRefusal) (f : X → Data) (P : X → Type 0) → ((x : X) → P x → look (f x) ≡ None) → (xs : List X) → All P xs → first_of_entries look (map f xs) ≡ None
+pub found_in_none : {X : Type 0} (look : Data → Option ReadRefusal) (f : X → Data) (P : X → Type 0)
+    → ((x : X) → P x → look (f x) ≡ None) → (xs : List X) → All P xs → first_of_entries look (map f xs) ≡ None
 found_in_none look f P says [] all = refl
 found_in_none look f P says (x ∷ xs) all = rw (says x (All-head P x xs all), found_in_none look f P says xs (All-tail P x xs all))
 
@@ -103,12 +106,14 @@ unfolding not_event_graph
 joins_two ts p = rw (from_texts ts p, to_texts ts p)
 
 -- a name is that of an input exactly where its number is
-input_named : (net : NetLists) (id : TransitionId) → HaveDistinctNames net.transitions → id.index < length net.transitions → is_input_named (transition_entries net) (name_of net.transitions id) ≡ true → IsInput net id.index
+input_named : (net : NetLists) (id : TransitionId) → HaveDistinctNames net.transitions → id.index < length net.transitions
+    → is_input_named (transition_entries net) (name_of net.transitions id) ≡ true → IsInput net id.index
 input_named net id distinct lt h =
     rw (transitions_back net.transitions, names_back net.transitions, number_back net.transitions id distinct lt) at
     (is_input-from_named (name_of net.transitions id) (transition_entries net) h)
 
-named_input : (net : NetLists) (id : TransitionId) → HaveDistinctNames net.transitions → id.index < length net.transitions → IsInput net id.index → is_input_named (transition_entries net) (name_of net.transitions id) ≡ true
+named_input : (net : NetLists) (id : TransitionId) → HaveDistinctNames net.transitions → id.index < length net.transitions
+    → IsInput net id.index → is_input_named (transition_entries net) (name_of net.transitions id) ≡ true
 named_input net id distinct lt h =
     named-from_is_input (name_of net.transitions id) (transition_entries net)
     (rw (transitions_back net.transitions, names_back net.transitions, number_back net.transitions id distinct lt) h)
@@ -191,7 +196,8 @@ absent_duration : (t : Transition) → number_at key.Duration (transition_entry 
 unfolding number_at
 absent_duration t = rw (transition_duration t)
 
-either_absent : (b : Bool) (t : Transition) (rest : Option Data) → option_map_or (number_at key.Duration) rest 0 ≡ 0 → option_map_or (number_at key.Duration) (cond b (Some (transition_entry t)) rest) 0 ≡ 0
+either_absent : (b : Bool) (t : Transition) (rest : Option Data) → option_map_or (number_at key.Duration) rest 0 ≡ 0
+    → option_map_or (number_at key.Duration) (cond b (Some (transition_entry t)) rest) 0 ≡ 0
 either_absent true t rest h = absent_duration t
 either_absent false t rest h = h
 

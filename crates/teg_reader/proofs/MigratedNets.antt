@@ -17,7 +17,8 @@ use Rattle.teg_reader.proofs.MigratedTrees.{numbers_back, place_text, ready_list
 use Rattle.teg_reader.proofs.MigratedNames.{names_back, number_back, found_within, transitions_back}
 use Rattle.teg_reader.proofs.MigratedEntries.{no_bad_name, no_missing_key, no_wrong_kind, no_unknown_key}
 use Rattle.teg_reader.proofs.MigratedRanges.{no_repeats, none_out_of_range}
-use Rattle.teg_reader.proofs.MigratedGraphs.{found_in_none, some_transition, from_end, to_end, no_unknown_transition, joins_two, enters_none, dates_back, again_back, good_input, tokens_back, good_ready, hold_back, good_hold}
+use Rattle.teg_reader.proofs.MigratedGraphs.{found_in_none, some_transition, from_end, to_end, no_unknown_transition, joins_two, enters_none}
+use Rattle.teg_reader.proofs.MigratedGraphs.{dates_back, again_back, good_input, tokens_back, good_ready, hold_back, good_hold}
 
 entries_good : (net : NetLists) → IsNet net → bad_entries (table (migrated net)) ≡ None
 unfolding bad_entries

@@ -26,7 +26,9 @@ use Rattle.teg_reader.specs.Migrated.{number_data, role_text, name_of, transitio
 use Rattle.teg_reader.proofs.Facts.{le_test}
 use Rattle.teg_reader.proofs.NumberLemmas.{repeats}
 use Rattle.teg_reader.proofs.ClearLemmas.{front_of}
-use Rattle.teg_reader.proofs.MigratedTrees.{all_between, number_between, transition_role, transition_duration, place_text, place_hold, place_tokens, ready_list, input_text, input_every, input_gap, dates_list, transition_entries, place_entries, input_entries, top_version, transitions_at, places_at, inputs_at}
+use Rattle.teg_reader.proofs.MigratedTrees.{all_between, number_between, transition_role, transition_duration, place_text, place_hold, place_tokens}
+use Rattle.teg_reader.proofs.MigratedTrees.{ready_list, input_text, input_every, input_gap, dates_list, transition_entries, place_entries}
+use Rattle.teg_reader.proofs.MigratedTrees.{input_entries, top_version, transitions_at, places_at, inputs_at}
 use Rattle.teg_reader.proofs.MigratedNames.{distinct_texts, texts_through, names_back, same_number, found_within}
 use Rattle.teg_reader.proofs.MigratedEntries.{found_nowhere, found_at_none, no_finding}
 
@@ -37,11 +39,13 @@ not_among text front rest h = step (is_among front text) (λ e. false≢true (sy
   step true f = absurd (f (λ _. true))
   step false f = λ _. false
 
-none_earlier : (part : Section) (k : Key) (front rest : List Data) (d : Data) → is_among (map (text_at k) front) (text_at k d) ≡ false → repeats_earlier k (front ++ rest) (spot_at part (length front + 1)) d ≡ None
+none_earlier : (part : Section) (k : Key) (front rest : List Data) (d : Data) → is_among (map (text_at k) front) (text_at k d) ≡ false
+    → repeats_earlier k (front ++ rest) (spot_at part (length front + 1)) d ≡ None
 unfolding repeats_earlier
 none_earlier part k front rest d h = rw (front_of front rest, h)
 
-no_repeat_from : (part : Section) (k : Key) (front rest : List Data) → is_distinct (map (text_at k) (front ++ rest)) ≡ true → first_finding (repeats_earlier k (front ++ rest)) part (length front + 1) rest ≡ None
+no_repeat_from : (part : Section) (k : Key) (front rest : List Data) → is_distinct (map (text_at k) (front ++ rest)) ≡ true
+    → first_finding (repeats_earlier k (front ++ rest)) part (length front + 1) rest ≡ None
 no_repeat_from part k front [] h = refl
 no_repeat_from part k front (d ∷ rest) h =
     let spread : is_distinct (map (text_at k) front ++ text_at k d ∷ map (text_at k) rest) ≡ true = rw map-append at h in

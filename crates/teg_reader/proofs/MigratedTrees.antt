@@ -63,7 +63,8 @@ unfolding text_at
 transition_text t = rw (transition_name t)
 
 -- a place
-ready_found : (ready : List ℕ) (to tokens : Data) → get_member (codes "ready") (with_ready ready (member (codes "to") to (member (codes "tokens") tokens no_members))) ≡ found_list (map number_data ready)
+ready_found : (ready : List ℕ) (to tokens : Data) → get_member (codes "ready")
+    (with_ready ready (member (codes "to") to (member (codes "tokens") tokens no_members))) ≡ found_list (map number_data ready)
 unfolding key_text
 ready_found [] to tokens = refl
 ready_found (d ∷ ds) to tokens = refl

@@ -1,5 +1,6 @@
 -- Texts as an index set keeps them, and the numbers of names.
-use Rattle.std.proofs.Common.{◌≡◌, ℕ, ◌+◌, ◌<◌, Bool, true, false, not, cond, ◌||◌, nat_lt, if◌then◌else◌, List, [], ◌∷◌, ◌++◌, length, get_or, drop, map, bytes_eq, Bor, Some, None, refl, ap, sym, ◌∙◌, append_assoc}
+use Rattle.std.proofs.Common.{◌≡◌, ℕ, ◌+◌, ◌<◌, Bool, true, false, not, cond, ◌||◌, nat_lt, if◌then◌else◌, List, [], ◌∷◌, ◌++◌, length, get_or, drop}
+use Rattle.std.proofs.Common.{map, bytes_eq, Bor, Some, None, refl, ap, sym, ◌∙◌, append_assoc}
 use Rattle.std.proofs.lemmas.Bool.{and_parts}
 use Rattle.std.proofs.lemmas.List.{drop_more}
 use Rattle.std.proofs.lemmas.Slice.Eq.{bytes_eq-Decides}
@@ -69,7 +70,8 @@ repeats t (k ∷ ks) rest h =
     (λ e. first_repeats k (ks ++ t ∷ rest) (rw (← same_text t k e) (among_later t ks rest)))
     (λ e. right_false (not (is_among (ks ++ t ∷ rest) k)) _ (repeats t ks rest e))
 
-pub repeats_here : (es : List Value) (i : ℕ) (v : Value) (ks : List TextKey) (n : TextKey) (added : Bool) (names : List (List ℕ)) → i < length es → v ≡ get_or es i v → n.now ≡ text_at key.Name (view v)
+pub repeats_here : (es : List Value) (i : ℕ) (v : Value) (ks : List TextKey) (n : TextKey) (added : Bool) (names : List (List ℕ))
+    → i < length es → v ≡ get_or es i v → n.now ≡ text_at key.Name (view v)
     → added ≡ not (list_any (λ k. bytes_eq n.now k.now) ks) → added ≡ false
     → map deref ks ++ names_from i es ≡ names → is_distinct names ≡ false
 repeats_here es i v ks n added names h is name test old before =

@@ -1,5 +1,6 @@
 -- The first text that stands twice, step by step.
-use Rattle.std.proofs.Common.{◌≡◌, ℕ, ◌+◌, ◌-◌, ◌<◌, Ordering, Bool, true, false, not, if◌then◌else◌, List, [], ◌∷◌, ◌++◌, map, take, get_or, length, bytes_eq, ◌||◌, Option, Some, None, refl, ap, sym, subst, ◌∙◌}
+use Rattle.std.proofs.Common.{◌≡◌, ℕ, ◌+◌, ◌-◌, ◌<◌, Ordering, Bool, true, false, not, if◌then◌else◌, List, [], ◌∷◌, ◌++◌, map, take, get_or, length}
+use Rattle.std.proofs.Common.{bytes_eq, ◌||◌, Option, Some, None, refl, ap, sym, subst, ◌∙◌}
 use Rattle.std.proofs.lemmas.List.{take_more, map-append}
 use Rattle.std.proofs.lemmas.List.Folds.{list_any-append}
 use Rattle.std.proofs.lemmas.Map.Text.{is_eq-slice_cmp}
@@ -81,7 +82,8 @@ rest_more section key es i v s k added all h is text test new seen before =
     rw (looked section key es i v false none) at opened
 
 -- the text of this entry was there
-pub repeated_here : (section : Section) (key : Key) (es : List Value) (i : ℕ) (v : Value) (s : BTreeSet TextKey) (k : TextKey) (added : Bool) (all : Option ReadRefusal) → i < length es → v ≡ get_or es i v
+pub repeated_here : (section : Section) (key : Key) (es : List Value) (i : ℕ) (v : Value) (s : BTreeSet TextKey) (k : TextKey)
+    (added : Bool) (all : Option ReadRefusal) → i < length es → v ≡ get_or es i v
     → k.now ≡ text_at key (view v) → added ≡ not (contains text_order s k) → added ≡ false → HasTexts s (texts_before key i es)
     → first_finding (repeats_earlier key (map view es)) section (i + 1) (entries_from i es) ≡ all → all ≡ Some (Repeated (spot_at section (i + 1)))
 repeated_here section key es i v s k added all h is text test old seen before =

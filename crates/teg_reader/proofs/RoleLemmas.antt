@@ -1,5 +1,6 @@
 -- The transition of a name, by its number and by its entry.
-use Rattle.std.proofs.Common.{◌≡◌, ℕ, zero, suc, ◌+◌, ◌<◌, Bool, true, false, not, cond, ◌||◌, nat_lt, if◌then◌else◌, List, [], ◌∷◌, map, length, get_or, bytes_eq, Option, Some, None, IsSomeAnd, slice_get, refl, ap, sym, subst, arith, codes}
+use Rattle.std.proofs.Common.{◌≡◌, ℕ, zero, suc, ◌+◌, ◌<◌, Bool, true, false, not, cond, ◌||◌, nat_lt, if◌then◌else◌, List, [], ◌∷◌, map, length}
+use Rattle.std.proofs.Common.{get_or, bytes_eq, Option, Some, None, IsSomeAnd, slice_get, refl, ap, sym, subst, arith, codes}
 use Rattle.std.proofs.lemmas.Bool.Decides.{nat_tests}
 use Rattle.std.specs.List.{position_or_len, position}
 use Rattle.std.proofs.lemmas.List.{length-map}
@@ -30,7 +31,8 @@ position_small false n i m e h = cc
 pub position_in : {A : Type 0} (p : A → Bool) (xs : List A) (i : ℕ) → position p xs ≡ Some i → i < length xs
 position_in p xs i h = position_small (nat_lt (position_or_len p xs) (length xs)) (position_or_len p xs) i (length xs) refl h
 
-pub find_at : (text : List ℕ) (es : List Value) (i : ℕ) (d : Value) → position_or_len (bytes_eq text) (entry_names (map view es)) ≡ i → i < length es → entry_named text (map view es) ≡ Some (view (get_or es i d))
+pub find_at : (text : List ℕ) (es : List Value) (i : ℕ) (d : Value) → position_or_len (bytes_eq text) (entry_names (map view es)) ≡ i
+    → i < length es → entry_named text (map view es) ≡ Some (view (get_or es i d))
 find_at text [] i d h lt = absurd (omega arith)
 find_at text (e ∷ es) i d h lt = step (bytes_eq text (text_at key.Name (view e))) i h lt (find_at text es) where
   step : (b : Bool) (i : ℕ) → cond (not b) (1 + position_or_len (bytes_eq text) (entry_names (map view es))) 0 ≡ i → i < suc (length es)

@@ -28,8 +28,10 @@ use Rattle.teg_reader.specs.ReadyDatePass.{ready_of, has_ready_for_each}
 use Rattle.teg_reader.specs.Documents.{refused, bad_entries, bad_graph, bad_places}
 use Rattle.teg_reader.proofs.Facts.{negated, or_false, differs, le_of, le_test}
 use Rattle.teg_reader.proofs.NumberLemmas.{TextKey}
-use Rattle.teg_reader.proofs.ClearLemmas.{neither, AreGood, good_entries, transitions_named, places_named, distinct, few, has_small_numbers, places_in_range, has_numbers_in_range, inputs_in_range, number_up_to}
-use Rattle.teg_reader.proofs.GraphLemmas.{IsGraph, good_graph, at_least_one, both_pass, has_known_texts, places_known, has_known_owner, owners_known, has_one_end, places_joined, has_known_ends, ends_known, enters_no_input, places_free}
+use Rattle.teg_reader.proofs.ClearLemmas.{neither, AreGood, good_entries, transitions_named, places_named, distinct, few, has_small_numbers}
+use Rattle.teg_reader.proofs.ClearLemmas.{places_in_range, has_numbers_in_range, inputs_in_range, number_up_to}
+use Rattle.teg_reader.proofs.GraphLemmas.{IsGraph, good_graph, at_least_one, both_pass, has_known_texts, places_known, has_known_owner, owners_known}
+use Rattle.teg_reader.proofs.GraphLemmas.{has_one_end, places_joined, has_known_ends, ends_known, enters_no_input, places_free}
 use Rattle.teg_reader.proofs.RoleLemmas.{number_in, is_input-from_named, named-from_is_input}
 use Rattle.teg_reader.proofs.InputLemmas.{IsGoodInput, good_input, every_small, dates_in}
 use Rattle.teg_reader.proofs.PlaceLemmas.{ready_for_each, has_small_hold, ArePlaces, good_places}
@@ -111,7 +113,8 @@ place_fits net ts p same good =
     }
 
 places_fit : (net : NetLists) (ts ps : List Data) → net.transitions ≡ map entry_transition ts
-    → list_all (has_known_ends (entry_names ts)) ps ≡ true → list_all (enters_no_input ts) ps ≡ true → list_all has_small_numbers ps ≡ true → list_all has_ready_for_each ps ≡ true → list_all (has_small_hold ts) ps ≡ true
+    → list_all (has_known_ends (entry_names ts)) ps ≡ true → list_all (enters_no_input ts) ps ≡ true
+    → list_all has_small_numbers ps ≡ true → list_all has_ready_for_each ps ≡ true → list_all (has_small_hold ts) ps ≡ true
     → All (IsPlaceOf net) (map (entry_place ts) ps)
 places_fit net ts [] same known free numbers ready holds = All-nil (IsPlaceOf net)
 places_fit net ts (p ∷ ps) same known free numbers ready holds =
@@ -155,7 +158,8 @@ same_number (n ∷ names) a b known same other = step (bytes_eq a n) (bytes_eq b
   step false true ea eb ka kb e later = absurd (omega (arith, e))
   step false false ea eb ka kb e later = later ka (omega (arith, e)) kb
 
-other_numbers : (names : List (List ℕ)) (text : List ℕ) (ls : List Data) → is_among names text ≡ true → list_all (has_known_owner names) ls ≡ true → is_among (map (text_at key.Transition) ls) text ≡ false
+other_numbers : (names : List (List ℕ)) (text : List ℕ) (ls : List Data) → is_among names text ≡ true
+    → list_all (has_known_owner names) ls ≡ true → is_among (map (text_at key.Transition) ls) text ≡ false
     → All (λ (l : InputList). position_or_len (bytes_eq text) names ≢ l.transition.index) (map (input_of names) ls)
 unfolding input_of id_of
 other_numbers names text [] known owners new = All-nil (λ (l : InputList). position_or_len (bytes_eq text) names ≢ l.transition.index)
@@ -211,8 +215,10 @@ net_rules top none =
       few_places = subst (λ n. n ≤ most_places) (sym ps_len) counts.places;
       transition_names = all_transitions_named ts (transitions_named top h.entries);
       place_names = all_places_named ts ps (places_named top h.entries);
-      distinct_transitions = pairs_of_map (λ (t : Transition). t.name) (map entry_transition ts) (subst (AllPairs (λ a b. a ≢ b)) (sym (transition_names ts)) (distinct_pairs (entry_names ts) distinct_names.transitions));
-      distinct_places = pairs_of_map (λ (p : Place). p.name) (map (entry_place ts) ps) (subst (AllPairs (λ a b. a ≢ b)) (sym (place_names ts ps)) (distinct_pairs (entry_names ps) distinct_names.places));
+      distinct_transitions = pairs_of_map (λ (t : Transition). t.name) (map entry_transition ts)
+          (subst (AllPairs (λ a b. a ≢ b)) (sym (transition_names ts)) (distinct_pairs (entry_names ts) distinct_names.transitions));
+      distinct_places = pairs_of_map (λ (p : Place). p.name) (map (entry_place ts) ps)
+          (subst (AllPairs (λ a b. a ≢ b)) (sym (place_names ts ps)) (distinct_pairs (entry_names ps) distinct_names.places));
       each_place = places_fit _ ts ps refl (joined top h) (places_free top h.graph) (places_in_range top h.entries) h.places.ready h.places.holds;
       one_list = one_list (entry_names ts) ls distinct_names.inputs (owners_known top h.graph.known);
       each_input = inputs_fit _ ts ls refl h.graph.inputs (inputs_in_range top h.entries);
@@ -226,7 +232,8 @@ sound_place names d name numbers known =
     let c = and_parts (is_between_at key.Tokens 0 most_place_tokens d) _ a.1 in
     rw (name, le_test _ _ (number_up_to key.Tokens most_place_tokens d c.0), b.0, b.1)
 
-sound_places_of : (names : List (List ℕ)) (ps : List Data) → list_all has_good_name ps ≡ true → list_all has_small_numbers ps ≡ true → list_all (has_known_ends names) ps ≡ true → list_all (is_sound_place names) ps ≡ true
+sound_places_of : (names : List (List ℕ)) (ps : List Data) → list_all has_good_name ps ≡ true → list_all has_small_numbers ps ≡ true
+    → list_all (has_known_ends names) ps ≡ true → list_all (is_sound_place names) ps ≡ true
 sound_places_of names [] good numbers known = refl
 sound_places_of names (p ∷ ps) good numbers known =
     let a = and_parts (has_good_name p) _ good in

@@ -91,7 +91,8 @@ repeats_plain key es spot d h = plain_if _ _ (record { spot = h; no_memory = ref
 repeated_plain : (top : Data) → IsPlainFinding (repeated top)
 unfolding repeated repeated_at
 repeated_plain top =
-    plain_either (repeated_at section.Transition key.Name (array_at key.Transition top)) _ (plain_first _ section.Transition 1 (array_at key.Transition top) (repeats_plain key.Name (array_at key.Transition top)) (λ e. cc))
+    plain_either (repeated_at section.Transition key.Name (array_at key.Transition top)) _
+    (plain_first _ section.Transition 1 (array_at key.Transition top) (repeats_plain key.Name (array_at key.Transition top)) (λ e. cc))
     (plain_either (repeated_at section.Place key.Name (array_at key.Place top)) _ (plain_first _ section.Place 1 (array_at key.Place top) (repeats_plain key.Name (array_at key.Place top)) (λ e. cc))
     (plain_first _ section.Input 1 (array_at key.Input top) (repeats_plain key.Transition (array_at key.Input top)) (λ e. cc)))
 

@@ -44,7 +44,9 @@ lists_put (i ∷ is) (p ∷ ps) [] version = refl
 lists_put (i ∷ is) (p ∷ ps) (t ∷ ts) version = refl
 
 pub table_put : (net : NetLists)
-    → with_list key.Input (map (input_entry net.transitions) net.inputs) (with_list key.Place (map (place_entry net.transitions) net.places) (with_list key.Transition (map transition_entry net.transitions) (with_member (key_text key.Version) (number_data 2) no_members)))
+    → with_list key.Input (map (input_entry net.transitions) net.inputs)
+    (with_list key.Place (map (place_entry net.transitions) net.places)
+    (with_list key.Transition (map transition_entry net.transitions) (with_member (key_text key.Version) (number_data 2) no_members)))
     ≡ migrated net
 unfolding key_text migrated
 table_put net = lists_put (map (input_entry net.transitions) net.inputs) (map (place_entry net.transitions) net.places) (map transition_entry net.transitions) (number_data 2)

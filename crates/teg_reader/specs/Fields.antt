@@ -16,7 +16,8 @@ field key kind needed = record { key = key; kind = kind; needed = needed }
 unfoldable pub fields_of : Section → List Field
 fields_of section.Top = field key.Version Integer false ∷ field key.Transition Tables false ∷ field key.Place Tables false ∷ field key.Input Tables false ∷ []
 fields_of section.Transition = field key.Name Text true ∷ field key.Role Text false ∷ field key.Duration Integer false ∷ []
-fields_of section.Place = field key.Name Text true ∷ field key.From Texts true ∷ field key.To Texts true ∷ field key.Hold Integer false ∷ field key.Tokens Integer false ∷ field key.Ready Integers false ∷ []
+fields_of section.Place = field key.Name Text true ∷ field key.From Texts true ∷ field key.To Texts true ∷ field key.Hold Integer
+    false ∷ field key.Tokens Integer false ∷ field key.Ready Integers false ∷ []
 fields_of section.Input = field key.Transition Text true ∷ field key.Dates Integers true ∷ field key.Every Integer false ∷ field key.Gap Integer false ∷ []
 
 -- the keys that a section's tables list: a transition has a duration in files of the second version only

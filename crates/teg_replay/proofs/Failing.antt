@@ -29,7 +29,8 @@ pub stands_to_least : (net : NetLists) (run : List Fired) (f : Fired) (firing : 
     → StandsToLeastDates net run firing
 stands_to_least net run f firing ok legal g told live x h = record {
   not_early = rw (told.transition, told.number, told.date)
-      (open_least net x run f.transition.index (next_number run f.transition.index) f.date ok live h (not_early net x run ok live h legal) g.transition_in (omega arith) (legal_open net run f legal g));
+      (open_least net x run f.transition.index (next_number run f.transition.index) f.date ok live h
+      (not_early net x run ok live h legal) g.transition_in (omega arith) (legal_open net run f legal g));
   earliest = λ dated. rw (told.transition, told.number) (earliest_least net x run f.transition.index firing.earliest ok live h dated g.transition_in told.earliest);
 }
 
@@ -39,7 +40,8 @@ mapped (row ∷ rows) zero d e l = refl
 mapped (row ∷ rows) (suc n) d e l = mapped rows n d e (omega arith)
 
 -- a row that fails after the rows before it is in no legal run
-fails_in_run : (net : NetLists) (rows : List LogRow) (i : ℕ) (run : List Fired) (row : LogRow) (why : FireRefusal) → i < length rows → ((d : LogRow) → get_or rows i d ≡ row) → run ≡ run_of (take i rows)
+fails_in_run : (net : NetLists) (rows : List LogRow) (i : ℕ) (run : List Fired) (row : LogRow) (why : FireRefusal) → i < length rows
+    → ((d : LogRow) → get_or rows i d ≡ row) → run ≡ run_of (take i rows)
     → IsRightFireRefusal net run (fired_of row) why → IsFailure why → IsLegalRun net (run_of rows) → ⊥
 fails_in_run net rows i run row why l is r right failed legal =
     let long : length (run_of rows) ≡ length rows = length-map rows fired_of in

@@ -58,7 +58,8 @@ pub record PositionsUpTo (net : NetLists) (positions : List (Option ℕ)) (i : �
   pub width : length positions ≡ length net.transitions
   pub each : (t : ℕ) → t < length net.transitions → input_list_at net.inputs (get_or positions t None) ≡ find (λ l. l.transition.index == t) (take i net.inputs)
 
-pub positions_more : (net : NetLists) (positions : List (Option ℕ)) (i to : ℕ) → IsNet net → PositionsUpTo net positions i → i < length net.inputs → (get_or net.inputs i no_list).transition.index ≡ to → to < length net.transitions
+pub positions_more : (net : NetLists) (positions : List (Option ℕ)) (i to : ℕ) → IsNet net → PositionsUpTo net positions i
+    → i < length net.inputs → (get_or net.inputs i no_list).transition.index ≡ to → to < length net.transitions
     → PositionsUpTo net (set positions to (Some i)) (i + 1)
 positions_more net positions i to ok h in' e to_in =
     let own : InputList = get_or net.inputs i no_list in

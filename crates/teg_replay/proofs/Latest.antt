@@ -85,7 +85,8 @@ first_late net run f k ids i latest id there into h l is number date late = reco
 }
 
 -- the same of the place that stands at i
-pub late_at : (net : NetLists) (run : List Fired) (f : Fired) (k : ℕ) (ids : List PlaceId) (i latest : ℕ) (there : Option ℕ) → AreInto net f.transition.index ids → LatestUpTo net run f k ids i latest → i < length ids
+pub late_at : (net : NetLists) (run : List Fired) (f : Fired) (k : ℕ) (ids : List PlaceId) (i latest : ℕ) (there : Option ℕ)
+    → AreInto net f.transition.index ids → LatestUpTo net run f k ids i latest → i < length ids
     → k ≡ next_number run f.transition.index → there ≡ token_date run (place_at net (get_or ids i no_id)) k → (IsThereBy f.date there → ⊥) → IsFirstLateToken net run f (get_or ids i no_id) there
 late_at net run f k ids i latest there into h l number date late =
     first_late net run f k ids i latest (get_or ids i no_id) there into h l (λ d. get_or_default ids i d no_id l) number date late

@@ -55,7 +55,8 @@ right_fails net run f (BeforeRelease release) h n = h
 right_fails net run f OutOfMemory h n = absurd n
 
 -- the answer where the row is refused
-pub replay_refused : {E : Type 0} (net : NetLists) (rows : List LogRow) (before now : List Firing → List (List ℕ)) (firings : List Firing) (i accepted : ℕ) (run : List Fired) (row : LogRow) (why : FireRefusal) (result : Result Replayed E)
+pub replay_refused : {E : Type 0} (net : NetLists) (rows : List LogRow) (before now : List Firing → List (List ℕ))
+    (firings : List Firing) (i accepted : ℕ) (run : List Fired) (row : LogRow) (why : FireRefusal) (result : Result Replayed E)
     → AreFiringsOf net rows firings → WereShown before now firings → length firings ≡ i → accepted ≡ i → i < length rows → ((d : LogRow) → get_or rows i d ≡ row) → run ≡ run_of (take i rows)
     → IsRightFireRefusal net run (fired_of row) why
     → IfOk result (λ replayed. replayed ≡ record { accepted = accepted; refused = Some (record { row = row.row; why = why }) }) → IfOk result (λ _. IsFailure why) → Replays net rows before now result

@@ -1,5 +1,7 @@
 -- An answer on cycle times that is a certificate, and has a best part, can be told.
-use Rattle.std.proofs.Common.{◌≡◌, ℕ, zero, suc, ◌+◌, ◌*◌, ◌<◌, ◌≤◌, ◌^◌, ◌+ℤ◌, ◌≤ℤ◌, ℤ, pos, negsuc, unsigned_abs, true, false, ◌==◌, ◌&&◌, ◌⊎◌, ⊎_elim, inl, inr, Option, Some, None, List, [], ◌∷◌, All, AllPairs, Contains, map, length, get_or, slice_index_or, refl, ap, ap₂, sym, subst, ◌∙◌, arith, eq-eqb, eqb-true}
+use Rattle.std.proofs.Common.{◌≡◌, ℕ, zero, suc, ◌+◌, ◌*◌, ◌<◌, ◌≤◌, ◌^◌, ◌+ℤ◌, ◌≤ℤ◌, ℤ, pos, negsuc, unsigned_abs, true, false, ◌==◌, ◌&&◌, ◌⊎◌}
+use Rattle.std.proofs.Common.{⊎_elim, inl, inr, Option, Some, None, List, [], ◌∷◌, All, AllPairs, Contains, map, length, get_or, slice_index_or, refl}
+use Rattle.std.proofs.Common.{ap, ap₂, sym, subst, ◌∙◌, arith, eq-eqb, eqb-true}
 use Rattle.std.proofs.lemmas.Bool.{cases_Bool, cases_lt, lt-ltb, and_parts, false_from_ne_true}
 use Rattle.std.proofs.lemmas.List.{get_or_default, get_or-map, length-map, map-id}
 use Rattle.std.proofs.lemmas.List.Elements.{All-cons}
@@ -83,7 +85,8 @@ only_members : (k : ℕ) (ps : List ℕ) (part t : ℕ) → Contains (numbers_of
 only_members k [] part t h = absurd (nothing_in t h)
 only_members k (p ∷ ps) part t h =
     ⊎_elim
-    (λ (e : (p == part) ≡ true). ⊎_elim (λ (q : k ≡ t). (zero, omega arith, omega (arith, q), eqb-true p part e)) (λ (m : Contains (numbers_of (members_from (k + 1) ps part)) t). next_member k p ps part t (only_members (k + 1) ps part t m))
+    (λ (e : (p == part) ≡ true). ⊎_elim (λ (q : k ≡ t). (zero, omega arith, omega (arith, q), eqb-true p part e))
+    (λ (m : Contains (numbers_of (members_from (k + 1) ps part)) t). next_member k p ps part t (only_members (k + 1) ps part t m))
     (head_or_tail k (numbers_of (members_from (k + 1) ps part)) t (rw e at h)))
     (λ (e : (p == part) ≡ false). next_member k p ps part t (only_members (k + 1) ps part t (rw e at h)))
     (cases_Bool (p == part))
@@ -138,9 +141,11 @@ below_zero n m h = rw (lt-ltb greatest_checked_potential (suc n) m) at h.le
 
 small : (z : ℤ) → IsMagnitudeWithin greatest_checked_potential z → unsigned_abs z < 2 ^ 128
 small (pos n) h = let few : n ≤ greatest_checked_potential = leb→le n greatest_checked_potential h.high.le in omega (arith, few)
-small (negsuc n) h = ⊎_elim (λ (m : greatest_checked_potential < suc n). absurd (below_zero n m h.low)) (λ (w : suc n ≤ greatest_checked_potential). omega (arith, w)) (cases_lt greatest_checked_potential (suc n))
+small (negsuc n) h = ⊎_elim (λ (m : greatest_checked_potential < suc n). absurd (below_zero n m h.low))
+    (λ (w : suc n ≤ greatest_checked_potential). omega (arith, w)) (cases_lt greatest_checked_potential (suc n))
 
-part_told : (net : NetLists) (part_of : List ℕ) (n : ℕ) (part : PartAnswer) → length part_of ≡ length net.transitions → IsPartCertificate net part_of n part → IsPartTold net (members_from 0 part_of n) (part_lists part)
+part_told : (net : NetLists) (part_of : List ℕ) (n : ℕ) (part : PartAnswer) → length part_of ≡ length net.transitions
+    → IsPartCertificate net part_of n part → IsPartTold net (members_from 0 part_of n) (part_lists part)
 part_told net part_of n NoCircuit full h = tt
 part_told net part_of n (Best ratio circuit potentials) full h = record {
   time = omega (arith, h.time_in);

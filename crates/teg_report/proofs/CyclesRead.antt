@@ -1,5 +1,6 @@
 -- Cycle times are read back from their lines.
-use Rattle.std.proofs.Common.{◌≡◌, ◌≢◌, ℕ, suc, zero, ◌+◌, ◌<◌, ◌≤◌, true, false, not, ◌==◌, ⊎_elim, Option, Some, None, IfSome, List, [], ◌∷◌, ◌++◌, All, map, refl, ap, ap₂, sym, subst, ◌∙◌, append_assoc, append-nil, length, get_or, drop, arith, eq-eqb, ne_eqb}
+use Rattle.std.proofs.Common.{◌≡◌, ◌≢◌, ℕ, suc, zero, ◌+◌, ◌<◌, ◌≤◌, true, false, not, ◌==◌, ⊎_elim, Option, Some, None, IfSome, List, [], ◌∷◌, ◌++◌}
+use Rattle.std.proofs.Common.{All, map, refl, ap, ap₂, sym, subst, ◌∙◌, append_assoc, append-nil, length, get_or, drop, arith, eq-eqb, ne_eqb}
 use Rattle.std.proofs.lemmas.Bool.{cases_Bool}
 use Rattle.std.proofs.lemmas.Simd.{map-map}
 use Rattle.std.proofs.lemmas.List.Elements.{All-cons}
@@ -12,7 +13,9 @@ use Rattle.teg_net.specs.declared.answers.Potential.{Potential}
 use Rattle.teg_net.specs.declared.entries.TransitionId.{TransitionId}
 use Rattle.teg_net.specs.Nets.{NetLists, IsNet}
 use Rattle.teg_net.specs.Ratios.{Fraction}
-use Rattle.teg_report.specs.Cycles.{potential_in, part_in, members_in, is_member, is_part, is_part_line, told_in, parts_in, cycle_in, CycleLists, ToldPart, NoCircuitIn, BestOf, members_from, member_line, potential_line, part_lines, told_part_at, best_lines, cycle_lines, IsPotentialIn, IsPartTold, has_ratio, IsFirstOfRatio, IsCycleTold}
+use Rattle.teg_report.specs.Cycles.{potential_in, part_in, members_in, is_member, is_part, is_part_line, told_in, parts_in, cycle_in, CycleLists}
+use Rattle.teg_report.specs.Cycles.{ToldPart, NoCircuitIn, BestOf, members_from, member_line, potential_line, part_lines, told_part_at, best_lines}
+use Rattle.teg_report.specs.Cycles.{cycle_lines, IsPotentialIn, IsPartTold, has_ratio, IsFirstOfRatio, IsCycleTold}
 use Rattle.teg_report.specs.RoundLines.{is_first_round, round_in, rounds_in_lines, some_runs, IsRunKept, RoundLists, AreRoundsTold, circuits_in, runs_lines, told_runs}
 use Rattle.teg_report.specs.Answering.{answer_of}
 use Rattle.teg_report.specs.AnswerValues.{Cycle}
@@ -51,7 +54,8 @@ members_within : (k : ℕ) (ps : List ℕ) (part n : ℕ) → k + length ps ≤ 
 members_within k [] part n h = λ i d l. absurd (omega (arith, l))
 members_within k (p ∷ ps) part n h =
     let rest = members_within (k + 1) ps part n (omega (arith, h)) in
-    ⊎_elim (λ (q : (p == part) ≡ true). rw q (All-cons (λ t. t.index < n) (record { index = k }) (members_from (k + 1) ps part) (omega (arith, h)) rest)) (λ (q : (p == part) ≡ false). rw q rest) (cases_Bool (p == part))
+    ⊎_elim (λ (q : (p == part) ≡ true). rw q (All-cons (λ t. t.index < n) (record { index = k }) (members_from (k + 1) ps part)
+    (omega (arith, h)) rest)) (λ (q : (p == part) ≡ false). rw q rest) (cases_Bool (p == part))
 
 -- lines and parts
 
@@ -67,11 +71,13 @@ record IsPartRead (net : NetLists) (part_of : List ℕ) (n : ℕ) (part : ToldPa
   back : part_in net (part_lines net part_of n part) ≡ part
   members : members_in net (part_lines net part_of n part) ≡ members_from 0 part_of n
 
-part_read : (net : NetLists) (part_of : List ℕ) (n : ℕ) (part : ToldPart) → IsNet net → length part_of ≡ length net.transitions → IsPartTold net (members_from 0 part_of n) part → IsPartRead net part_of n part
+part_read : (net : NetLists) (part_of : List ℕ) (n : ℕ) (part : ToldPart) → IsNet net → length part_of ≡ length net.transitions
+    → IsPartTold net (members_from 0 part_of n) part → IsPartRead net part_of n part
 part_read net part_of n NoCircuitIn rules full h =
     let within = members_within 0 part_of n (length net.transitions) (omega (arith, full)) in
     record {
-      words = rw (decimal_is_word (n + 1)) (map_passes (λ t. t.index < length net.transitions) is_line (member_line net) (λ t l. rw (transition_is_word net t rules l) refl) (members_from 0 part_of n) within);
+      words = rw (decimal_is_word (n + 1)) (map_passes (λ t. t.index < length net.transitions) is_line (member_line net)
+          (λ t l. rw (transition_is_word net t rules l) refl) (members_from 0 part_of n) within);
       block = map_passes (λ t. t.index < length net.transitions) (λ l. not (is_part_line l)) (member_line net) (λ t l. refl) (members_from 0 part_of n) within;
       back = refl;
       members = map_back (λ t. t.index < length net.transitions) (member_line net) (λ line. transition_in net (word 1 line)) (λ t l. transition_back net t rules l) (members_from 0 part_of n) within;
@@ -83,10 +89,12 @@ part_read net part_of n (BestOf ratio circuit potentials) rules full h =
       words = rw (decimal_is_word (n + 1), ratio_is_word ratio.time ratio.tokens, places.passes circuit h.circuit_in) (values.passes potentials h.potentials_in);
       block = map_passes (IsPotentialIn net) (λ l. not (is_part_line l)) (potential_line net) (λ p l. refl) potentials h.potentials_in;
       back = λ i. BestOf (ratio_back ratio h.time h.tokens i) (places.back circuit h.circuit_in i) (values.back potentials h.potentials_in i);
-      members = sym (map-map (λ (p : Potential). p.transition) (potential_in net) (map (potential_line net) potentials)) ∙ (ap (map (λ (p : Potential). p.transition)) (values.back potentials h.potentials_in) ∙ h.members_are);
+      members = sym (map-map (λ (p : Potential). p.transition) (potential_in net) (map (potential_line net) potentials))
+          ∙ (ap (map (λ (p : Potential). p.transition)) (values.back potentials h.potentials_in) ∙ h.members_are);
     }
 
-best_read : (net : NetLists) (parts : List ToldPart) (best : ℕ) (part : ToldPart) (members : List TransitionId) (rest : List (List (List ℕ))) → IsNet net → best < length parts → told_part_at parts best ≡ part →
+best_read : (net : NetLists) (parts : List ToldPart) (best : ℕ) (part : ToldPart) (members : List TransitionId)
+    (rest : List (List (List ℕ))) → IsNet net → best < length parts → told_part_at parts best ≡ part →
     IsFirstOfRatio parts best part → IsPartTold net members part →
     (are_lines (best_lines net part) ≡ true) × (drop 2 (best_lines net part ++ rest) ≡ rest) × (first_where (has_ratio (ratio_of_word (word 2 (line_at 0 (best_lines net part ++ rest))))) parts ≡ best)
 best_read net parts best NoCircuitIn members rest rules l e first h = absurd first
@@ -155,7 +163,9 @@ lines_read net answer best rounds rules h best_in first told kept =
     ∙ ap₂ (λ (a b : List (List (List ℕ))). a ++ b) (flat_map-map (λ (b : List (List (List ℕ))). b) f (range_with_len 0 count)) read.flat) in
     let blocks : told_in lines ≡ parts_told ++ rounds_told_ =
     ap (λ (ls : List (List (List ℕ))). (blocks_in is_part_line ls).blocks) (head.1 ∙ flat)
-    ∙ (ap (λ (b : LineBlocks (List (List ℕ))). b.blocks) (blocks_back is_part_line (λ b. is_block is_part_line b ≡ true) (λ b. b) (λ b t. t) (parts_told ++ rounds_told_) (all_pass (is_block is_part_line) (parts_told ++ rounds_told_) all))
+    ∙ (ap (λ (b : LineBlocks (List (List ℕ))). b.blocks)
+    (blocks_back is_part_line (λ b. is_block is_part_line b ≡ true) (λ b. b) (λ b t. t) (parts_told ++ rounds_told_)
+    (all_pass (is_block is_part_line) (parts_told ++ rounds_told_) all))
     ∙ map-id (parts_told ++ rounds_told_)) in
     let only_parts : parts_in lines ≡ parts_told =
     ap (those is_part) blocks ∙ (those_append is_part parts_told rounds_told_
@@ -170,7 +180,8 @@ lines_read net answer best rounds rules h best_in first told kept =
     (those_all (λ b. not (is_part b)) rounds_told_ read.rounds)) in
     let parts : map (part_in net) (parts_in lines) ≡ answer.parts = ap (map (part_in net)) only_parts ∙ row_back (part_in net) f count answer.parts NoCircuitIn refl (λ n l. (each n l).back) in
     let members : map (members_in net) (parts_in lines) ≡ map (members_from 0 answer.part_of) (range_with_len 0 count) =
-    ap (map (members_in net)) only_parts ∙ row_back (members_in net) f count (map (members_from 0 answer.part_of) (range_with_len 0 count)) [] (length-map-range_with_len (members_from 0 answer.part_of) 0 count)
+    ap (map (members_in net)) only_parts ∙ row_back (members_in net) f count
+    (map (members_from 0 answer.part_of) (range_with_len 0 count)) [] (length-map-range_with_len (members_from 0 answer.part_of) 0 count)
     (λ n l. (each n l).members ∙ sym (get_or-map-range_with_len (members_from 0 answer.part_of) 0 count n n [] l (omega arith))) in
     let part_of : map (λ t. first_where (is_member t) (map (members_in net) (parts_in lines))) (range_with_len 0 (length net.transitions)) ≡ answer.part_of =
     ap (λ (ms : List (List TransitionId)). map (λ t. first_where (is_member t) ms) (range_with_len 0 (length net.transitions))) members
@@ -178,7 +189,8 @@ lines_read net answer best rounds rules h best_in first told kept =
     (λ t l. part_of_back answer.part_of count t (omega (arith, l, h.full)) h.part_of_in) in
     record {
       words = all_append is_line (best_lines net (told_part_at answer.parts best)) rest head.0
-          (all_append is_line (flat_map f (range_with_len 0 count)) (runs_lines net runs) (flat_passes (λ n. n < count) is_line f (λ n l. (each n l).words) (range_with_len 0 count) within) read.words);
+          (all_append is_line (flat_map f (range_with_len 0 count)) (runs_lines net runs)
+          (flat_passes (λ n. n < count) is_line f (λ n l. (each n l).words) (range_with_len 0 count) within) read.words);
       part_of = part_of;
       parts = parts;
       best = ap (first_where (has_ratio (ratio_of_word (word 2 (line_at 0 lines))))) parts ∙ head.2;
@@ -195,7 +207,8 @@ begins net names answer (BestOf ratio circuit potentials) best rest first = refl
 
 by_best : (net : NetLists) (part_of : List ℕ) (parts : List ToldPart) (best : Option ℕ) (rounds : Option (List (List RoundLists))) → IsNet net →
     IsCycleTold net (record { part_of = part_of; parts = parts; best = best }) → AreRoundsTold net parts rounds → IfSome rounds (λ runs. All IsRunKept runs) →
-    IsRead net (cycle_lines net (record { part_of = part_of; parts = parts; best = best }) ++ runs_lines net (told_runs parts rounds)) (Cycle (record { part_of = part_of; parts = parts; best = best }) rounds)
+    IsRead net (cycle_lines net (record { part_of = part_of; parts = parts; best = best }) ++ runs_lines net (told_runs parts rounds))
+    (Cycle (record { part_of = part_of; parts = parts; best = best }) rounds)
 by_best net part_of parts None rounds rules h told kept = absurd h.best
 by_best net part_of parts (Some best) rounds rules h told kept =
     let answer : CycleLists = (record { part_of = part_of; parts = parts; best = Some best }) in

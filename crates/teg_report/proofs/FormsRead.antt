@@ -45,6 +45,8 @@ form_read form kept net rules h =
     let entries_of : All (IsEntryOf net) form.entries = λ i d l. record { to_in = h.entries_to i d l; from_in = h.entries_from i d l; numbers = kept.1 i d l } in
     let apart = joined_back is_star (star_line net) (entry_line net) (λ e. refl) (λ e. refl) form.stars form.entries in
     record {
-      words = rw (decimal_is_word (length form.stars), decimal_is_word (length form.entries)) (all_append is_line (map (star_line net) form.stars) (map (entry_line net) form.entries) (stars.passes form.stars stars_of) (entries.passes form.entries entries_of));
+      words = rw (decimal_is_word (length form.stars), decimal_is_word (length form.entries))
+          (all_append is_line (map (star_line net) form.stars) (map (entry_line net) form.entries) (stars.passes form.stars stars_of)
+          (entries.passes form.entries entries_of));
       back = rw (apart.0, apart.1, stars.back form.stars stars_of, entries.back form.entries entries_of) refl;
     }

@@ -40,6 +40,8 @@ pub list_read : (table : TableDates) → IsDateTable table → All IsDate table.
 list_read table h kept net rules width = record {
   words = list_words net (date_at table) table.count rules;
   back = ap Listed
-      (subst (λ (w : ℕ). table_in net (list_lines net (date_at (record { width = w; count = table.count; dates = table.dates })) table.count) ≡ record { width = w; count = table.count; dates = table.dates })
+      (subst (λ (w : ℕ). table_in net (list_lines net
+      (date_at (record { width = w; count = table.count; dates = table.dates })) table.count) ≡ record
+      { width = w; count = table.count; dates = table.dates })
       (sym width) (table_of net table.count table.dates h.count_in kept (h.full ∙ ap (λ (w : ℕ). table.count * w) width)));
 }

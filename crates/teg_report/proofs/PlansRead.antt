@@ -1,5 +1,7 @@
 -- Plans, and firings that are later than due, are read back from their lines.
-use Rattle.std.proofs.Common.{◌≡◌, ℕ, zero, suc, ◌+◌, ◌-◌, ◌*◌, ◌/◌, ◌%◌, ◌<◌, ◌≤◌, true, false, ◌==◌, ⊎_elim, Option, Some, None, List, [], ◌∷◌, ◌++◌, map, length, get_or, slice_index_or, refl, ap, sym, ◌∙◌, arith, decimal, eqb-true, codes, div-add-mod', div-lt_iff_lt-mul, mod-lt}
+use Rattle.std.proofs.Common.{◌≡◌, ℕ, zero, suc, ◌+◌, ◌-◌, ◌*◌, ◌/◌, ◌%◌, ◌<◌, ◌≤◌, true, false, ◌==◌, ⊎_elim, Option, Some, None, List, [], ◌∷◌}
+use Rattle.std.proofs.Common.{◌++◌, map, length, get_or, slice_index_or, refl, ap, sym, ◌∙◌, arith, decimal, eqb-true, codes, div-add-mod'}
+use Rattle.std.proofs.Common.{div-lt_iff_lt-mul, mod-lt}
 use Rattle.std.proofs.lemmas.Bool.{and_from, cases_Bool}
 use Rattle.std.proofs.lemmas.List.{get_or_append_left, get_or-append-add}
 use Rattle.std.proofs.lemmas.List.FromFn.{get_or-map-range_with_len, length-map-range_with_len}
@@ -18,7 +20,9 @@ use Rattle.teg_net.specs.declared.walks.Step.TheVariants.{By, Next}
 use Rattle.teg_net.specs.Circuits.{place_at, no_place}
 use Rattle.teg_net.specs.Nets.{NetLists, IsNet}
 use Rattle.teg_net.specs.Walks.{Walks}
-use Rattle.teg_report.specs.PlanLines.{latest_in_line, late_in, onward_in, plan_in_lines, steps_in, AreLateNumbers, AreLatestKept, IsLateKept, IsLatestKept, IsLateIn, IsLatePlanTold, IsLatestIn, IsOnwardIn, IsPlanIn, LateLists, late_line, late_lines, latest_words, onward_words, path_line, plan_lines, planned_line, planned_lines, role_word, steps_words}
+use Rattle.teg_report.specs.PlanLines.{latest_in_line, late_in, onward_in, plan_in_lines, steps_in, AreLateNumbers, AreLatestKept, IsLateKept}
+use Rattle.teg_report.specs.PlanLines.{IsLatestKept, IsLateIn, IsLatePlanTold, IsLatestIn, IsOnwardIn, IsPlanIn, LateLists, late_line, late_lines}
+use Rattle.teg_report.specs.PlanLines.{latest_words, onward_words, path_line, plan_lines, planned_line, planned_lines, role_word, steps_words}
 use Rattle.teg_report.specs.AnswerValues.{Jit, Late}
 use Rattle.teg_report.proofs.IsRead.{IsRead}
 use Rattle.teg_text.proofs.NamesRead.{place_back, place_is_word, transition_back, transition_is_word}

@@ -2,7 +2,8 @@
 use Rattle.std.proofs.Common.{IsSomeAnd, IfSome, ◌≡◌, refl, Option, None, Some}
 use Rattle.teg_net.specs.Nets.{NetLists, IsNet}
 use Rattle.teg_report.specs.Answering.{answer_of, answer_in, AreOfOneNet, IsNamedBy}
-use Rattle.teg_report.specs.AnswerValues.{Answer, Usage, Live, Listed, Form, NoCircuit, Cycle, Dates, Date, Jit, Late, Slack, Transfer, Replayed, Refused, Calc, Trial, Read, TooLarge, TokenFree, NoTransition, Due, Log, TooLong, Parse, Series, Fault}
+use Rattle.teg_report.specs.AnswerValues.{Answer, Usage, Live, Listed, Form, NoCircuit, Cycle, Dates, Date, Jit, Late, Slack, Transfer, Replayed}
+use Rattle.teg_report.specs.AnswerValues.{Refused, Calc, Trial, Read, TooLarge, TokenFree, NoTransition, Due, Log, TooLong, Parse, Series, Fault}
 use Rattle.teg_report.specs.KeptAnswers.{IsAnswerTold}
 use Rattle.teg_report.specs.Reports.{lines_of, names_from, text_of}
 use Rattle.teg_report.proofs.IsRead.{IsRead, with_net}

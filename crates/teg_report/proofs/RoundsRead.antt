@@ -1,5 +1,6 @@
 -- Rounds are read back from their lines.
-use Rattle.std.proofs.Common.{◌≡◌, ℕ, zero, suc, ◌+◌, ◌<◌, ◌≤◌, ◌^◌, Bool, true, false, not, ⊎_elim, Option, Some, None, IfSome, List, [], ◌∷◌, ◌++◌, All, map, refl, ap, ap₂, ◌∙◌, length, slice_index_or, arith, decimal, ◌==◌, eq-eqb, ne_eqb}
+use Rattle.std.proofs.Common.{◌≡◌, ℕ, zero, suc, ◌+◌, ◌<◌, ◌≤◌, ◌^◌, Bool, true, false, not, ⊎_elim, Option, Some, None, IfSome, List, [], ◌∷◌, ◌++◌}
+use Rattle.std.proofs.Common.{All, map, refl, ap, ap₂, ◌∙◌, length, slice_index_or, arith, decimal, ◌==◌, eq-eqb, ne_eqb}
 use Rattle.std.proofs.lemmas.Bool.{and_from, and_parts, cases_Bool, not-true}
 use Rattle.std.proofs.lemmas.Simd.{map-map}
 use Rattle.std.proofs.lemmas.List.Elements.{All-cons, All-head, All-tail}
@@ -9,7 +10,9 @@ use Rattle.std.proofs.lemmas.List.FromFn.{get_or-range_with_len, length-range_wi
 use Rattle.std.specs.List.{flat_map, list_all, range_with_len}
 use Rattle.teg_net.specs.declared.rounds.Choice.{Choice}
 use Rattle.teg_net.specs.Nets.{NetLists, IsNet}
-use Rattle.teg_report.specs.RoundLines.{choice_in_line, is_first_round, round_in, some_runs, IsChoiceKept, IsRoundKept, IsRunKept, RoundLists, Run, no_round, choice_line, round_lines, run_lines, runs_lines, circuits_in, runs_from, told_runs, IsChoiceIn, IsRoundIn, IsRunIn, AreRoundsTold}
+use Rattle.teg_report.specs.RoundLines.{choice_in_line, is_first_round, round_in, some_runs, IsChoiceKept, IsRoundKept, IsRunKept, RoundLists, Run}
+use Rattle.teg_report.specs.RoundLines.{no_round, choice_line, round_lines, run_lines, runs_lines, circuits_in, runs_from, told_runs, IsChoiceIn}
+use Rattle.teg_report.specs.RoundLines.{IsRoundIn, IsRunIn, AreRoundsTold}
 use Rattle.teg_report.specs.Cycles.{is_part, is_part_line, ToldPart, NoCircuitIn, BestOf}
 use Rattle.teg_text.proofs.NamesRead.{circuits, place_back, place_is_word, ratio_back, transition_back, transition_is_word}
 use Rattle.teg_text.specs.Lines.{is_line, are_lines}

@@ -50,7 +50,9 @@ series_back f h =
 pub series_read : (names : NetLists) (f : SeriesForm) → IsSeriesKept f → IsRead names (series_line f ∷ []) (Calc f)
 series_read names f h = record {
   words = and_from _ _
-      (all_append is_word (told_values f) (told_numbers f) (map_passes (λ (d : Date). ⊤) is_word date_word (λ d _. date_is_word d) f.values (λ i d l. tt)) (rw (decimal_is_word f.period, signed_is_word f.step) refl)) refl;
+      (all_append is_word (told_values f) (told_numbers f)
+      (map_passes (λ (d : Date). ⊤) is_word date_word (λ d _. date_is_word d) f.values (λ i d l. tt))
+      (rw (decimal_is_word f.period, signed_is_word f.step) refl)) refl;
   back = ap Calc (series_back f h);
 }
 

@@ -8,7 +8,9 @@ use Rattle.std.proofs.lemmas.List.{length-append}
 use Rattle.dioid.specs.declared.dates.Date.{Date}
 use Rattle.teg_settle.specs.settled_laws.SettledForms.{SettledForm, row_of, step_of_form}
 use Rattle.teg_net.specs.Nets.{NetLists, IsNet}
-use Rattle.teg_report.specs.SettledTexts.{is_from, row_dates_in, row_step_in, times_to_in, times_from_in, AreTimesKept, AreTimesToKept, IsSettledKept, AreTimesIn, TimesFrom, TimesTo, from_line, from_lines, output_count, row_words, settled_line, settled_lines, to_line, transfer_lines}
+use Rattle.teg_report.specs.SettledTexts.{is_from, row_dates_in, row_step_in, times_to_in, times_from_in, AreTimesKept, AreTimesToKept, IsSettledKept}
+use Rattle.teg_report.specs.SettledTexts.{AreTimesIn, TimesFrom, TimesTo, from_line, from_lines, output_count, row_words, settled_line, settled_lines}
+use Rattle.teg_report.specs.SettledTexts.{to_line, transfer_lines}
 use Rattle.teg_report.specs.AnswerValues.{Dates, Transfer}
 use Rattle.teg_report.proofs.IsRead.{IsRead}
 use Rattle.teg_text.proofs.NamesRead.{settled_are_words, transition_back, transition_is_word}
@@ -56,9 +58,13 @@ settled_read f h net rules full =
     let all : list_all is_line (map (settled_line net f) (range_with_len 0 count)) ≡ true =
     map_passes (λ t. t < count) is_line (settled_line net f) (λ t l. settled_is_line net f t rules l) (range_with_len 0 count) (range_all (λ t. t < count) count (λ t l. l)) in
     let dates : map row_dates_in (map (settled_line net f) (range_with_len 0 count)) ≡ f.rows =
-    row_back row_dates_in (settled_line net f) count f.rows [] full (λ t l. dates_back (codes "transition") (name_of_transition net (record { index = t })) (row_of f t) (step_of_form f t) (h.dates t [] (omega (arith, l, full)))) in
+    row_back row_dates_in (settled_line net f) count f.rows [] full
+    (λ t l. dates_back (codes "transition") (name_of_transition net (record { index = t })) (row_of f t) (step_of_form f t)
+    (h.dates t [] (omega (arith, l, full)))) in
     let steps : map row_step_in (map (settled_line net f) (range_with_len 0 count)) ≡ f.steps =
-    row_back row_step_in (settled_line net f) count f.steps (pos 0) (h.full ∙ full) (λ t l. step_back (codes "transition") (name_of_transition net (record { index = t })) (row_of f t) (step_of_form f t) (h.steps t (pos 0) (omega (arith, l, full, h.full)))) in
+    row_back row_step_in (settled_line net f) count f.steps (pos 0) (h.full ∙ full)
+    (λ t l. step_back (codes "transition") (name_of_transition net (record { index = t })) (row_of f t) (step_of_form f t)
+    (h.steps t (pos 0) (omega (arith, l, full, h.full)))) in
     let after = word64_back f.after h.after in
     let period = word64_back f.period h.period in
     record {

@@ -7,7 +7,14 @@ use Rattle.teg_net.specs.declared.answers.PartAnswer.{PartAnswer}
 use Rattle.teg_net.specs.declared.answers.PartAnswer.TheVariants.{NoCircuit as CodedNoCircuitIn, Best as CodedBest}
 use Rattle.teg_net.specs.declared.rounds.Round.{Round}
 use Rattle.teg_report.specs.declared.answer.Answer.{Answer as CodedAnswer}
-use Rattle.teg_report.specs.declared.answer.Answer.TheVariants.{Usage as CodedUsage, Live as CodedLive, List as CodedList, Form as CodedForm, NoCircuit as CodedNoCircuit, Cycle as CodedCycle, Dates as CodedDates, Date as CodedDate, Jit as CodedJit, Late as CodedLate, Slack as CodedSlack, Transfer as CodedTransfer, Replayed as CodedReplayed, Refused as CodedRefused, Calc as CodedCalc, Trial as CodedTrial, Read as CodedRead, TooLarge as CodedTooLarge, TokenFree as CodedTokenFree, NoTransition as CodedNoTransition, Due as CodedDue, Log as CodedLog, TooLong as CodedTooLong, Parse as CodedParse, Series as CodedSeries, Fault as CodedFault}
+use Rattle.teg_report.specs.declared.answer.Answer.TheVariants.{Usage as CodedUsage, Live as CodedLive, List as CodedList, Form as CodedForm}
+use Rattle.teg_report.specs.declared.answer.Answer.TheVariants.{NoCircuit as CodedNoCircuit, Cycle as CodedCycle, Dates as CodedDates}
+use Rattle.teg_report.specs.declared.answer.Answer.TheVariants.{Date as CodedDate, Jit as CodedJit, Late as CodedLate, Slack as CodedSlack}
+use Rattle.teg_report.specs.declared.answer.Answer.TheVariants.{Transfer as CodedTransfer, Replayed as CodedReplayed, Refused as CodedRefused}
+use Rattle.teg_report.specs.declared.answer.Answer.TheVariants.{Calc as CodedCalc, Trial as CodedTrial, Read as CodedRead, TooLarge as CodedTooLarge}
+use Rattle.teg_report.specs.declared.answer.Answer.TheVariants.{TokenFree as CodedTokenFree, NoTransition as CodedNoTransition, Due as CodedDue}
+use Rattle.teg_report.specs.declared.answer.Answer.TheVariants.{Log as CodedLog, TooLong as CodedTooLong, Parse as CodedParse, Series as CodedSeries}
+use Rattle.teg_report.specs.declared.answer.Answer.TheVariants.{Fault as CodedFault}
 use Rattle.teg_report.specs.Cycles.{ToldPart, NoCircuitIn, BestOf, CycleLists}
 use Rattle.teg_report.specs.declared.answer.TransferFrom.{TransferFrom}
 use Rattle.teg_report.specs.declared.answer.TransferLine.{TransferLine}
@@ -16,7 +23,8 @@ use Rattle.teg_jit.specs.declared.answers.JitRefusal.TheVariants.{Late as LateTh
 use Rattle.teg_report.specs.PlanLines.{LateLists}
 use Rattle.teg_report.specs.RoundLines.{RoundLists}
 use Rattle.teg_report.specs.SettledTexts.{TimesFrom, TimesTo}
-use Rattle.teg_report.specs.AnswerValues.{Answer, Usage, Live, Listed, Form, NoCircuit, Cycle, Dates, Date, Jit, Late, Slack, Transfer, Replayed, Refused, Calc, Trial, Read, TooLarge, TokenFree, NoTransition, Due, Log, TooLong, Parse, Series, Fault}
+use Rattle.teg_report.specs.AnswerValues.{Answer, Usage, Live, Listed, Form, NoCircuit, Cycle, Dates, Date, Jit, Late, Slack, Transfer, Replayed}
+use Rattle.teg_report.specs.AnswerValues.{Refused, Calc, Trial, Read, TooLarge, TokenFree, NoTransition, Due, Log, TooLong, Parse, Series, Fault}
 
 -- what is told of a part
 abbrev pub part_lists : PartAnswer → ToldPart

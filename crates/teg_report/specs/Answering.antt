@@ -3,7 +3,8 @@
 use Rattle.std.specs.Prelude.{ℕ, Bool, ◌≡◌, ◌&&◌, ◌||◌, List, map, drop, codes, Option, Some, None, if◌then◌else◌, ⊤}
 use Rattle.teg_net.specs.Nets.{NetLists}
 use Rattle.teg_report.specs.PlanLines.{plan_in, late_in}
-use Rattle.teg_report.specs.AnswerValues.{Answer, Usage, Listed, Form, NoCircuit, Cycle, Dates, Jit, Late, Slack, Transfer, Calc, Read, TooLarge, TokenFree, NoTransition, Due, TooLong, Parse, Series, Fault}
+use Rattle.teg_report.specs.AnswerValues.{Answer, Usage, Listed, Form, NoCircuit, Cycle, Dates, Jit, Late, Slack, Transfer, Calc, Read, TooLarge}
+use Rattle.teg_report.specs.AnswerValues.{TokenFree, NoTransition, Due, TooLong, Parse, Series, Fault}
 use Rattle.teg_report.specs.Cycles.{cycle_in}
 use Rattle.teg_report.specs.RoundLines.{rounds_in_lines}
 use Rattle.teg_report.specs.SettledTexts.{settled_in, transfer_in}

@@ -1,5 +1,6 @@
 -- Cycle times: their lines, what an answer on them meets that is told, and how it is read back.
-use Rattle.std.specs.Prelude.{ℕ, Bool, false, ◌+◌, ◌<◌, ◌^◌, ◌≡◌, ◌==◌, ◌&&◌, List, [], ◌∷◌, ◌++◌, All, Option, Some, None, map, flat_map, length, slice_index_or, codes, if◌then◌else◌, ⊤, not, ◌||◌, drop}
+use Rattle.std.specs.Prelude.{ℕ, Bool, false, ◌+◌, ◌<◌, ◌^◌, ◌≡◌, ◌==◌, ◌&&◌, List, [], ◌∷◌, ◌++◌, All, Option, Some, None, map, flat_map, length}
+use Rattle.std.specs.Prelude.{slice_index_or, codes, if◌then◌else◌, ⊤, not, ◌||◌, drop}
 use Rattle.std.specs.Int.RustNames.{unsigned_abs}
 use Rattle.std.specs.Fmt.{decimal, signed_decimal}
 use Rattle.std.specs.List.{range_with_len}

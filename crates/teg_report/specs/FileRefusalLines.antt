@@ -2,7 +2,9 @@
 use Rattle.std.specs.Prelude.{ℕ, List, [], ◌∷◌, ◌++◌, codes, ⊤, not, ◌&&◌, drop, bytes_eq, if◌then◌else◌, IsTrue}
 use Rattle.std.specs.Fmt.{decimal}
 use Rattle.teg_reader.specs.declared.refusals.ReadRefusal.{ReadRefusal}
-use Rattle.teg_reader.specs.declared.refusals.ReadRefusal.TheVariants.{NotToml, UnknownKey, WrongKind, MissingKey, BadName, Repeated, OutOfRange, NoTransitions, UnknownTransition, NotEventGraph, InputHasUpstream, BadInput, BadReady, TooSlow, OutOfMemory}
+use Rattle.teg_reader.specs.declared.refusals.ReadRefusal.TheVariants.{NotToml, UnknownKey, WrongKind, MissingKey, BadName, Repeated, OutOfRange}
+use Rattle.teg_reader.specs.declared.refusals.ReadRefusal.TheVariants.{NoTransitions, UnknownTransition, NotEventGraph, InputHasUpstream, BadInput}
+use Rattle.teg_reader.specs.declared.refusals.ReadRefusal.TheVariants.{BadReady, TooSlow, OutOfMemory}
 use Rattle.teg_reader.specs.declared.refusals.Section.{Section}
 use Rattle.teg_reader.specs.declared.refusals.Section.TheVariants.{Top, Transition, Place, Input}
 use Rattle.teg_reader.specs.declared.refusals.Spot.{Spot}
@@ -10,7 +12,8 @@ use Rattle.teg_reader.specs.Keys.{key_text}
 use Rattle.teg_text.specs.Lines.{phrase}
 use Rattle.teg_text.specs.ValueWords.{label_word, AreBytes}
 use Rattle.teg_reader.specs.declared.keys.Key.{Key}
-use Rattle.teg_reader.specs.declared.keys.Key.TheVariants.{Version, Transition as TransitionKey, Place as PlaceKey, Input as InputKey, Name, Role, Duration, From, To, Hold, Tokens, Ready, Dates, Every, Gap}
+use Rattle.teg_reader.specs.declared.keys.Key.TheVariants.{Version, Transition as TransitionKey, Place as PlaceKey, Input as InputKey, Name, Role}
+use Rattle.teg_reader.specs.declared.keys.Key.TheVariants.{Duration, From, To, Hold, Tokens, Ready, Dates, Every, Gap}
 use Rattle.teg_text.specs.WordReading.{word, stands_at, number_in, is_numeral, label_in}
 use Rattle.teg_net.specs.Names.{is_name}
 use Rattle.teg_reader.specs.RefusalSpots.{IsPlainSpot}

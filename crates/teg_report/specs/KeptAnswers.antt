@@ -3,7 +3,8 @@ use Rattle.std.specs.Prelude.{Option, IfSome, All, ⊤}
 use Rattle.teg_dates.specs.DateTables.{IsDateTable}
 use Rattle.teg_net.specs.Nets.{NetLists, IsNet}
 use Rattle.teg_reader.specs.RefusalSpots.{HasPlainSpot}
-use Rattle.teg_report.specs.AnswerValues.{Answer, Usage, Live, Listed, Form, NoCircuit, Cycle, Dates, Date, Jit, Late, Slack, Transfer, Replayed, Refused, Calc, Trial, Read, TooLarge, TokenFree, NoTransition, Due, Log, TooLong, Parse, Series, Fault}
+use Rattle.teg_report.specs.AnswerValues.{Answer, Usage, Live, Listed, Form, NoCircuit, Cycle, Dates, Date, Jit, Late, Slack, Transfer, Replayed}
+use Rattle.teg_report.specs.AnswerValues.{Refused, Calc, Trial, Read, TooLarge, TokenFree, NoTransition, Due, Log, TooLong, Parse, Series, Fault}
 use Rattle.teg_report.specs.Reports.{IsAbout}
 use Rattle.teg_report.specs.PlanLines.{AreLatestKept, IsLateKept}
 use Rattle.teg_report.specs.RoundLines.{IsRunKept}

@@ -1,5 +1,6 @@
 -- Latest dates, and due dates that no inputs can meet: their lines, what their numbers keep, and how they are read back.
-use Rattle.std.specs.Prelude.{ℕ, ◌+◌, ◌<◌, ◌≤◌, ◌≡◌, ◌==◌, List, [], ◌∷◌, ◌++◌, All, Option, Some, None, map, flat_map, length, slice_index_or, codes, if◌then◌else◌, ⊤, zero, suc, ◌*◌, ◌/◌, ◌%◌, drop, bytes_eq, ◌^◌}
+use Rattle.std.specs.Prelude.{ℕ, ◌+◌, ◌<◌, ◌≤◌, ◌≡◌, ◌==◌, List, [], ◌∷◌, ◌++◌, All, Option, Some, None, map, flat_map, length, slice_index_or, codes}
+use Rattle.std.specs.Prelude.{if◌then◌else◌, ⊤, zero, suc, ◌*◌, ◌/◌, ◌%◌, drop, bytes_eq, ◌^◌}
 use Rattle.std.specs.Fmt.{decimal}
 use Rattle.std.specs.List.{range_with_len}
 use Rattle.teg_jit.specs.declared.answers.LatestDate.{LatestDate}

@@ -11,7 +11,8 @@ use Rattle.teg_due.specs.declared.rows.DueRefusal.TheVariants.{OutOfMemory as No
 use Rattle.teg_due.specs.declared.rows.LogRefusal.TheVariants.{OutOfMemory as NoLogRoom}
 use Rattle.teg_reader.specs.declared.refusals.ReadRefusal.TheVariants.{OutOfMemory}
 use Rattle.teg_report.specs.Series.{parse_line, series_refused_line}
-use Rattle.teg_report.specs.AnswerValues.{Answer, Usage, Live, Listed, Form, NoCircuit, Cycle, Dates, Date, Jit, Late, Slack, Transfer, Replayed, Refused, Calc, Trial, Read, TooLarge, TokenFree, NoTransition, Due, Log, TooLong, Parse, Series, Fault}
+use Rattle.teg_report.specs.AnswerValues.{Answer, Usage, Live, Listed, Form, NoCircuit, Cycle, Dates, Date, Jit, Late, Slack, Transfer, Replayed}
+use Rattle.teg_report.specs.AnswerValues.{Refused, Calc, Trial, Read, TooLarge, TokenFree, NoTransition, Due, Log, TooLong, Parse, Series, Fault}
 use Rattle.teg_report.specs.Cycles.{IsCycleTold, cycle_lines}
 use Rattle.teg_report.specs.RoundLines.{AreRoundsTold, runs_lines, told_runs}
 use Rattle.teg_report.specs.FileRows.{IsFailureIn, due_line, log_line, refused_lines, replayed_lines}

@@ -1,5 +1,6 @@
 -- The names of the usage are those of the commands.
-use Rattle.std.proofs.Common.{◌≡◌, ◌<◌, ⊎_elim, ℕ, Bool, true, false, List, [], ◌∷◌, Option, Some, None, All, drop, length, slice_index_or, refl, sym, subst, codes, bytes_eq, is_some, if◌then◌else◌, arith}
+use Rattle.std.proofs.Common.{◌≡◌, ◌<◌, ⊎_elim, ℕ, Bool, true, false, List, [], ◌∷◌, Option, Some, None, All, drop, length, slice_index_or, refl, sym}
+use Rattle.std.proofs.Common.{subst, codes, bytes_eq, is_some, if◌then◌else◌, arith}
 use Rattle.std.proofs.lemmas.Bool.{cases_Bool}
 use Rattle.std.proofs.lemmas.List.Elements.{All-cons, All-nil}
 use Rattle.std.proofs.lemmas.Slice.Eq.{bytes_eq-Decides}

@@ -15,7 +15,9 @@ use Rattle.teg_run.specs.declared.status.Status.TheVariants.{Words, Text, Net, R
 use Rattle.teg_commands.specs.declared.outcome.Verdict.{Verdict}
 use Rattle.teg_run.specs.Calls.{Call}
 use Rattle.teg_run.specs.Endings.{Ending, Whole, Lost}
-use Rattle.teg_run.specs.Headline.{Ends, EndsLost, IsSaidOf, OwnOnly, EndsWithFault, ComesOnly, CountsAsNoText, ReadsAreCalm, WritesAreCalm, OverlongRose, WroteWhole, WrotePrefix, ReadsFirstOf, NamesLastRead, EndsAsSaid, Concerns, ConcernsBoth, SaysOfNet, SaysOfBoth, SaysOfWords, KeepsPromises}
+use Rattle.teg_run.specs.Headline.{Ends, EndsLost, IsSaidOf, OwnOnly, EndsWithFault, ComesOnly, CountsAsNoText, ReadsAreCalm, WritesAreCalm}
+use Rattle.teg_run.specs.Headline.{OverlongRose, WroteWhole, WrotePrefix, ReadsFirstOf, NamesLastRead, EndsAsSaid, Concerns, ConcernsBoth, SaysOfNet}
+use Rattle.teg_run.specs.Headline.{SaysOfBoth, SaysOfWords, KeepsPromises}
 use Rattle.teg_run.specs.declared.request.NetCommand.{NetCommand}
 use Rattle.teg_run.specs.declared.request.FileCommand.{FileCommand}
 use Rattle.teg_run.specs.declared.request.Request.{Request}

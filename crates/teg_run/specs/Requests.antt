@@ -10,7 +10,9 @@ use Rattle.teg_words.specs.NumberWords.{number_of_word}
 use Rattle.teg_words.specs.CommandLineWords.{Given, given_of}
 use Rattle.teg_commands.specs.CommandLimits.{most_expression, most_machines}
 use Rattle.teg_run.specs.declared.request.NetCommand.{NetCommand}
-use Rattle.teg_run.specs.declared.request.NetCommand.TheVariants.{Check as CheckNet, List as ListNet, Form as FormNet, Cycle as CycleNet, Slack as SlackNet, Dates as DatesNet, Date as DateNet, Transfer as TransferNet, Migrate as MigrateNet, Size as SizeNet, Bound as BoundNet}
+use Rattle.teg_run.specs.declared.request.NetCommand.TheVariants.{Check as CheckNet, List as ListNet, Form as FormNet, Cycle as CycleNet}
+use Rattle.teg_run.specs.declared.request.NetCommand.TheVariants.{Slack as SlackNet, Dates as DatesNet, Date as DateNet, Transfer as TransferNet}
+use Rattle.teg_run.specs.declared.request.NetCommand.TheVariants.{Migrate as MigrateNet, Size as SizeNet, Bound as BoundNet}
 use Rattle.teg_run.specs.declared.request.FileCommand.{FileCommand}
 use Rattle.teg_run.specs.declared.request.FileCommand.TheVariants.{Jit as JitNet, Replay as ReplayNet, Forever as ForeverNet, Timetable as TimetableNet}
 use Rattle.teg_run.specs.declared.request.Request.{Request}

@@ -23,7 +23,9 @@ use Rattle.teg_commands.specs.Timetable.{SaysTimetable}
 use Rattle.teg_commands.specs.Transfer.{SaysTransfer}
 use Rattle.teg_commands.specs.Calc.{SaysCalc}
 use Rattle.teg_run.specs.declared.request.NetCommand.{NetCommand}
-use Rattle.teg_run.specs.declared.request.NetCommand.TheVariants.{Check as CheckNet, List as ListNet, Form as FormNet, Cycle as CycleNet, Slack as SlackNet, Dates as DatesNet, Date as DateNet, Transfer as TransferNet, Migrate as MigrateNet, Size as SizeNet, Bound as BoundNet}
+use Rattle.teg_run.specs.declared.request.NetCommand.TheVariants.{Check as CheckNet, List as ListNet, Form as FormNet, Cycle as CycleNet}
+use Rattle.teg_run.specs.declared.request.NetCommand.TheVariants.{Slack as SlackNet, Dates as DatesNet, Date as DateNet, Transfer as TransferNet}
+use Rattle.teg_run.specs.declared.request.NetCommand.TheVariants.{Migrate as MigrateNet, Size as SizeNet, Bound as BoundNet}
 use Rattle.teg_run.specs.declared.request.FileCommand.{FileCommand}
 use Rattle.teg_run.specs.declared.request.FileCommand.TheVariants.{Jit as JitNet, Replay as ReplayNet, Forever as ForeverNet, Timetable as TimetableNet}
 use Rattle.teg_run.specs.declared.request.Request.{Request}
@@ -58,7 +60,8 @@ SaysOpening goes_on (Refused status' text') replies status text = (replies ≡ [
 SaysOpening goes_on (Accepted file) replies status text = goes_on file replies status text
 
 -- what is said where the first reply opens a file
-abbrev pub SaysFile : {A : Type 0} → (Result (List ℕ) ShelfFault → Opening A → Type 0) → (A → List (Result (List ℕ) ShelfFault) → Status → List ℕ → Type 0) → List (Result (List ℕ) ShelfFault) → Status → List ℕ → Type 0
+abbrev pub SaysFile : {A : Type 0} → (Result (List ℕ) ShelfFault → Opening A → Type 0)
+    → (A → List (Result (List ℕ) ShelfFault) → Status → List ℕ → Type 0) → List (Result (List ℕ) ShelfFault) → Status → List ℕ → Type 0
 SaysFile {A = A} opens goes_on [] status text = ⊥
 SaysFile {A = A} opens goes_on (reply ∷ replies) status text =
     (opening : Opening A) × opens reply opening × SaysOpening goes_on opening replies status text

@@ -20,12 +20,14 @@ use Rattle.teg_settle.specs.Stored.{stored_form}
 use Rattle.teg_settle.specs.ComparedRows.{read_step, IsToldBy}
 
 -- a fact of each element and of one more
-pub more : {X : Type 0} (P : ℕ → X → Type 0) (d : X) (xs : List X) (y : X) → ((t : ℕ) → t < length xs → P t (get_or xs t d)) → P (length xs) y → (t : ℕ) → t < length xs + 1 → P t (get_or (xs ++ y ∷ []) t d)
+pub more : {X : Type 0} (P : ℕ → X → Type 0) (d : X) (xs : List X) (y : X) → ((t : ℕ) → t < length xs → P t (get_or xs t d))
+    → P (length xs) y → (t : ℕ) → t < length xs + 1 → P t (get_or (xs ++ y ∷ []) t d)
 more P d [] y h e t l = let is : t ≡ 0 = omega arith in rw is e
 more P d (x ∷ xs) y h e zero l = h 0 (omega arith)
 more P d (x ∷ xs) y h e (suc t) l = more (λ i. P (suc i)) d xs y (λ i m. h (suc i) (omega arith)) e t (omega arith)
 
-pub mapped_more : {X Y : Type 0} (f : X → Y) (P : ℕ → Y → Type 0) (d : Y) (xs : List X) (y : X) → ((t : ℕ) → t < length xs → P t (get_or (map f xs) t d)) → P (length xs) (f y) → (t : ℕ) → t < length xs + 1 → P t (get_or (map f (xs ++ y ∷ [])) t d)
+pub mapped_more : {X Y : Type 0} (f : X → Y) (P : ℕ → Y → Type 0) (d : Y) (xs : List X) (y : X)
+    → ((t : ℕ) → t < length xs → P t (get_or (map f xs) t d)) → P (length xs) (f y) → (t : ℕ) → t < length xs + 1 → P t (get_or (map f (xs ++ y ∷ [])) t d)
 mapped_more f P d [] y h e t l = let is : t ≡ 0 = omega arith in rw is e
 mapped_more f P d (x ∷ xs) y h e zero l = h 0 (omega arith)
 mapped_more f P d (x ∷ xs) y h e (suc t) l = mapped_more f (λ i. P (suc i)) d xs y (λ i m. h (suc i) (omega arith)) e t (omega arith)
@@ -42,7 +44,8 @@ pub record IsCopy (net : NetLists) (table : TableDates) (f : Repetition) (s : Se
 -- the dates and the steps of all transitions, each its own
 pub copied : (net : NetLists) (table : TableDates) (f : Repetition) (rows : List (Vec Date Global)) (steps : List ℤ) (own : List ℕ)
     → length own ≡ length net.transitions → ((t : ℕ) → t < length net.transitions → get_or own t 0 ≡ t)
-    → ((t : ℕ) → t < length net.transitions → AreShownDates table t (f.after + f.period) (get_or (map (λ r. r.items) rows) t [])) → ((t : ℕ) → t < length net.transitions → get_or steps t (pos 0) ≡ read_step table f.period t)
+    → ((t : ℕ) → t < length net.transitions → AreShownDates table t (f.after + f.period) (get_or (map (λ r. r.items) rows) t []))
+    → ((t : ℕ) → t < length net.transitions → get_or steps t (pos 0) ≡ read_step table f.period t)
     → IsCopy net table f (stored_form f.after f.period (map (λ r. r.items) rows) steps own)
 copied net table f rows steps own count each dates moves =
     let row : ℕ → List Date = λ i. get_or (map (λ r. r.items) rows) i [] in
@@ -78,7 +81,8 @@ copy_still net rows f x t d told l stays none tail =
     let fits = told.fits in
     let one = w.some in
     let end : ℕ = rows.count - f.period in
-    let last : x t end ≡ d = tail_on (x t) f.after f.period (read_step rows f.period t) d one (stays (read_step rows f.period t)) (λ k m. told.repeats.again t k l m) tail end end (omega arith) (omega arith) in
+    let last : x t end ≡ d = tail_on (x t) f.after f.period (read_step rows f.period t) d one (stays (read_step rows f.period t))
+    (λ k m. told.repeats.again t k l m) tail end end (omega arith) (omega arith) in
     ap (λ e. between e (date_at rows t rows.count)) (told.dates t end l (omega arith) (omega arith) ∙ last) ∙ none (date_at rows t rows.count)
 
 pub copy_stands : (net : NetLists) (rows : TableDates) (f : Repetition) (s : SettledForm) (x : Dating) → IsCopy net rows f s → IsToldBy net rows f x → StandsFor (length net.transitions) s x

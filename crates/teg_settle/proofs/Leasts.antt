@@ -55,7 +55,8 @@ pub outside : (net : NetLists) (r : Releases) (most : ℕ) (h : IsReady net r mo
 unfolding least
 outside net r most h t k l =
     let s : System = system_for r net in
-    let ends : All (λ p. p.to.index < length net.transitions) (extended_places net) = all_extended_in net (λ p. p.to.index < length net.transitions) (λ i d m. (h.is_net.each_place i d m).to_in) (λ u m. m) in
+    let ends : All (λ p. p.to.index < length net.transitions) (extended_places net) =
+    all_extended_in net (λ p. p.to.index < length net.transitions) (λ i d m. (h.is_net.each_place i d m).to_in) (λ u m. m) in
     at_most_early (least_over s 400 (rank_of h.ranks) t k)
     (least_is_tight s 400 (rank_of h.ranks) (ranks_on net r most h) t k Early
     (λ i d m e. let in' = ends i d m in absurd (omega arith))

@@ -20,11 +20,13 @@ use Rattle.teg_settle.specs.ComparedRows.{IsReady, IsRefuted, IsSeen, IsToldBy, 
 use Rattle.teg_settle.proofs.Leasts.{least, least_is, dates_on}
 use Rattle.teg_settle.proofs.Tested.{window_of}
 
-pub ready : (net : NetLists) (r : Releases) (ranks : List ℕ) (most : ℕ) → IsNet net → IsRanking net ranks → OnlyInputsWait net r.waits.items → 1 ≤ most → All (λ p. p.tokens ≤ most) net.places → IsReady net r most
+pub ready : (net : NetLists) (r : Releases) (ranks : List ℕ) (most : ℕ) → IsNet net → IsRanking net ranks
+    → OnlyInputsWait net r.waits.items → 1 ≤ most → All (λ p. p.tokens ≤ most) net.places → IsReady net r most
 ready net r ranks most ok ranking waits some tokens = record { is_net = ok; ranks = ranks; ranking = ranking; waits = waits; some = some; tokens = tokens }
 
 -- no form is seen in rows that show each form within the limit
-pub past_unseen : (net : NetLists) (r : Releases) (most limit last : ℕ) → IsReady net r most → last ≡ 2 * limit + most → ((period : ℕ) → IsRefuted net r most last period) → LeastSettlesPast net r limit
+pub past_unseen : (net : NetLists) (r : Releases) (most limit last : ℕ) → IsReady net r most → last ≡ 2 * limit + most
+    → ((period : ℕ) → IsRefuted net r most last period) → LeastSettlesPast net r limit
 past_unseen net r most limit last h is none = (
   least net r most h,
   least_is net r most h,
@@ -35,7 +37,8 @@ past_unseen net r most limit last h is none = (
 )
 
 -- the shortest form is longer than the limit
-pub past_seen : (net : NetLists) (r : Releases) (most limit : ℕ) (rows : TableDates) (f : Repetition) → IsReady net r most → IsSeen net r rows f → limit < f.after + f.period → LeastSettlesPast net r limit
+pub past_seen : (net : NetLists) (r : Releases) (most limit : ℕ) (rows : TableDates) (f : Repetition) → IsReady net r most
+    → IsSeen net r rows f → limit < f.after + f.period → LeastSettlesPast net r limit
 past_seen net r most limit rows f h seen far =
     let z : Dating = least net r most h in (
       z,

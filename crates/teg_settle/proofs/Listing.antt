@@ -37,7 +37,8 @@ inside dates u k own s o l =
     rw (low, high) (omega (arith, ints, up))
 
 -- past its dates the list goes on, and does not fall where it joins
-climbs_on : (dates : List ℕ) (a : Again) (u : ℕ → Option ℕ) → ((j : ℕ) → 1 ≤ j → j ≤ length dates → u j ≡ Some (get_or dates (j - 1) 0)) → IsNonDecreasing dates → ListGoesOn dates a → GoOnBy (length dates) (Some a) u
+climbs_on : (dates : List ℕ) (a : Again) (u : ℕ → Option ℕ) → ((j : ℕ) → 1 ≤ j → j ≤ length dates → u j ≡ Some (get_or dates (j - 1) 0))
+    → IsNonDecreasing dates → ListGoesOn dates a → GoOnBy (length dates) (Some a) u
     → (n k : ℕ) → k ≤ n → 1 ≤ k → IsAtMostDate (as_date (u k)) (as_date (u (k + 1)))
 climbs_on dates a u own s h g zero k l o = absurd (omega arith)
 climbs_on dates a u own s h g (suc n) k l o =
@@ -64,7 +65,8 @@ climbs_on dates a u own s h g (suc n) k l o =
     (cases_lt k (length dates)))
     (cases_lt (length dates) k)
 
-climbs_by : (dates : List ℕ) (o : Option Again) (u : ℕ → Option ℕ) → ((j : ℕ) → 1 ≤ j → j ≤ length dates → u j ≡ Some (get_or dates (j - 1) 0)) → IsNonDecreasing dates → EndsOrGoesOn dates o → GoOnBy (length dates) o u
+climbs_by : (dates : List ℕ) (o : Option Again) (u : ℕ → Option ℕ)
+    → ((j : ℕ) → 1 ≤ j → j ≤ length dates → u j ≡ Some (get_or dates (j - 1) 0)) → IsNonDecreasing dates → EndsOrGoesOn dates o → GoOnBy (length dates) o u
     → (k : ℕ) → 1 ≤ k → IsAtMostDate (as_date (u k)) (as_date (u (k + 1)))
 climbs_by dates None u own s h g k o =
     ⊎_elim

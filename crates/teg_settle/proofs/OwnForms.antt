@@ -20,7 +20,8 @@ module _ (net : NetLists) (r : Releases) (ready : r.tokens ≡ Ready) (waits : A
   own_form f h = (h.0, own_least net r ready waits h.0 h.1, h.2)
 
   pub own_refusal : (limit : ℕ) (e : SettleRefusal) → IsRightSettleRefusal (LeastSettlesPast net r limit) limit e → IsRightSettleRefusal (NetSettlesPast net limit) limit e
-  own_refusal limit e = refusal_weaker (LeastSettlesPast net r limit) (NetSettlesPast net limit) limit e (λ h. (h.0, own_least net r ready waits h.0 h.1, λ f s. h.2 f.after f.period (step_of_form f) s.repeats))
+  own_refusal limit e = refusal_weaker (LeastSettlesPast net r limit) (NetSettlesPast net limit) limit e
+      (λ h. (h.0, own_least net r ready waits h.0 h.1, λ f s. h.2 f.after f.period (step_of_form f) s.repeats))
 
   pub own_slopes : (ranks : List ℕ) → IsNet net → IsRanking net ranks → (f : SettledForm) → IsLeastForm net r f → HasSlopes net f
   own_slopes ranks ok ranking f h =

@@ -22,7 +22,8 @@ use Rattle.teg_settle.specs.declared.releases.Releases.{Releases}
 use Rattle.teg_settle.specs.InitialReleases.{initial_by, date_of_list, release_as, wait_in, release_by, system_for, AreWaits, list_number, wait_by_role, wait_by, wait_of, OnlyInputsWait}
 
 -- releases that are one give one least dating
-feasible_same : (net : NetLists) (init : InitialDates) (rel other x : Dating) → ((t k : ℕ) → rel t k ≡ other t k) → IsFeasibleIn (system_with net init rel) x → IsFeasibleIn (system_with net init other) x
+feasible_same : (net : NetLists) (init : InitialDates) (rel other x : Dating) → ((t k : ℕ) → rel t k ≡ other t k)
+    → IsFeasibleIn (system_with net init rel) x → IsFeasibleIn (system_with net init other) x
 feasible_same net init rel other x same f = record {
   places = f.places;
   releases = λ t k o. rw (← same t k) (f.releases t k o);
@@ -57,7 +58,8 @@ own_release net r w t k =
     (cases_lt t (length net.transitions))
 
 -- the least dating is that of the net's own system
-pub own_system : (net : NetLists) (r : Releases) → r.tokens ≡ Ready → AreWaits net (wait_of net) r.waits.items → (x : Dating) → IsLeastIn (system_for r net) x → IsLeastIn (system_of net (listed_releases net)) x
+pub own_system : (net : NetLists) (r : Releases) → r.tokens ≡ Ready → AreWaits net (wait_of net) r.waits.items → (x : Dating)
+    → IsLeastIn (system_for r net) x → IsLeastIn (system_of net (listed_releases net)) x
 own_system net r ready w x h =
     let rel : Dating = release_by r.waits.items net in
     let here : IsLeastIn (system_with net (initial_by Ready) rel) x = subst (λ t. IsLeastIn (system_with net (initial_by t) rel) x) ready h in

@@ -34,5 +34,6 @@ module _ (net : NetLists) (input : ℕ) (part : Part) (h : IsPartFrom net input 
           told_by net part.marks.items h.old part.new.items h.numbers h.closed.leads_on part.net h.transitions h.places ok h.wide input h.closed.begins a.0,
           alone_times net input ranks ok ranking given _ least,
           λ f stands. a.2 f.after f.period _
-              (repeats_in_part net part.marks.items h.old part.new.items h.numbers h.closed.leads_on part.net h.transitions h.places ok h.wide input h.closed.begins a.0 f.after f.period (step_of_form f) stands.repeats),
+              (repeats_in_part net part.marks.items h.old part.new.items h.numbers h.closed.leads_on part.net h.transitions h.places ok
+              h.wide input h.closed.begins a.0 f.after f.period (step_of_form f) stands.repeats),
         )

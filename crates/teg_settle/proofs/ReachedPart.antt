@@ -1,5 +1,6 @@
 -- The part of a net that the walks from an input reach: it is a live net, and the least dating of the input alone in it tells that in the net.
-use Rattle.std.proofs.Common.{ℕ, ◌+◌, ◌-◌, ◌<◌, ◌≤◌, ◌≡◌, ◌≢◌, Bool, true, false, eqb, cond, List, [], ◌∷◌, ◌++◌, All, IsTrue, filter, map, length, get_or, take, replicate, refl, sym, ap, subst, ◌∙◌, arith, ⊎_elim, inl, inr}
+use Rattle.std.proofs.Common.{ℕ, ◌+◌, ◌-◌, ◌<◌, ◌≤◌, ◌≡◌, ◌≢◌, Bool, true, false, eqb, cond, List, [], ◌∷◌, ◌++◌, All, IsTrue, filter, map, length}
+use Rattle.std.proofs.Common.{get_or, take, replicate, refl, sym, ap, subst, ◌∙◌, arith, ⊎_elim, inl, inr}
 use Rattle.std.specs.Prelude.{ℤ, pos, AllPairs, IsSomeAnd, Some, slice_get}
 use Rattle.std.proofs.lemmas.Bool.{cases_lt, cases_Bool, cond_both, false≢true}
 use Rattle.std.proofs.lemmas.Bool.Decides.{nat_tests}
@@ -215,7 +216,8 @@ module _ (net : NetLists) (marks : List Bool) (old new : List ℕ) (numbers : Is
       gives_same : (p : Place) (k : ℕ) → from p ≡ true → available_in init (told_by z) p k ≡ available_in init z (renumbered new p) k
       gives_same p k on =
           ⊎_elim
-          (λ (l : p.tokens < k). available_after init (told_by z) p k (z (to_new p.from.index) (k - p.tokens)) l (told_on p.from.index (k - p.tokens) on) ∙ sym (available_after init z (renumbered new p) k (z (to_new p.from.index) (k - p.tokens)) l refl))
+          (λ (l : p.tokens < k). available_after init (told_by z) p k (z (to_new p.from.index) (k - p.tokens)) l
+          (told_on p.from.index (k - p.tokens) on) ∙ sym (available_after init z (renumbered new p) k (z (to_new p.from.index) (k - p.tokens)) l refl))
           (λ (l : k ≤ p.tokens). available_first init (told_by z) p k l ∙ sym (available_first init z (renumbered new p) k l))
           (cases_lt p.tokens k)
 
@@ -229,7 +231,8 @@ module _ (net : NetLists) (marks : List Bool) (old new : List ℕ) (numbers : Is
       place_kept : (p : Place) (k : ℕ) → (from p ≡ true → is_marked marks p.to.index ≡ true) → (from p ≡ true → keeps z k (renumbered new p)) → keeps (told_by z) k p
       place_kept p k ends h =
           ⊎_elim
-          (λ (e : from p ≡ true). subst (λ d. IsAtMostDate d (told_by z p.to.index k)) (sym (gives_same p k e)) (subst (IsAtMostDate (available_in init z (renumbered new p) k)) (sym (told_on p.to.index k (ends e))) (h e)))
+          (λ (e : from p ≡ true). subst (λ d. IsAtMostDate d (told_by z p.to.index k)) (sym (gives_same p k e))
+          (subst (IsAtMostDate (available_in init z (renumbered new p) k)) (sym (told_on p.to.index k (ends e))) (h e)))
           (λ (e : from p ≡ false). subst (λ d. IsAtMostDate d (told_by z p.to.index k)) (sym (gives_none p k e)) tt)
           (cases_Bool (from p))
 
@@ -302,7 +305,8 @@ module _ (net : NetLists) (marks : List Bool) (old new : List ℕ) (numbers : Is
       down : (u k : ℕ) → u < length old → told_by z (get_or old u 0) k ≡ z u k
       down u k l = told_on (to_old u) k (numbers.marked u l) ∙ ap (λ v. z v k) (numbers.back u l)
 
-      pub repeats_in_part : (after period : ℕ) (step : ℕ → ℤ) → RepeatsAfter (length net.transitions) (told_by z) after period step → RepeatsAfter (length part.transitions) z after period (λ u. step (get_or old u 0))
+      pub repeats_in_part : (after period : ℕ) (step : ℕ → ℤ) → RepeatsAfter (length net.transitions) (told_by z) after period step
+          → RepeatsAfter (length part.transitions) z after period (λ u. step (get_or old u 0))
       repeats_in_part after period step h = record {
         at_least_one = h.at_least_one;
         again = λ u k l q.

@@ -45,7 +45,8 @@ span_past dates (Some a) u h g = record {
 }
 
 -- past its dates a list goes on evenly
-pub span_list : (net : NetLists) (list : ℕ) (l : InputList) (o : Option Again) → slice_get net.inputs list ≡ Some l → EndsOrGoesOn l.dates l.again → l.again ≡ o → HasSpan (date_of_list net list) (length l.dates) (every_of o)
+pub span_list : (net : NetLists) (list : ℕ) (l : InputList) (o : Option Again) → slice_get net.inputs list ≡ Some l
+    → EndsOrGoesOn l.dates l.again → l.again ≡ o → HasSpan (date_of_list net list) (length l.dates) (every_of o)
 span_list net list l o e h a =
     rw (← a) (subst (λ z. HasSpan (λ k. as_date (date_by_list z k)) (length l.dates) (every_of l.again)) (sym e)
     (span_past l.dates l.again (list_date l.dates l.again) h (IsInputDates-list_date l h).past))

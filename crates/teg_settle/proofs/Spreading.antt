@@ -1,5 +1,6 @@
 -- A settled form of a part of a net, told of the whole net by rows that transitions share.
-use Rattle.std.proofs.Common.{ℕ, leb, ◌+◌, ◌-◌, ◌*◌, ◌<◌, ◌≤◌, ◌≡◌, Bool, true, false, cond, List, [], ◌∷◌, ◌++◌, Vec, map, length, get_or, replicate, refl, sym, ap, subst, ◌∙◌, arith, ⊎_elim, length-append}
+use Rattle.std.proofs.Common.{ℕ, leb, ◌+◌, ◌-◌, ◌*◌, ◌<◌, ◌≤◌, ◌≡◌, Bool, true, false, cond, List, [], ◌∷◌, ◌++◌, Vec, map, length, get_or, replicate}
+use Rattle.std.proofs.Common.{refl, sym, ap, subst, ◌∙◌, arith, ⊎_elim, length-append}
 use Rattle.std.specs.declared.alloc.Global.{Global}
 use Rattle.std.specs.Prelude.{ℤ, pos, ◌*ℤ◌}
 use Rattle.std.proofs.lemmas.Bool.{cases_lt, cases_Bool}
@@ -116,7 +117,8 @@ module _ (after period : ℕ) (rows : List (List Date)) (steps : List ℤ) (own 
         (λ (e : is_marked marks t ≡ true).
         let u : ℕ = get_or new t 0 in
         let there : get_or (map (row rows) own) u [] ≡ row rows (get_or own u 0) = get_or-map (row rows) own u 0 [] (known t l e) in
-        first ∙ (ap more (owned_on t l e) ∙ (get_or_append_left rows (early ∷ []) [] (get_or own u 0) (is_row t l e) ∙ (sym there ∙ sym (ap (λ b. cond b (get_or (map (row rows) own) u []) early) e)))))
+        first ∙ (ap more (owned_on t l e) ∙ (get_or_append_left rows (early ∷ []) [] (get_or own u 0) (is_row t l e)
+        ∙ (sym there ∙ sym (ap (λ b. cond b (get_or (map (row rows) own) u []) early) e)))))
         (λ (e : is_marked marks t ≡ false).
         first ∙ (ap more (owned_off t l e) ∙ (get_or-append_seam rows early [] [] ∙ sym (ap (λ b. cond b (get_or (map (row rows) own) (get_or new t 0) []) early) e))))
         (cases_Bool (is_marked marks t));
@@ -127,9 +129,11 @@ module _ (after period : ℕ) (rows : List (List Date)) (steps : List ℤ) (own 
         (λ (e : is_marked marks t ≡ true).
         let u : ℕ = get_or new t 0 in
         let there : get_or (map (step steps) own) u (pos 0) ≡ step steps (get_or own u 0) = get_or-map (step steps) own u 0 (pos 0) (known t l e) in
-        first ∙ (ap more (owned_on t l e) ∙ (get_or_append_left steps (pos 0 ∷ []) (pos 0) (get_or own u 0) (omega (arith, is_row t l e, h.steps_count)) ∙ (sym there ∙ sym (ap (λ b. cond b (get_or (map (step steps) own) u (pos 0)) (pos 0)) e)))))
+        first ∙ (ap more (owned_on t l e) ∙ (get_or_append_left steps (pos 0 ∷ []) (pos 0) (get_or own u 0)
+        (omega (arith, is_row t l e, h.steps_count)) ∙ (sym there ∙ sym (ap (λ b. cond b (get_or (map (step steps) own) u (pos 0)) (pos 0)) e)))))
         (λ (e : is_marked marks t ≡ false).
-        first ∙ (ap more (owned_off t l e ∙ sym h.steps_count) ∙ (get_or-append_seam steps (pos 0) [] (pos 0) ∙ sym (ap (λ b. cond b (get_or (map (step steps) own) (get_or new t 0) (pos 0)) (pos 0)) e))))
+        first ∙ (ap more (owned_off t l e ∙ sym h.steps_count)
+        ∙ (get_or-append_seam steps (pos 0) [] (pos 0) ∙ sym (ap (λ b. cond b (get_or (map (step steps) own) (get_or new t 0) (pos 0)) (pos 0)) e))))
         (cases_Bool (is_marked marks t));
   }
 
@@ -153,15 +157,18 @@ pub spread_stored : (after period : ℕ) (rows : List (Vec Date Global)) (more :
     → IsStored after period (map (λ r. r.items) rows) steps own → stored_form after period (map (λ r. r.items) rows) steps own ≡ s → length new ≤ most_transitions
     → ((t : ℕ) → t < length new → is_marked marks t ≡ true → get_or new t 0 < length s.rows) → more.items ≡ replicate (after + period) Early → other ≡ length rows → length owned ≡ length new
     → ((t : ℕ) → t < length new → get_or owned t 0 ≡ cond (is_marked marks t) (get_or own (get_or new t 0) 0) other)
-    → IsStored after period (map (λ r. r.items) (rows ++ more ∷ [])) (steps ++ pos 0 ∷ []) owned × IsSpreadOut marks new s (stored_form after period (map (λ r. r.items) (rows ++ more ∷ [])) (steps ++ pos 0 ∷ []) owned)
+    → IsStored after period (map (λ r. r.items) (rows ++ more ∷ [])) (steps ++ pos 0 ∷ []) owned
+    × IsSpreadOut marks new s (stored_form after period (map (λ r. r.items) (rows ++ more ∷ [])) (steps ++ pos 0 ∷ []) owned)
 spread_stored after period rows more steps own owned marks new s other h is few known none there count each =
     let items : List (List Date) = map (λ r. r.items) rows in
-    let longer : items ++ replicate (after + period) Early ∷ [] ≡ map (λ r. r.items) (rows ++ more ∷ []) = ap (λ d. items ++ d ∷ []) (sym none) ∙ sym (map-append (λ (r : Vec Date Global). r.items) rows (more ∷ [])) in
+    let longer : items ++ replicate (after + period) Early ∷ [] ≡ map (λ r. r.items) (rows ++ more ∷ []) =
+    ap (λ d. items ++ d ∷ []) (sym none) ∙ sym (map-append (λ (r : Vec Date Global). r.items) rows (more ∷ [])) in
     let in' : (t : ℕ) → t < length new → is_marked marks t ≡ true → get_or new t 0 < length own =
     λ t l e. omega (arith, known t l e, ap (λ a. length a.rows) is, length-map own (λ i. get_or items i [])) in
     let own_by : (t : ℕ) → t < length new → get_or owned t 0 ≡ cond (is_marked marks t) (get_or own (get_or new t 0) 0) (length items) =
     λ t l. each t l ∙ ap (λ n. cond (is_marked marks t) (get_or own (get_or new t 0) 0) n) (there ∙ sym (length-map rows (λ r. r.items))) in (
       subst (λ rs. IsStored after period rs (steps ++ pos 0 ∷ []) owned) longer (stored_more after period items steps own owned marks new h in' count own_by few),
       subst (λ rs. IsSpreadOut marks new s (stored_form after period rs (steps ++ pos 0 ∷ []) owned)) longer
-          (subst (λ a. IsSpreadOut marks new a (stored_form after period (items ++ replicate (after + period) Early ∷ []) (steps ++ pos 0 ∷ []) owned)) is (stored_spread after period items steps own owned marks new h in' count own_by)),
+          (subst (λ a. IsSpreadOut marks new a (stored_form after period (items ++ replicate (after + period) Early ∷ [])
+          (steps ++ pos 0 ∷ []) owned)) is (stored_spread after period items steps own owned marks new h in' count own_by)),
     )

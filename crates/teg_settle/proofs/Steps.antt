@@ -53,7 +53,8 @@ module _ (net : NetLists) (r : Releases) (own : AreOwnReleases net r) where
     shown_by rows None found = tt
     shown_by rows (Some f) found = shows_form rows f found
 
-    pub none_shown : (rows : TableDates) (o : Option Repetition) → most ≤ 1000 → MatchOption o ((period : ℕ) → IsRefuted net r most rows.count period) (IsSeen net r rows) → IfNone o (ShowsNoForm net rows.count)
+    pub none_shown : (rows : TableDates) (o : Option Repetition) → most ≤ 1000
+        → MatchOption o ((period : ℕ) → IsRefuted net r most rows.count period) (IsSeen net r rows) → IfNone o (ShowsNoForm net rows.count)
     none_shown rows None few found = shows_no_form rows.count few found
     none_shown rows (Some f) few found = tt
 

@@ -67,7 +67,8 @@ module _ (net : NetLists) (r : Releases) (most : ℕ) (h : IsReady net r most) (
       }
 
   -- tests that all pass show a form
-  pub tested_repeats : (period after : ℕ) → 1 ≤ period → after + most + period + period ≡ rows.count → AreTested net r rows period after → Repeats (least net r most h) after period (read_step rows period)
+  pub tested_repeats : (period after : ℕ) → 1 ≤ period → after + most + period + period ≡ rows.count → AreTested net r rows period after
+      → Repeats (least net r most h) after period (read_step rows period)
   unfolding least
   tested_repeats period after one fits tests =
       let some = h.some in
@@ -122,7 +123,8 @@ module _ (net : NetLists) (r : Releases) (most : ℕ) (h : IsReady net r most) (
       (on_first n z from period seen form))
 
   -- a form that begins early enough passes all tests
-  pub form_is_tested : (period from after : ℕ) (step : ℕ → ℤ) → after + most + period + period ≡ rows.count → from ≤ after → Repeats (least net r most h) from period step → AreTested net r rows period after
+  pub form_is_tested : (period from after : ℕ) (step : ℕ → ℤ) → after + most + period + period ≡ rows.count → from ≤ after
+      → Repeats (least net r most h) from period step → AreTested net r rows period after
   form_is_tested period from after step fits low rep =
       let one = rep.at_least_one in
       let some = h.some in
@@ -136,7 +138,9 @@ module _ (net : NetLists) (r : Releases) (most : ℕ) (h : IsReady net r most) (
             let p_in : IsPlaceOf net p = h.is_net.each_place i no_place l in
             let at : (t : ℕ) → t < n → date_at rows t rows.count ≡ z t rows.count = λ t m. read t rows.count m (omega arith) (omega arith) in
             let up : IsRisingAt z rows.count s p =
-            extended_has net (IsRisingAt z rows.count s) (form_is_rising_at sys z after period most rows.count s (least_is net r most h).feasible (climbs net r most h) (tokens_on net r most h) here (omega arith)) i l in
+            extended_has net (IsRisingAt z rows.count s)
+            (form_is_rising_at sys z after period most rows.count s (least_is net r most h).feasible (climbs net r most h)
+            (tokens_on net r most h) here (omega arith)) i l in
             rw (get_or_default net.places i d no_place l)
             (⊎_elim
             (λ (e : z p.to.index rows.count ≡ Never). inl (at p.to.index p_in.to_in ∙ e))

@@ -46,7 +46,8 @@ input_within net input h =
     (λ (l : length net.transitions ≤ input). absurd (is_transition (slice_get net.transitions input) (slice_get_past net.transitions input l) h))
     (cases_lt input (length net.transitions))
 
-alone_release : (net : NetLists) (r : Releases) (input : ℕ) → IsInput net input → AreWaits net (wait_from net input) r.waits.items → (t k : ℕ) → release_by r.waits.items net t k ≡ released_alone input t k
+alone_release : (net : NetLists) (r : Releases) (input : ℕ) → IsInput net input → AreWaits net (wait_from net input) r.waits.items
+    → (t k : ℕ) → release_by r.waits.items net t k ≡ released_alone input t k
 alone_release net r input h w t k =
     let in' = input_within net input h in
     let none : slice_get net.inputs (length net.inputs) ≡ None = slice_get_past net.inputs (length net.inputs) (omega arith) in

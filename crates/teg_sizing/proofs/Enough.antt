@@ -76,7 +76,8 @@ module _ (net : NetLists) (r : Fraction) (p : PlaceId) where
             let first : Avoids p (take k ps) = all_second (λ q. q.index ≢ p.index) (drop k ps) (take k ps) parts in
             not_both p ps has (subst (Avoids p) (take-append-drop k ps) (All-append (λ q. q.index ≢ p.index) (take k ps) (drop k ps) first last))
 
-  pub fewest_by : (v : ℤ) (ps own : List PlaceId) (extra : ℕ) → NoneIsAbove net r p → IsBestThrough net r p v ps → IsTurnedLowest net ps own → 1 ≤ extra → v ≤ℤ pos (r.time * extra) → (v ≤ℤ pos (r.time * (extra - 1)) → ⊥) → IsFewest net r p extra own
+  pub fewest_by : (v : ℤ) (ps own : List PlaceId) (extra : ℕ) → NoneIsAbove net r p → IsBestThrough net r p v ps
+      → IsTurnedLowest net ps own → 1 ≤ extra → v ≤ℤ pos (r.time * extra) → (v ≤ℤ pos (r.time * (extra - 1)) → ⊥) → IsFewest net r p extra own
   fewest_by v ps own extra none best t some high low =
       let more : (pos (r.time * (extra - 1)) +ℤ pos 1) ≤ℤ v = above v (pos (r.time * (extra - 1))) low in
       let is = best.is in

@@ -21,7 +21,8 @@ pub within_more : (m n : ℕ) (cells : List ValueCell) → m ≤ n → AreValues
 within_more m n cells l h t v told = let w = h t v told in let low = w.0 in let high = w.1 in (omega (arith, ints), omega (arith, ints))
 
 -- a round keeps one weight more
-pub after_within : (net : NetLists) (r : Fraction) (e : PlaceId) (before after : List ValueCell) (m : ℕ) → IsNet net → IsTarget r → IsRoundAfter net r e before after → AreValuesWithin m before → AreValuesWithin (m + greatest_reduced_time) after
+pub after_within : (net : NetLists) (r : Fraction) (e : PlaceId) (before after : List ValueCell) (m : ℕ) → IsNet net → IsTarget r
+    → IsRoundAfter net r e before after → AreValuesWithin m before → AreValuesWithin (m + greatest_reduced_time) after
 after_within net r e before after m ok target h within t v told =
     ⊎_elim
     (λ (none : by_at after t ≡ None). let w = within t v (sym (h.same t none) ∙ told) in let low = w.0 in let high = w.1 in (omega (arith, ints), omega (arith, ints)))
@@ -53,7 +54,8 @@ pub round_last : (rounds : List (List ValueCell)) (after : List ValueCell) → r
 round_last rounds after = let e : length rounds ≡ length rounds + 0 = omega arith in ap (λ (z : ℕ). get_or (rounds ++ (after ∷ [])) z []) e ∙ get_or-append-add rounds (after ∷ []) 0 []
 
 -- one more
-pub rounds_more : (net : NetLists) (r : Fraction) (e : PlaceId) (first : List ValueCell) (rounds : List (List ValueCell)) (after : List ValueCell) → IsNet net → IsTarget r → AreRounds net r e first rounds
+pub rounds_more : (net : NetLists) (r : Fraction) (e : PlaceId) (first : List ValueCell) (rounds : List (List ValueCell))
+    (after : List ValueCell) → IsNet net → IsTarget r → AreRounds net r e first rounds
     → IsRoundAfter net r e (last_round rounds) after → AreRounds net r e first (rounds ++ (after ∷ []))
 rounds_more net r e first rounds after ok target h here =
     let some = h.some in
@@ -65,7 +67,8 @@ rounds_more net r e first rounds after ok target h here =
     let last : round_at more (length rounds) ≡ after = round_last rounds after in
     let end : round_at more (k + 1) ≡ after = ap (round_at more) (sym long) ∙ last in
     let same_count : length after ≡ length net.transitions = here.count ∙ h.counts k (omega arith) in
-    let own : AreValuesWithin (k * greatest_reduced_time + greatest_reduced_time) after = after_within net r e (round_at rounds k) after (k * greatest_reduced_time) ok target here (h.within k (omega arith)) in
+    let own : AreValuesWithin (k * greatest_reduced_time + greatest_reduced_time) after =
+    after_within net r e (round_at rounds k) after (k * greatest_reduced_time) ok target here (h.within k (omega arith)) in
     let up : k * greatest_reduced_time + greatest_reduced_time ≡ (k + 1) * greatest_reduced_time = grind arith in
     record {
       some = omega arith;
@@ -75,7 +78,8 @@ rounds_more net r e first rounds after ok target h here =
           (λ (m : length rounds ≤ j). let is : j ≡ k + 1 = omega arith in ap (λ (z : ℕ). length (round_at more z)) is ∙ ap (λ (z : List ValueCell). length z) end ∙ same_count)
           (cases_lt j (length rounds));
       each = λ j l. ⊎_elim
-          (λ (m : j + 1 < length rounds). subst (λ (z : List ValueCell). IsRoundAfter net r e z (round_at more (j + 1))) (sym (old j (omega arith))) (subst (IsRoundAfter net r e (round_at rounds j)) (sym (old (j + 1) m)) (h.each j m)))
+          (λ (m : j + 1 < length rounds). subst (λ (z : List ValueCell). IsRoundAfter net r e z (round_at more (j + 1)))
+          (sym (old j (omega arith))) (subst (IsRoundAfter net r e (round_at rounds j)) (sym (old (j + 1) m)) (h.each j m)))
           (λ (m : length rounds ≤ j + 1).
           let is : j ≡ k = omega arith in
           rw is (subst (λ (z : List ValueCell). IsRoundAfter net r e z (round_at more (k + 1))) (sym (old k (omega arith))) (subst (IsRoundAfter net r e (round_at rounds k)) (sym end) here)))
@@ -97,7 +101,8 @@ stepped net r e before after p u h l other told =
     at_least_less (value_told after (to_of net p)) (u +ℤ reduced_time_of_place r (place_at net p)) (t.0 +ℤ reduced_time_of_place r (place_at net p)) (omega (arith, ints))
     (h.each p (t.0 +ℤ reduced_time_of_place r (place_at net p)) l l (record { other = other; start = t.0; told = t.1; is = refl }))
 
-pub held : (net : NetLists) (r : Fraction) (e : PlaceId) (before after : List ValueCell) (t : ℕ) (u : ℤ) → IsRoundAfter net r e before after → IsAtLeast (value_told before t) u → IsAtLeast (value_told after t) u
+pub held : (net : NetLists) (r : Fraction) (e : PlaceId) (before after : List ValueCell) (t : ℕ) (u : ℤ)
+    → IsRoundAfter net r e before after → IsAtLeast (value_told before t) u → IsAtLeast (value_told after t) u
 held net r e before after t u h told =
     let s = at_least_some (value_told before t) u told in
     at_least_less (value_told after t) u s.0 s.2 (h.kept t s.0 s.1)
@@ -127,7 +132,9 @@ module _ (net : NetLists) (r : Fraction) (e : PlaceId) (first : List ValueCell) 
       let z : (j + 1) + length ps ≡ j + suc (length ps) = omega arith in
       let cons = value_cons net r p ps in
       let same : (u +ℤ reduced_time_of_place r (place_at net p)) +ℤ reduced_time_of_path net r ps ≡ u +ℤ reduced_time_of_path net r (p ∷ ps) = omega (arith, ints) in
-      subst (λ (x : ℤ). IsAtLeast (value_told (round_at rounds (j + suc (length ps))) t) x) same (subst (λ (x : ℕ). IsAtLeast (value_told (round_at rounds x) t) ((u +ℤ reduced_time_of_place r (place_at net p)) +ℤ reduced_time_of_path net r ps)) z rest)
+      subst (λ (x : ℤ). IsAtLeast (value_told (round_at rounds (j + suc (length ps))) t) x) same
+      (subst (λ (x : ℕ). IsAtLeast (value_told (round_at rounds x) t)
+      ((u +ℤ reduced_time_of_place r (place_at net p)) +ℤ reduced_time_of_path net r ps)) z rest)
 
   -- so each path of at most k places is told in round k
   pub complete : (ps : List PlaceId) (k s t : ℕ) (u : ℤ) → k < length rounds → length ps ≤ k → IsPathBetween net s ps t → Avoids e ps → value_told first s ≡ Some u
@@ -136,6 +143,8 @@ module _ (net : NetLists) (r : Fraction) (e : PlaceId) (first : List ValueCell) 
       let begun : IsAtLeast (value_told (round_at rounds 0) s) u = subst (λ (z : List ValueCell). IsAtLeast (value_told z s) u) (sym h.first_is) (at_least_is (value_told first s) u told) in
       let there = along ps 0 s t u (omega arith) path avoids begun in
       let same : 0 + length ps ≡ length ps = omega arith in
-      let told : IsAtLeast (value_told (round_at rounds (length ps)) t) (u +ℤ reduced_time_of_path net r ps) = subst (λ (x : ℕ). IsAtLeast (value_told (round_at rounds x) t) (u +ℤ reduced_time_of_path net r ps)) same there in
+      let told : IsAtLeast (value_told (round_at rounds (length ps)) t) (u +ℤ reduced_time_of_path net r ps) =
+      subst (λ (x : ℕ). IsAtLeast (value_told (round_at rounds x) t) (u +ℤ reduced_time_of_path net r ps)) same there in
       let z : length ps + (k - length ps) ≡ k = omega arith in
-      subst (λ (x : ℕ). IsAtLeast (value_told (round_at rounds x) t) (u +ℤ reduced_time_of_path net r ps)) z (held_on (length ps) (k - length ps) t (u +ℤ reduced_time_of_path net r ps) (omega arith) told)
+      subst (λ (x : ℕ). IsAtLeast (value_told (round_at rounds x) t) (u +ℤ reduced_time_of_path net r ps)) z
+      (held_on (length ps) (k - length ps) t (u +ℤ reduced_time_of_path net r ps) (omega arith) told)

@@ -45,7 +45,8 @@ once_short net ps a b ok h once =
     let long = length-map ps (from_of net) in
     let apart : AllPairs (λ x y. x ≢ y) froms =
     λ j k d m n. rw (get_or-map (from_of net) ps j no_id d (omega arith), get_or-map (from_of net) ps k no_id d (omega arith)) (once k (omega arith) j m) in
-    let few = length-le_from_distinct_below froms (length net.transitions) (IsDistinct-from_AllPairs Decides-eqb froms apart) (λ q e. from_below net ps a b q ok h (Any-from_list_any (eqb q) froms e)) in
+    let few = length-le_from_distinct_below froms (length net.transitions) (IsDistinct-from_AllPairs Decides-eqb froms apart)
+    (λ q e. from_below net ps a b q ok h (Any-from_list_any (eqb q) froms e)) in
     omega (arith, few)
 
 -- the parts of a path round a piece of it
@@ -58,7 +59,8 @@ pub record IsCutAt (net : NetLists) (ps own : List PlaceId) (a b : ℕ) : Type 0
   pub closed : IsPathBetween net at own at
   pub some : 0 < length own
 
-pub cut_at : (net : NetLists) (ps : List PlaceId) (a b begin end : ℕ) → IsPathBetween net a ps b → begin < end → end < length ps → transition_left_at net ps begin ≡ transition_left_at net ps end → IsCutAt net ps (take (end - begin) (drop begin ps)) a b
+pub cut_at : (net : NetLists) (ps : List PlaceId) (a b begin end : ℕ) → IsPathBetween net a ps b → begin < end → end < length ps
+    → transition_left_at net ps begin ≡ transition_left_at net ps end → IsCutAt net ps (take (end - begin) (drop begin ps)) a b
 cut_at net ps a b begin end path l m same =
     let rest : List PlaceId = drop begin ps in
     let long : length rest ≡ length ps - begin = length-drop begin ps in
@@ -85,7 +87,8 @@ cut_at net ps a b begin end path l m same =
     }
 
 -- the piece between two places that leave one transition, none of which leaves one that was left before
-pub loop_found : (net : NetLists) (ps : List PlaceId) (a b begin end : ℕ) → IsPathBetween net a ps b → begin < end → end < length ps → transition_left_at net ps begin ≡ transition_left_at net ps end → ((k : ℕ) → k < end → NoneLeaves net ps k)
+pub loop_found : (net : NetLists) (ps : List PlaceId) (a b begin end : ℕ) → IsPathBetween net a ps b → begin < end → end < length ps
+    → transition_left_at net ps begin ≡ transition_left_at net ps end → ((k : ℕ) → k < end → NoneLeaves net ps k)
     → IsFirstLoop net ps (take (end - begin) (drop begin ps))
 loop_found net ps a b begin end path l m same once =
     let cut = cut_at net ps a b begin end path l m same in
@@ -112,7 +115,8 @@ loop_found net ps a b begin end path l m same once =
 
 -- ---- rounds from everywhere
 
-module _ (net : NetLists) (r : Fraction) (p : PlaceId) (first : List ValueCell) (rounds : List (List ValueCell)) (ok : IsNet net) (starts : StartsEverywhere (length net.transitions) first) (h : AreRounds net r p first rounds)
+module _ (net : NetLists) (r : Fraction) (p : PlaceId) (first : List ValueCell) (rounds : List (List ValueCell)) (ok : IsNet net)
+    (starts : StartsEverywhere (length net.transitions) first) (h : AreRounds net r p first rounds)
     (long : length rounds ≡ (length net.transitions + 1) + 1) where
   abbrev n : ℕ
   n = length net.transitions
@@ -127,7 +131,8 @@ module _ (net : NetLists) (r : Fraction) (p : PlaceId) (first : List ValueCell) 
   after_last = h.each n (omega arith)
 
   -- where nothing more is told in the last round, values only rise along paths
-  still : NoneIsBetter more → (ps : List PlaceId) (s t : ℕ) (u : ℤ) → IsPathBetween net s ps t → Avoids p ps → IsAtLeast (value_told last s) u → IsAtLeast (value_told last t) (u +ℤ reduced_time_of_path net r ps)
+  still : NoneIsBetter more → (ps : List PlaceId) (s t : ℕ) (u : ℤ) → IsPathBetween net s ps t → Avoids p ps
+      → IsAtLeast (value_told last s) u → IsAtLeast (value_told last t) (u +ℤ reduced_time_of_path net r ps)
   still none [] s t u path avoids told =
       let zero_value = value_none net r in
       let same : u +ℤ reduced_time_of_path net r [] ≡ u = omega (arith, ints) in
@@ -138,7 +143,8 @@ module _ (net : NetLists) (r : Fraction) (p : PlaceId) (first : List ValueCell) 
       let wide : length more ≡ n = h.counts (n + 1) (omega arith) in
       let to_in : to_of net q < length more = rw wide (ok.each_place q.index no_place path.0).to_in in
       let same : value_told more (to_of net q) ≡ value_told last (to_of net q) = after_last.same (to_of net q) (none (to_of net q) to_in) in
-      let there : IsAtLeast (value_told last (to_of net q)) (u +ℤ reduced_time_of_place r (place_at net q)) = subst (λ (o : Option ℤ). IsAtLeast o (u +ℤ reduced_time_of_place r (place_at net q))) same next in
+      let there : IsAtLeast (value_told last (to_of net q)) (u +ℤ reduced_time_of_place r (place_at net q)) =
+      subst (λ (o : Option ℤ). IsAtLeast o (u +ℤ reduced_time_of_place r (place_at net q))) same next in
       let rest = still none ps (to_of net q) t (u +ℤ reduced_time_of_place r (place_at net q)) path.2 (All-tail (λ x. x.index ≢ p.index) q ps avoids) there in
       let cons = value_cons net r q ps in
       let sum : (u +ℤ reduced_time_of_place r (place_at net q)) +ℤ reduced_time_of_path net r ps ≡ u +ℤ reduced_time_of_path net r (q ∷ ps) = omega (arith, ints) in
@@ -153,7 +159,8 @@ module _ (net : NetLists) (r : Fraction) (p : PlaceId) (first : List ValueCell) 
       let a : ℕ = c.closed.0 in
       let low = start_in ps a c.not_empty c.closed.1 in
       let zero_told : value_told first a ≡ Some (pos 0) = starts.each a low in
-      let begun : IsAtLeast (value_told (round_at rounds 0) a) (pos 0) = subst (λ (z : List ValueCell). IsAtLeast (value_told z a) (pos 0)) (sym h.first_is) (at_least_is (value_told first a) (pos 0) zero_told) in
+      let begun : IsAtLeast (value_told (round_at rounds 0) a) (pos 0) =
+      subst (λ (z : List ValueCell). IsAtLeast (value_told z a) (pos 0)) (sym h.first_is) (at_least_is (value_told first a) (pos 0) zero_told) in
       let up = held_on net r p first rounds h 0 n a (pos 0) (omega arith) begun in
       let z : 0 + n ≡ n = omega arith in
       let told = at_least_some (value_told last a) (pos 0) (subst (λ (x : ℕ). IsAtLeast (value_told (round_at rounds x) a) (pos 0)) z up) in

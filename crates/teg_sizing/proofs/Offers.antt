@@ -15,7 +15,8 @@ use Rattle.teg_sizing.specs.ValueRounds.{no_cell, value_told, by_at, IsAtLeast, 
 use Rattle.teg_sizing.proofs.Values.{same_some, none_some, at_least_is, at_least_less, between_them}
 
 -- a place offers one value
-pub one_offer : (net : NetLists) (r : Fraction) (e : PlaceId) (before : List ValueCell) (p : PlaceId) (u v : ℤ) → IsOffered r e before p (place_at net p) u → IsOffered r e before p (place_at net p) v → u ≡ v
+pub one_offer : (net : NetLists) (r : Fraction) (e : PlaceId) (before : List ValueCell) (p : PlaceId) (u v : ℤ)
+    → IsOffered r e before p (place_at net p) u → IsOffered r e before p (place_at net p) v → u ≡ v
 one_offer net r e before p u v f g =
     let same : f.start ≡ g.start = same_some (value_told before (place_at net p).from.index) f.start g.start f.told g.told in
     let one = f.is in
@@ -24,7 +25,8 @@ one_offer net r e before p u v f g =
 
 -- past a place whose offer is told already, or that has none
 pub round_past : (net : NetLists) (r : Fraction) (e : PlaceId) (before after : List ValueCell) (k : ℕ) → IsRoundUpTo net r e before k after
-    → ((v : ℤ) → IsOffered r e before (record { index = k }) (place_at net (record { index = k })) v → IsAtLeast (value_told after (to_of net (record { index = k }))) v) → IsRoundUpTo net r e before (k + 1) after
+    → ((v : ℤ) → IsOffered r e before (record { index = k }) (place_at net (record { index = k })) v
+    → IsAtLeast (value_told after (to_of net (record { index = k }))) v) → IsRoundUpTo net r e before (k + 1) after
 round_past net r e before after k h told = record {
   count = h.count;
   kept = h.kept;
@@ -105,7 +107,8 @@ pub record FreshUpTo (before cells : List ValueCell) (k : ℕ) : Type 0 where
   pub same : (t : ℕ) → t < k → value_told cells t ≡ value_told before t
   pub by_none : (t : ℕ) → by_at cells t ≡ None
 
-pub fresh_more : (before cells : List ValueCell) (k : ℕ) (cell : ValueCell) → FreshUpTo before cells k → k < length before → cell ≡ get_or before k cell → FreshUpTo before (cells ++ (record { value = cell.value; by = None } ∷ [])) (k + 1)
+pub fresh_more : (before cells : List ValueCell) (k : ℕ) (cell : ValueCell) → FreshUpTo before cells k → k < length before
+    → cell ≡ get_or before k cell → FreshUpTo before (cells ++ (record { value = cell.value; by = None } ∷ [])) (k + 1)
 fresh_more before cells k cell h l is =
     let count = h.count in
     let new : ValueCell = record { value = cell.value; by = None } in
@@ -144,10 +147,12 @@ fresh_end before cells h =
 
 -- ---- the place as the code reads it
 
-end_in : (net : NetLists) (r : Fraction) (e : PlaceId) (before after : List ValueCell) (k j : ℕ) → IsNet net → length before ≡ length net.transitions → IsRoundUpTo net r e before j after → k < length net.places → to_of net (record { index = k }) < length after
+end_in : (net : NetLists) (r : Fraction) (e : PlaceId) (before after : List ValueCell) (k j : ℕ) → IsNet net
+    → length before ≡ length net.transitions → IsRoundUpTo net r e before j after → k < length net.places → to_of net (record { index = k }) < length after
 end_in net r e before after k j ok long h l = let to_in = (ok.each_place k no_place l).to_in in let count = h.count in omega arith
 
-pub taken_place : (net : NetLists) (r : Fraction) (e : PlaceId) (before after : List ValueCell) (k : ℕ) (q : Place) (v : ℤ) (cell : ValueCell) → IsNet net → length before ≡ length net.transitions → IsRoundUpTo net r e before k after → k < length net.places
+pub taken_place : (net : NetLists) (r : Fraction) (e : PlaceId) (before after : List ValueCell) (k : ℕ) (q : Place) (v : ℤ)
+    (cell : ValueCell) → IsNet net → length before ≡ length net.transitions → IsRoundUpTo net r e before k after → k < length net.places
     → q ≡ place_at net (record { index = k }) → IsOffered r e before (record { index = k }) q v → cell ≡ get_or after q.to.index cell → (IsAtLeast cell.value v → ⊥)
     → IsRoundUpTo net r e before (k + 1) (set after q.to.index (record { value = Some v; by = Some (record { index = k }) }))
 taken_place net r e before after k q v cell ok long h l q_is offered cell_is more =
@@ -159,8 +164,10 @@ taken_place net r e before after k q v cell ok long h l q_is offered cell_is mor
     subst (λ (z : ℕ). IsRoundUpTo net r e before (k + 1) (set after z (record { value = Some v; by = Some id }))) (sym to_is)
     (round_taken net r e before after k v h l to_in (subst (λ (z : Place). IsOffered r e before id z v) q_is offered) (λ up. more (subst (λ (z : ValueCell). IsAtLeast z.value v) (sym told) up)))
 
-pub kept_place : (net : NetLists) (r : Fraction) (e : PlaceId) (before after : List ValueCell) (k : ℕ) (q : Place) (v : ℤ) (cell : ValueCell) → IsNet net → length before ≡ length net.transitions → IsRoundUpTo net r e before k after → k < length net.places
-    → q ≡ place_at net (record { index = k }) → IsOffered r e before (record { index = k }) q v → cell ≡ get_or after q.to.index cell → IsAtLeast cell.value v → IsRoundUpTo net r e before (k + 1) after
+pub kept_place : (net : NetLists) (r : Fraction) (e : PlaceId) (before after : List ValueCell) (k : ℕ) (q : Place) (v : ℤ)
+    (cell : ValueCell) → IsNet net → length before ≡ length net.transitions → IsRoundUpTo net r e before k after → k < length net.places
+    → q ≡ place_at net (record { index = k }) → IsOffered r e before (record { index = k }) q v → cell ≡ get_or after q.to.index cell
+    → IsAtLeast cell.value v → IsRoundUpTo net r e before (k + 1) after
 kept_place net r e before after k q v cell ok long h l q_is offered cell_is less =
     let id : PlaceId = record { index = k } in
     let to : ℕ = to_of net id in

@@ -15,7 +15,8 @@ use Rattle.teg_net.proofs.PathLaws.{IsPathBetween-in_range}
 use Rattle.teg_sizing.specs.declared.sizing.Sizing.{Sizing}
 use Rattle.teg_sizing.specs.declared.sizing.Sizing.TheVariants.{Enough, Impossible}
 use Rattle.teg_sizing.specs.Sizings.{IsSizing}
-use Rattle.teg_sizing.specs.SizingTexts.{ToldSizing, EnoughTold, ImpossibleTold, told_sizing, sizing_lines, HasSizingCircuitIn, IsSizingTold, SaidSizing, SizingSaid, NoPlaceSaid, said_lines, IsSizingSaid, TextsOfSizingsDiffer}
+use Rattle.teg_sizing.specs.SizingTexts.{ToldSizing, EnoughTold, ImpossibleTold, told_sizing, sizing_lines, HasSizingCircuitIn, IsSizingTold}
+use Rattle.teg_sizing.specs.SizingTexts.{SaidSizing, SizingSaid, NoPlaceSaid, said_lines, IsSizingSaid, TextsOfSizingsDiffer}
 
 -- ---- what is read
 

@@ -86,7 +86,8 @@ lengthen net r e first last ok target again none (suc m) k rounds h long is =
     })
 
 -- rounds that stop at one that tells no more have told all
-pub stopped : (net : NetLists) (r : Fraction) (e : PlaceId) (first : List ValueCell) (rounds : List (List ValueCell)) (last : List ValueCell) (count : ℕ) → IsNet net → IsTarget r → AreRounds net r e first rounds → length rounds ≤ count
+pub stopped : (net : NetLists) (r : Fraction) (e : PlaceId) (first : List ValueCell) (rounds : List (List ValueCell))
+    (last : List ValueCell) (count : ℕ) → IsNet net → IsTarget r → AreRounds net r e first rounds → length rounds ≤ count
     → IsRoundAfter net r e (last_round rounds) last → NoneIsBetter last → HaveToldAll net r e first count (rounds ++ (last ∷ []))
 stopped net r e first rounds last count ok target h few after better =
     let none = none_at_all last better in
@@ -94,7 +95,8 @@ stopped net r e first rounds last count ok target h few after better =
     let k : ℕ = length rounds in
     let long : length more ≡ k + 1 = length-append rounds (last ∷ []) in
     let all : IsLengthened net r e first more last (k + (count - k)) =
-    lengthen net r e first last ok target (is_after_itself net r e (last_round rounds) last after none) none (count - k) k more (rounds_more net r e first rounds last ok target h after) long (round_last rounds last) in
+    lengthen net r e first last ok target (is_after_itself net r e (last_round rounds) last after none) none (count - k) k more
+    (rounds_more net r e first rounds last ok target h after) long (round_last rounds last) in
     let same : k + (count - k) ≡ count = omega arith in
     let own : IsLengthened net r e first more last count = rw same at all in
     let end : length more - 1 ≡ k = omega (arith, long) in
@@ -108,7 +110,8 @@ stopped net r e first rounds last count ok target h few after better =
     }
 
 -- and so have all of them
-pub whole : (net : NetLists) (r : Fraction) (e : PlaceId) (first : List ValueCell) (rounds : List (List ValueCell)) (count : ℕ) → AreRounds net r e first rounds → length rounds ≡ count + 1 → HaveToldAll net r e first count rounds
+pub whole : (net : NetLists) (r : Fraction) (e : PlaceId) (first : List ValueCell) (rounds : List (List ValueCell)) (count : ℕ)
+    → AreRounds net r e first rounds → length rounds ≡ count + 1 → HaveToldAll net r e first count rounds
 whole net r e first rounds count h long =
     let end : length rounds - 1 ≡ count = omega (arith, long) in
     record { some = omega (arith, long); all = rounds; are = h; long = long; last = ap (round_at rounds) end; paths = λ t. refl }

@@ -44,7 +44,8 @@ module _ (net : NetLists) (r : Fraction) (p : PlaceId) (first : List ValueCell) 
       (cases_eq s (to_of net p))
 
   -- a path by which more is told has no loop: without it as much would have been told before
-  no_loop_by : (k t : ℕ) (v : ℤ) → suc k < length rounds → value_told (round_at rounds (suc k)) t ≡ Some v → HasLoop net (to_of net p) t (trace_of net rounds (suc (suc k)) t) → (q : PlaceId) → by_at (round_at rounds (suc k)) t ≡ Some q → ⊥
+  no_loop_by : (k t : ℕ) (v : ℤ) → suc k < length rounds → value_told (round_at rounds (suc k)) t ≡ Some v
+      → HasLoop net (to_of net p) t (trace_of net rounds (suc (suc k)) t) → (q : PlaceId) → by_at (round_at rounds (suc k)) t ≡ Some q → ⊥
   no_loop_by k t v l told loop q by =
       let taken : IsTakenBy net r p (round_at rounds k) (round_at rounds (suc k)) t q = (next_round net r p first rounds h k l).by_place t q by in
       let same : taken.value ≡ v = same_some (value_told (round_at rounds (suc k)) t) taken.value v taken.told told in
@@ -65,7 +66,8 @@ module _ (net : NetLists) (r : Fraction) (p : PlaceId) (first : List ValueCell) 
       let less = rest_shorter net (to_of net p) t ps loop in
       let some = loop.circuit.not_empty in
       let few = w.few in
-      let done = complete net r p first rounds h rest k (to_of net p) t (pos 0) (omega arith) (omega arith) (rest_leads net (to_of net p) t ps loop) (All-append (λ x. x.index ≢ p.index) loop.before loop.after one three) starts.here in
+      let done = complete net r p first rounds h rest k (to_of net p) t (pos 0) (omega arith) (omega arith)
+      (rest_leads net (to_of net p) t ps loop) (All-append (λ x. x.index ≢ p.index) loop.before loop.after one three) starts.here in
       let up = at_least_some (value_told (round_at rounds k) t) (pos 0 +ℤ reduced_time_of_path net r rest) done in
       let high = up.2 in
       let value = w.is in
@@ -96,7 +98,8 @@ module _ (net : NetLists) (r : Fraction) (p : PlaceId) (first : List ValueCell) 
   end = round_at rounds n
 
   -- a circuit through the place is, turned, the place and a path back that is told
-  back_of : (qs : List PlaceId) → IsCircuit net qs → Contains qs p → (v : ℤ) × (value_told end (from_of net p) ≡ Some v) × (reduced_time_of_path net r qs ≤ℤ (v +ℤ reduced_time_of_place r (place_at net p)))
+  back_of : (qs : List PlaceId) → IsCircuit net qs → Contains qs p → (v : ℤ) × (value_told end (from_of net p) ≡ Some v)
+      × (reduced_time_of_path net r qs ≤ℤ (v +ℤ reduced_time_of_place r (place_at net p)))
   back_of qs c passes =
       let t : IsThrough net p qs = through net p qs c passes in
       let few = loop_short net n (p ∷ t.others) (ends_below net ok) t.circuit in
@@ -111,7 +114,9 @@ module _ (net : NetLists) (r : Fraction) (p : PlaceId) (first : List ValueCell) 
         one_id : (q : PlaceId) → q.index ≡ p.index → q ≡ p
         one_id q e = ap (λ (z : ℕ). record { index = z }) e
 
-        same_value : (others : List PlaceId) → sum_by (λ q. (place_at net q).hold) qs ≡ (place_at net p).hold + sum_by (λ q. (place_at net q).hold) others → sum_by (λ q. (place_at net q).tokens) qs ≡ (place_at net p).tokens + sum_by (λ q. (place_at net q).tokens) others → reduced_time_of_path net r qs ≡ reduced_time_of_path net r (p ∷ others)
+        same_value : (others : List PlaceId) → sum_by (λ q. (place_at net q).hold) qs ≡ (place_at net p).hold + sum_by
+            (λ q. (place_at net q).hold) others → sum_by (λ q. (place_at net q).tokens) qs ≡ (place_at net p).tokens + sum_by
+            (λ q. (place_at net q).tokens) others → reduced_time_of_path net r qs ≡ reduced_time_of_path net r (p ∷ others)
         same_value others e f =
             let time : time_of net (p ∷ others) ≡ (place_at net p).hold + time_of net others = sum_by-cons (λ q. (place_at net q).hold) p others in
             let tokens : tokens_of net (p ∷ others) ≡ (place_at net p).tokens + tokens_of net others = sum_by-cons (λ q. (place_at net q).tokens) p others in
@@ -121,7 +126,8 @@ module _ (net : NetLists) (r : Fraction) (p : PlaceId) (first : List ValueCell) 
   none_passes none qs c passes = let b = back_of qs c passes in none_some (value_told end (from_of net p)) b.0 none b.1
 
   -- the path that is told, and the place
-  pub best_is : (v : ℤ) → IsTarget r → value_told end (from_of net p) ≡ Some v → IsBestThrough net r p (v +ℤ reduced_time_of_place r (place_at net p)) (trace_of net rounds (length rounds) (from_of net p) ++ (p ∷ []))
+  pub best_is : (v : ℤ) → IsTarget r → value_told end (from_of net p) ≡ Some v
+      → IsBestThrough net r p (v +ℤ reduced_time_of_place r (place_at net p)) (trace_of net rounds (length rounds) (from_of net p) ++ (p ∷ []))
   best_is v target told =
       let ps : List PlaceId = trace_of net rounds (suc n) (from_of net p) in
       let all : length rounds ≡ suc n = omega arith in

@@ -22,7 +22,8 @@ pub trace_same : (net : NetLists) (rounds : List (List ValueCell)) (k t : ℕ) �
 trace_same net rounds k t e = ap (λ (o : Option PlaceId). by_place o (trace_of net rounds k t) (λ p. trace_of net rounds k (from_of net p) ++ (p ∷ []))) e
 
 -- where one is
-pub trace_more : (net : NetLists) (rounds : List (List ValueCell)) (k t : ℕ) (p : PlaceId) → by_at (round_at rounds k) t ≡ Some p → trace_of net rounds (suc k) t ≡ trace_of net rounds k (from_of net p) ++ (p ∷ [])
+pub trace_more : (net : NetLists) (rounds : List (List ValueCell)) (k t : ℕ) (p : PlaceId) → by_at (round_at rounds k) t ≡ Some p
+    → trace_of net rounds (suc k) t ≡ trace_of net rounds k (from_of net p) ++ (p ∷ [])
 trace_more net rounds k t p e = ap (λ (o : Option PlaceId). by_place o (trace_of net rounds k t) (λ q. trace_of net rounds k (from_of net q) ++ (q ∷ []))) e
 
 -- the round as it is read
@@ -30,15 +31,19 @@ pub read_round : (rounds : List (List ValueCell)) (k : ℕ) (read cells : List V
 read_round rounds k read cells l is same = same ∙ get_or_read rounds k read l is []
 
 -- the places found so far, last first, and one more
-pub trace_by : (net : NetLists) (rounds : List (List ValueCell)) (k t : ℕ) (p : PlaceId) (places whole : List PlaceId) → 0 < k → by_at (round_at rounds (k - 1)) t ≡ Some p → whole ≡ trace_of net rounds k t ++ reverse places
+pub trace_by : (net : NetLists) (rounds : List (List ValueCell)) (k t : ℕ) (p : PlaceId) (places whole : List PlaceId) → 0 < k
+    → by_at (round_at rounds (k - 1)) t ≡ Some p → whole ≡ trace_of net rounds k t ++ reverse places
     → whole ≡ trace_of net rounds (k - 1) (from_of net p) ++ reverse (places ++ (p ∷ []))
 trace_by net rounds k t p places whole some by is =
     let up : k ≡ suc (k - 1) = omega arith in
     let more : trace_of net rounds k t ≡ trace_of net rounds (k - 1) (from_of net p) ++ (p ∷ []) = ap (λ (z : ℕ). trace_of net rounds z t) up ∙ trace_more net rounds (k - 1) t p by in
     let back : reverse (places ++ (p ∷ [])) ≡ (p ∷ []) ++ reverse places = reverse-append places (p ∷ []) in
-    is ∙ ap (λ (z : List PlaceId). z ++ reverse places) more ∙ append_assoc (trace_of net rounds (k - 1) (from_of net p)) (p ∷ []) (reverse places) ∙ ap (λ (z : List PlaceId). trace_of net rounds (k - 1) (from_of net p) ++ z) (sym back)
+    is ∙ ap (λ (z : List PlaceId). z ++ reverse places) more
+    ∙ append_assoc (trace_of net rounds (k - 1) (from_of net p)) (p ∷ []) (reverse places)
+    ∙ ap (λ (z : List PlaceId). trace_of net rounds (k - 1) (from_of net p) ++ z) (sym back)
 
-pub trace_on : (net : NetLists) (rounds : List (List ValueCell)) (k t : ℕ) (places whole : List PlaceId) → 0 < k → by_at (round_at rounds (k - 1)) t ≡ None → whole ≡ trace_of net rounds k t ++ reverse places
+pub trace_on : (net : NetLists) (rounds : List (List ValueCell)) (k t : ℕ) (places whole : List PlaceId) → 0 < k
+    → by_at (round_at rounds (k - 1)) t ≡ None → whole ≡ trace_of net rounds k t ++ reverse places
     → whole ≡ trace_of net rounds (k - 1) t ++ reverse places
 trace_on net rounds k t places whole some by is =
     let up : k ≡ suc (k - 1) = omega arith in
@@ -76,7 +81,9 @@ module _ (net : NetLists) (r : Fraction) (e : PlaceId) (first : List ValueCell) 
         let taken : IsTakenBy net r e (round_at rounds k) (round_at rounds (suc k)) t p = (next_round net r e first rounds h k l).by_place t p by in
         taken.in_range
 
-  extended : (ps : List PlaceId) (k t : ℕ) (p : PlaceId) (u v : ℤ) → IsTraced net r e first ps k (from_of net p) u → p.index < length net.places → to_of net p ≡ t → p.index ≢ e.index → v ≡ u +ℤ reduced_time_of_place r (place_at net p) → IsTraced net r e first (ps ++ (p ∷ [])) (suc k) t v
+  extended : (ps : List PlaceId) (k t : ℕ) (p : PlaceId) (u v : ℤ) → IsTraced net r e first ps k (from_of net p) u
+      → p.index < length net.places → to_of net p ≡ t → p.index ≢ e.index → v ≡ u +ℤ reduced_time_of_place r (place_at net p)
+      → IsTraced net r e first (ps ++ (p ∷ [])) (suc k) t v
   extended ps k t p u v old l to other is =
       let sum = value_append net r ps (p ∷ []) in
       let one = value_one net r p in
@@ -113,7 +120,8 @@ module _ (net : NetLists) (r : Fraction) (e : PlaceId) (first : List ValueCell) 
       (λ (none : by_at (round_at rounds (suc k)) t ≡ None).
       let old = traced k t v (omega arith) (sym (own.same t none) ∙ told) in
       let few = old.few in
-      let wider : IsTraced net r e first (trace k t) (suc k) t v = record { from = old.from; start = old.start; told = old.told; path = old.path; avoids = old.avoids; is = old.is; few = omega arith } in
+      let wider : IsTraced net r e first (trace k t) (suc k) t v =
+      record { from = old.from; start = old.start; told = old.told; path = old.path; avoids = old.avoids; is = old.is; few = omega arith } in
       subst (λ (ps : List PlaceId). IsTraced net r e first ps (suc k) t v) (sym (trace_same net rounds (suc k) t none)) wider)
       (λ (some : (p : PlaceId) × (by_at (round_at rounds (suc k)) t ≡ Some p)).
       let p : PlaceId = some.0 in
@@ -137,8 +145,11 @@ module _ (net : NetLists) (r : Fraction) (e : PlaceId) (first : List ValueCell) 
       let taken : IsTakenBy net r e (round_at rounds (suc j)) (round_at rounds (suc (suc j))) t p = (next_round net r e first rounds h (suc j) l).by_place t p by in
       let last = next_round net r e first rounds h j (omega arith) in
       let told : value_told (round_at rounds j) (from_of net p) ≡ Some taken.offered.start = sym (last.same (from_of net p) none) ∙ taken.offered.told in
-      let up = stepped net r e (round_at rounds j) (round_at rounds (suc j)) p taken.offered.start last taken.in_range taken.offered.other (at_least_is (value_told (round_at rounds j) (from_of net p)) taken.offered.start told) in
-      taken.more (subst (λ (z : ℕ). IsAtLeast (value_told (round_at rounds (suc j)) z) taken.value) taken.to (subst (IsAtLeast (value_told (round_at rounds (suc j)) (to_of net p))) (sym taken.offered.is) up))
+      let up = stepped net r e (round_at rounds j)
+      (round_at rounds (suc j)) p taken.offered.start last taken.in_range taken.offered.other
+      (at_least_is (value_told (round_at rounds j) (from_of net p)) taken.offered.start told) in
+      taken.more (subst (λ (z : ℕ). IsAtLeast (value_told (round_at rounds (suc j)) z) taken.value) taken.to
+      (subst (IsAtLeast (value_told (round_at rounds (suc j)) (to_of net p))) (sym taken.offered.is) up))
 
   pub traced_long : (k t : ℕ) (p : PlaceId) → suc k < length rounds → by_at (round_at rounds (suc k)) t ≡ Some p → length (trace (suc k) t) ≡ suc k
   traced_long zero t p l by = joined_long zero t p by (ap (λ (ps : List PlaceId). length ps) (trace_first (from_of net p)))

@@ -1,5 +1,6 @@
 -- Values of places and paths, and values that are told.
-use Rattle.std.proofs.Common.{ℕ, ℤ, pos, zero, suc, ◌+◌, ◌-◌, ◌*◌, ◌≤◌, ◌≡◌, ◌≢◌, ◌+ℤ◌, ◌-ℤ◌, negsuc, FitsSigned, to_z, of_z, List, [], ◌∷◌, ◌++◌, length, get_or, Option, Some, None, refl, sym, ap, subst, ◌∙◌, arith, ⊎_elim, ◌⊎◌, inl, inr}
+use Rattle.std.proofs.Common.{ℕ, ℤ, pos, zero, suc, ◌+◌, ◌-◌, ◌*◌, ◌≤◌, ◌≡◌, ◌≢◌, ◌+ℤ◌, ◌-ℤ◌, negsuc, FitsSigned, to_z, of_z, List, [], ◌∷◌, ◌++◌}
+use Rattle.std.proofs.Common.{length, get_or, Option, Some, None, refl, sym, ap, subst, ◌∙◌, arith, ⊎_elim, ◌⊎◌, inl, inr}
 use Rattle.std.specs.Prelude.{◌≤ℤ◌, All, Contains}
 use Rattle.std.specs.Int.{w128}
 use Rattle.std.proofs.lemmas.Int.{ints, by_lt_z, to_z-of_z, fits_signed_from_abs}
@@ -52,7 +53,8 @@ told_or_not (Some v) = inr (v, refl)
 
 -- ---- limits
 
-pub weight_within : (r : Fraction) (p : Place) → IsTarget r → p.hold ≤ greatest_hold → p.tokens ≤ most_place_tokens → ((pos 0 -ℤ pos greatest_reduced_time) ≤ℤ reduced_time_of_place r p) × (reduced_time_of_place r p ≤ℤ pos greatest_reduced_time)
+pub weight_within : (r : Fraction) (p : Place) → IsTarget r → p.hold ≤ greatest_hold → p.tokens ≤ most_place_tokens
+    → ((pos 0 -ℤ pos greatest_reduced_time) ≤ℤ reduced_time_of_place r p) × (reduced_time_of_place r p ≤ℤ pos greatest_reduced_time)
 weight_within r p t h k =
     let time = t.time in
     let tokens = t.tokens in

@@ -1,5 +1,6 @@
 -- Lists of fields, of rows and of blocks of rows are read back.
-use Rattle.std.proofs.Common.{◌≤◌, subst, ◌≡◌, ℕ, suc, ◌+◌, ◌-◌, ◌*◌, ◌/◌, ◌%◌, ◌<◌, Bool, true, false, not, List, [], ◌∷◌, ◌++◌, All, map, refl, ap, ap₂, sym, ◌∙◌, length, get_or, take, drop, zero, arith, append-nil, div-add-mod', div-lt_iff_lt-mul, mod-lt, ext_get_or}
+use Rattle.std.proofs.Common.{◌≤◌, subst, ◌≡◌, ℕ, suc, ◌+◌, ◌-◌, ◌*◌, ◌/◌, ◌%◌, ◌<◌, Bool, true, false, not, List, [], ◌∷◌, ◌++◌, All, map, refl, ap}
+use Rattle.std.proofs.Common.{ap₂, sym, ◌∙◌, length, get_or, take, drop, zero, arith, append-nil, div-add-mod', div-lt_iff_lt-mul, mod-lt, ext_get_or}
 use Rattle.std.proofs.lemmas.Bool.{and_parts, and_from, not-true}
 use Rattle.std.proofs.lemmas.List.{get_or_default}
 use Rattle.std.proofs.lemmas.List.Elements.{All-head, All-tail}
@@ -87,7 +88,9 @@ cells_back {A} {W} P f g back head width count xs d e all full =
           let in_column : i % width < width = mod-lt i positive in
           let here : (i / width + 1 - 1) * width + i % width ≡ i = ap (λ (q : ℕ). q * width + i % width) (omega arith) ∙ div-add-mod' i width in
           get_or-map-range_with_len word 0 (count * width) i i d l (omega arith)
-          ∙ ap (λ (line : List W). g (get_or (drop 1 line) (i % width) e)) (get_or-map-range_with_len (cells_row head (λ k t. f (get_or xs ((k - 1) * width + t) d)) width) 1 count (i / width) (i / width + 1) [] in_row (omega arith))
+          ∙ ap (λ (line : List W). g (get_or (drop 1 line) (i % width) e))
+          (get_or-map-range_with_len (cells_row head (λ k t. f (get_or xs ((k - 1) * width + t) d)) width) 1 count (i / width)
+          (i / width + 1) [] in_row (omega arith))
           ∙ ap g (get_or-map-range_with_len (λ t. f (get_or xs ((i / width + 1 - 1) * width + t) d)) 0 width (i % width) (i % width) e in_column (omega arith))
           ∙ ap (λ (n : ℕ). g (f (get_or xs n d))) here
           ∙ back (get_or xs i d) (all i d (omega (arith, l, full)))

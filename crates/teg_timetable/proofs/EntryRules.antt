@@ -22,7 +22,8 @@ pub record IsNewEntry (net : NetLists) (entries : List TableEntry) (e : TableEnt
   pub rule : IsEntryOf net e
   pub fresh : has_entry entries (transition_in_entry e) (departure_number e) ≡ false
 
-departure_new : (net : NetLists) (entries : List TableEntry) (k t first : ℕ) (e : TableEntry) → t < length net.transitions → departure_row (has_entry entries t 0) k t first ≡ Ok e → IsNewEntry net entries e
+departure_new : (net : NetLists) (entries : List TableEntry) (k t first : ℕ) (e : TableEntry) → t < length net.transitions
+    → departure_row (has_entry entries t 0) k t first ≡ Ok e → IsNewEntry net entries e
 departure_new net entries k t first e lt h = elim (cases_Bool (has_entry entries t 0)) [
   | inl twice ↦ cc (rw twice at h)
   | inr fresh ↦ elim (cases_Bool (nat_le first greatest_departure)) [

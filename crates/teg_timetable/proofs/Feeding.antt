@@ -127,4 +127,5 @@ kept net rules period t s settled tops most late h circuit is lowest good =
     let within = circuit_within net circuit ends is in
     circuits_keep_delays net period t ends (delay_left s) s.form.after s.form.period settled most late circuit is lowest
     (λ k d l. (good k d l).0)
-    (λ k d l. subst (λ (z : ℕ). HasDelayPast (delay_left s) s.form.after s.form.period z (from_of net (get_or circuit k d))) (good k d l).1 (h.each (from_of net (get_or circuit k d)) 0 (within k d l)).attained)
+    (λ k d l. subst (λ (z : ℕ). HasDelayPast (delay_left s) s.form.after s.form.period z (from_of net (get_or circuit k d)))
+    (good k d l).1 (h.each (from_of net (get_or circuit k d)) 0 (within k d l)).attained)

@@ -15,7 +15,9 @@ use Rattle.teg_text.proofs.Reading.{written_read}
 use Rattle.teg_text.proofs.LineBlocks.{rows, IsReadBack}
 use Rattle.teg_text.proofs.Words.{decimal_is_word}
 use Rattle.teg_timetable.specs.Spreads.{RecoveredTold, KeptTold}
-use Rattle.teg_timetable.specs.TimetableTexts.{ToldTimetable, LongFileTold, UnreadFileTold, SpreadTold, BadRowTold, UnknownTold, RepeatedTold, OutOfRangeTold, MissingTold, TooLargeTold, UnworkableTold, TooLongTold, delays_line, delays_lines, told_lines, IsTimetableTold, TextsOfTimetablesDiffer}
+use Rattle.teg_timetable.specs.TimetableTexts.{ToldTimetable, LongFileTold, UnreadFileTold, SpreadTold, BadRowTold, UnknownTold, RepeatedTold}
+use Rattle.teg_timetable.specs.TimetableTexts.{OutOfRangeTold, MissingTold, TooLargeTold, UnworkableTold, TooLongTold, delays_line, delays_lines}
+use Rattle.teg_timetable.specs.TimetableTexts.{told_lines, IsTimetableTold, TextsOfTimetablesDiffer}
 
 -- ---- what is read
 

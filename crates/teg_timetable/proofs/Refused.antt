@@ -59,8 +59,10 @@ module _ (net : NetLists) where
       fine_tested (is_number first) k (row_named k (number_named net name) (λ t. departure_row (has_entry entries t 0) k t (digits_value 10 first)))
       (fine_named k (number_named net name) (λ t. departure_row (has_entry entries t 0) k t (digits_value 10 first)) (λ t. fine_departure (has_entry entries t 0) k t (digits_value 10 first)))
   fine_row entries k (name ∷ number ∷ by ∷ []) =
-      fine_tested (is_number number && is_number by) k (row_named k (number_named net name) (λ t. delay_row (has_entry entries t (digits_value 10 number)) k t (digits_value 10 number) (digits_value 10 by)))
-      (fine_named k (number_named net name) (λ t. delay_row (has_entry entries t (digits_value 10 number)) k t (digits_value 10 number) (digits_value 10 by)) (λ t. fine_delay (has_entry entries t (digits_value 10 number)) k t (digits_value 10 number) (digits_value 10 by)))
+      fine_tested (is_number number && is_number by) k
+      (row_named k (number_named net name) (λ t. delay_row (has_entry entries t (digits_value 10 number)) k t (digits_value 10 number) (digits_value 10 by)))
+      (fine_named k (number_named net name) (λ t. delay_row (has_entry entries t (digits_value 10 number)) k t (digits_value 10 number)
+      (digits_value 10 by)) (λ t. fine_delay (has_entry entries t (digits_value 10 number)) k t (digits_value 10 number) (digits_value 10 by)))
   fine_row entries k (a ∷ b ∷ c ∷ d ∷ more) = fine_err {T = TableEntry} (fault.BadRow k) tt
 
   fine_with : {R : Type 0} (rows : List R) (r : Result R TableRefusal) → IsFine r → IsFine (with_read_row rows r)

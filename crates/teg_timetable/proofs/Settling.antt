@@ -82,7 +82,8 @@ outcome_in net period delay (RecoveredTold after) h = tt
 outcome_in net period delay (KeptTold circuit) h = IsPathBetween-in_range net circuit h.is_circuit.closed.0 h.is_circuit.closed.0 h.is_circuit.closed.1
 
 -- a limit that each form of the net with the releases as inputs exceeds is exceeded by the delays
-pub exceeds : (net d : NetLists) (period : ℕ) (t : Timetable) (limit : Option ℕ) → TellsDelays net period t d → (e : DelayRefusal) → IsSettlingRefusal d limit e → DelaysExceedLimit net period t limit e
+pub exceeds : (net d : NetLists) (period : ℕ) (t : Timetable) (limit : Option ℕ) → TellsDelays net period t d → (e : DelayRefusal)
+    → IsSettlingRefusal d limit e → DelaysExceedLimit net period t limit e
 exceeds net d period t limit tells (TooLarge transitions places) h = h
 exceeds net d period t limit tells (Unworkable place) h = h
 exceeds net d period t limit tells (TooLong l) h = (h.0, tells.past l h.1)

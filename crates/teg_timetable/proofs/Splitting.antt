@@ -1,5 +1,6 @@
 -- First departures and delays among entries.
-use Rattle.std.proofs.Common.{ℕ, zero, suc, ◌<◌, ◌≤◌, ◌+◌, ◌==◌, ◌≡◌, ◌≢◌, ◌∙◌, ◌++◌, ◌∷◌, [], List, Bool, true, false, cond, length, get_or, take, Option, Some, None, Result, Ok, Err, All, AllPairs, inl, inr, refl, sym, subst, ap, arith}
+use Rattle.std.proofs.Common.{ℕ, zero, suc, ◌<◌, ◌≤◌, ◌+◌, ◌==◌, ◌≡◌, ◌≢◌, ◌∙◌, ◌++◌, ◌∷◌, [], List, Bool, true, false, cond, length, get_or, take}
+use Rattle.std.proofs.Common.{Option, Some, None, Result, Ok, Err, All, AllPairs, inl, inr, refl, sym, subst, ap, arith}
 use Rattle.std.proofs.lemmas.Bool.{cases_Bool, cases_eq}
 use Rattle.std.proofs.lemmas.List.{length-append, take_more}
 use Rattle.std.proofs.lemmas.List.Elements.{All-append, All-cons, All-head, All-tail}

@@ -16,7 +16,8 @@ use Rattle.teg_net.specs.Circuits.{place_at, no_place, from_of, IsCircuit, time_
 use Rattle.teg_net.specs.Parts.{to_of}
 use Rattle.teg_net.specs.ReducedTimes.{reduced_time_of}
 use Rattle.teg_net.specs.GreatestRatios.{IsGreatestRatio, IsAnyPlace}
-use Rattle.workable_laws.specs.WorkablePeriods.{LeavesCircuitsTime, LeavesPlaceTime, AreWorkableFirsts, WorkableIsByFirsts, TimetablesFromFirstsAreWorkable, PeriodsAreWorkable, PeriodsFromTheRatioAreWorkable}
+use Rattle.workable_laws.specs.WorkablePeriods.{LeavesCircuitsTime, LeavesPlaceTime, AreWorkableFirsts, WorkableIsByFirsts}
+use Rattle.workable_laws.specs.WorkablePeriods.{TimetablesFromFirstsAreWorkable, PeriodsAreWorkable, PeriodsFromTheRatioAreWorkable}
 use Rattle.pace_laws.proofs.Slower.{cancel}
 use Rattle.pace_laws.proofs.Sums.{weight_is}
 use Rattle.pace_laws.proofs.Longest.{IsBestOfAll, best_of_all}

@@ -227,7 +227,11 @@ date_meet : (x a b : Date) → IsAtMost later_of x (earlier_of a b) ↔ (IsAtMos
 date_meet Early a b = (λ h. (refl, refl), λ h. refl)
 date_meet (At x) Early b = (λ h. cc, λ h. cc)
 date_meet (At x) (At s) Early = (λ h. cc, λ h. cc)
-date_meet (At x) (At s) (At t) = (λ h. let e : int_max x (int_min s t) ≡ int_min s t = at_inj _ _ h in (ap At (omega (arith, ints, clamps)), ap At (omega (arith, ints, clamps))), λ h. let e : int_max x s ≡ s = at_inj _ _ h.0 in let f : int_max x t ≡ t = at_inj _ _ h.1 in ap At (omega (arith, ints, clamps)))
+date_meet (At x) (At s) (At t) = (
+  λ h. let e : int_max x (int_min s t) ≡ int_min s t =
+      at_inj _ _ h in (ap At (omega (arith, ints, clamps)), ap At (omega (arith, ints, clamps))),
+  λ h. let e : int_max x s ≡ s = at_inj _ _ h.0 in let f : int_max x t ≡ t = at_inj _ _ h.1 in ap At (omega (arith, ints, clamps)),
+)
 date_meet (At x) (At s) Never = (λ h. (h, refl), λ h. h.0)
 date_meet (At x) Never b = (λ h. (refl, h), λ h. h.1)
 date_meet Never Early b = (λ h. cc, λ h. cc)

@@ -47,7 +47,11 @@ pub gain_residual_laws : ResidualLaws IsCanonicalGain gain_sum gain_product gain
 gain_residual_laws = record {
   left_is = λ a b ca cb. form_residual_laws.left_is a.series b.series ca cb;
   meet_is = λ a b ca cb. form_residual_laws.meet_is a.series b.series ca cb;
-  galois = λ a x b ca cx cb. (λ h. ap gain_of ((form_residual_laws.galois a.series x.series b.series ca cx cb).0 (down (gain_product a x) b h)), λ h. ap gain_of ((form_residual_laws.galois a.series x.series b.series ca cx cb).1 (down x (gain_left a b) h)));
+  galois = λ a x b ca cx cb. (
+    λ h. ap gain_of ((form_residual_laws.galois a.series x.series b.series ca cx cb).0
+        (down (gain_product a x) b h)),
+    λ h. ap gain_of ((form_residual_laws.galois a.series x.series b.series ca cx cb).1 (down x (gain_left a b) h)),
+  );
   meet_greatest = λ x a b cx ca cb. (
     λ h. let both = (form_residual_laws.meet_greatest x.series a.series b.series cx ca cb).0 (down x (gain_meet a b) h) in (ap gain_of both.0, ap gain_of both.1),
     λ h. ap gain_of ((form_residual_laws.meet_greatest x.series a.series b.series cx ca cb).1 (down x a h.0, down x b h.1)),

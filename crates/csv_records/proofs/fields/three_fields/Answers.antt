@@ -22,4 +22,5 @@ returns-in_err-third-clause-none c = absurd (field-there (fields_of c.args.row.n
 
 pub returns-clause-some : goal.returns-clause-some
 returns-clause-some c =
-    are_three (fields_of c.args.row.now) c.in_ok-first.first.now c.in_ok-second.second.now c.in_ok-third.third.now (omega arith) c.in_ok-first.ensures.value c.in_ok-second.ensures.value c.in_ok-third.ensures.value
+    are_three (fields_of c.args.row.now) c.in_ok-first.first.now c.in_ok-second.second.now c.in_ok-third.third.now
+    (omega arith) c.in_ok-first.ensures.value c.in_ok-second.ensures.value c.in_ok-third.ensures.value

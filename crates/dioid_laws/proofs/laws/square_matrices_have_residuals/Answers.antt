@@ -11,4 +11,5 @@ pub returns-clause-identities : goal.returns-clause-identities
 returns-clause-identities g c n =
     let d = g.D.Dioid in
     let squares = squares_are_dioid d n g.met.D.Dioid.closed g.met.D.Dioid.laws in
-    residual_identities (square_dioid d n) (square_residuals d g.D.Residuated n) squares.closed squares.laws (squares_have_residuals d n g.met.D.Dioid.closed g.met.D.Dioid.laws g.D.Residuated g.met.D.Residuated.residual_laws)
+    residual_identities (square_dioid d n) (square_residuals d g.D.Residuated n) squares.closed squares.laws
+    (squares_have_residuals d n g.met.D.Dioid.closed g.met.D.Dioid.laws g.D.Residuated g.met.D.Residuated.residual_laws)

@@ -33,7 +33,9 @@ returns-in-Err-Range-plus_product g c =
     record {
       within = omega (arith, c.loop-middle-test.true, c.columns-count.ensures.value);
       before = c.loop-middle.invariant.fit;
-      here = step_misfits d (entry_of d c.args.left.now c.args.row) (λ k. entry_of d c.args.right.now k c.args.column) c.loop-middle.middle _ _ _ (omega arith) c.loop-middle.invariant.value c.entry-here.ensures.value c.entry-in-loop-middle.ensures.value refused;
+      here = step_misfits d (entry_of d c.args.left.now c.args.row)
+          (λ k. entry_of d c.args.right.now k c.args.column) c.loop-middle.middle _ _ _
+          (omega arith) c.loop-middle.invariant.value c.entry-here.ensures.value c.entry-in-loop-middle.ensures.value refused;
     }
 
 pub loop-middle-preserved : goal.loop-middle-preserved

@@ -17,7 +17,17 @@ returns-in-Misfit g c =
     let rows = c.rows-rows.ensures.value in
     let columns = c.columns-columns.ensures.value in
     let stop = rw columns at c.in-Misfit.ensures in
-    rw columns (c.requires, first_misfit c.args.left.now.rows c.args.right.now.columns c.loop-place.place _ c.columns-columns.ensures.table.some_columns (record { within = rw (rows, columns) at c.loop-place-test.true; before = rw columns at c.loop-place.invariant.fit; here = λ f. stop.here (f _ stop.within) }), stop)
+    rw columns (
+      c.requires,
+      first_misfit c.args.left.now.rows c.args.right.now.columns c.loop-place.place _
+          c.columns-columns.ensures.table.some_columns
+          (record {
+            within = rw (rows, columns) at c.loop-place-test.true;
+            before = rw columns at c.loop-place.invariant.fit;
+            here = λ f. stop.here (f _ stop.within);
+          }),
+      stop,
+    )
 
 pub loop-place-preserved : goal.loop-place-preserved
 loop-place-preserved g c =

@@ -10,4 +10,5 @@ invariant-loop-place g l =
     let d = g.D.Dioid in
     let a = entry_of d l.left in
     let b = entry_of d l.right in
-    HoldsEach d l.place (λ place. CellFits d l.left.columns a b (place / l.columns) (place % l.columns)) (λ place. dot d l.left.columns (a (place / l.columns)) (λ k. b k (place % l.columns))) l.values.items
+    HoldsEach d l.place (λ place. CellFits d l.left.columns a b (place / l.columns) (place % l.columns))
+    (λ place. dot d l.left.columns (a (place / l.columns)) (λ k. b k (place % l.columns))) l.values.items

@@ -9,4 +9,5 @@ invariant-loop-place g l =
     let d = g.D.Dioid in
     let a = table_of l.rows l.columns l.left in
     let b = table_of l.rows l.columns l.right in
-    HoldsEach d l.place (λ place. EntrySumFits d a b (place / l.columns) (place % l.columns)) (λ place. d.sum (entry_of d a (place / l.columns) (place % l.columns)) (entry_of d b (place / l.columns) (place % l.columns))) l.values.items
+    HoldsEach d l.place (λ place. EntrySumFits d a b (place / l.columns) (place % l.columns))
+    (λ place. d.sum (entry_of d a (place / l.columns) (place % l.columns)) (entry_of d b (place / l.columns) (place % l.columns))) l.values.items

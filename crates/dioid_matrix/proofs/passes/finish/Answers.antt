@@ -14,7 +14,8 @@ returns-in-Err-Range g c =
     let row = c.loop-place.place / c.args.size in
     let column = c.loop-place.place % c.args.size in
     let one = subst (λ (v : g.row.D.Denot). (IsTrue (eqb row column) → d.sum_fits c.index-entries-place.result v) → ⊥) c.in-Ok.ensures.answer.0 refused in
-    let here = at_entry d c.args.size c.args.entries.now (λ z. ¬ (IsTrue (eqb row column) → d.sum_fits z d.one)) c.loop-place.place _ c.requires.filled c.loop-place-test.true c.index-entries-place.is one in
+    let here = at_entry d c.args.size c.args.entries.now
+    (λ z. ¬ (IsTrue (eqb row column) → d.sum_fits z d.one)) c.loop-place.place _ c.requires.filled c.loop-place-test.true c.index-entries-place.is one in
     (refl, first_misfit c.args.size c.args.size c.loop-place.place _ c.requires.some (record { within = c.loop-place-test.true; before = c.loop-place.invariant.fit; here = here }))
 
 pub loop-place-preserved : goal.loop-place-preserved
@@ -27,7 +28,8 @@ loop-place-preserved g c =
     let column = c.loop-place.place % c.args.size in
     let fits = subst (λ (u : g.row.D.Denot). IsTrue (eqb row column) → d.sum_fits c.index-entries-place.result u) c.in-Ok.ensures.answer.0 v.ensures.answer.1 in
     let value = subst (λ (u : g.row.D.Denot). v.value ≡ cond (eqb row column) (d.sum c.index-entries-place.result u) c.index-entries-place.result) c.in-Ok.ensures.answer.0 v.ensures.answer.0 in
-    rw items (holds_more _ _ _ _ _ _ c.loop-place.invariant (at (λ z. IsTrue (eqb row column) → d.sum_fits z d.one) fits) (at (λ z. v.value ≡ cond (eqb row column) (d.sum z d.one) z) value) v.ensures.element)
+    rw items (holds_more _ _ _ _ _ _ c.loop-place.invariant (at (λ z. IsTrue (eqb row column) → d.sum_fits z d.one) fits)
+    (at (λ z. v.value ≡ cond (eqb row column) (d.sum z d.one) z) value) v.ensures.element)
 
 pub returns : goal.returns
 returns g c =
@@ -36,5 +38,8 @@ returns g c =
     let whole : c.loop-place.place ≡ c.args.size * c.args.size = search rules in
     let h = rw whole at c.loop-place.invariant in
     let fits = λ (i j : ℕ). LastFits d r i j in
-    let value = λ (i j : ℕ). last_entry_of d r i j in
-    (h.len, elements_everywhere d _ _ _ _ g.met.D.Dioid.closed.zero_is h, record { entries = entries_held d c.args.size c.args.size fits value _ h; fit = fits_held d c.args.size c.args.size fits value _ h })
+    let value = λ (i j : ℕ). last_entry_of d r i j in (
+      h.len,
+      elements_everywhere d _ _ _ _ g.met.D.Dioid.closed.zero_is h,
+      record { entries = entries_held d c.args.size c.args.size fits value _ h; fit = fits_held d c.args.size c.args.size fits value _ h },
+    )

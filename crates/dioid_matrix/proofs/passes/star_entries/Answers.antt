@@ -22,4 +22,5 @@ returns g c =
     let whole : c.loop-k.k ≡ c.args.size = search rules in
     let after = rw whole at c.loop-k.invariant.after in
     let last = rw c.as_slice-2.ensures.value at c.finish.ensures in
-    answers_star g.D.Dioid g.D.Kleene c.args.size c.args.entries.now g.met.D.Dioid.closed g.met.D.Dioid.laws g.met.D.Kleene.star_laws c.requires.some c.requires.few c.requires.elements c.loop-k.table.items after c.finish.result last
+    answers_star g.D.Dioid g.D.Kleene c.args.size c.args.entries.now g.met.D.Dioid.closed g.met.D.Dioid.laws g.met.D.Kleene.star_laws
+    c.requires.some c.requires.few c.requires.elements c.loop-k.table.items after c.finish.result last

@@ -9,7 +9,8 @@ use Rattle.dioid_matrix.proofs.passes.turned.Goals as goal
 
 pub offset_bounds-entries-row : goal.offset_bounds-entries-row
 offset_bounds-entries-row g c =
-    let b : c.loop-place.place / c.args.size * c.args.size + c.args.k < length c.args.entries.now = pivot_within c.loop-place.place c.args.size c.args.k _ c.requires.step c.loop-place-test.true c.requires.filled in
+    let b : c.loop-place.place / c.args.size * c.args.size + c.args.k < length c.args.entries.now =
+    pivot_within c.loop-place.place c.args.size c.args.k _ c.requires.step c.loop-place-test.true c.requires.filled in
     omega (arith, b)
 
 pub bounds-entries-row : goal.bounds-entries-row
@@ -18,8 +19,16 @@ bounds-entries-row g c = pivot_within c.loop-place.place c.args.size c.args.k _ 
 pub returns-then-loops-column : goal.returns-then-loops-column
 returns-then-loops-column g c =
     let some : 1 ≤ c.args.size = omega arith in
-    let left : length c.args.loops.now ≤ c.loop-place.place % c.args.size = search rules in
-    (refl, first_misfit c.args.size c.args.size c.loop-place.place _ some (record { within = c.loop-place-test.true; before = c.loop-place.invariant.fit; here = loop_misfits g.D.Dioid g.D.Kleene c.args.size c.args.k c.args.entries.now c.args.loops.now c.requires.loops c.requires.step c.requires.filled c.loop-place.place c.loop-place-test.true c.loop-place.invariant.fit left }))
+    let left : length c.args.loops.now ≤ c.loop-place.place % c.args.size = search rules in (
+      refl,
+      first_misfit c.args.size c.args.size c.loop-place.place _ some
+          (record {
+            within = c.loop-place-test.true;
+            before = c.loop-place.invariant.fit;
+            here = loop_misfits g.D.Dioid g.D.Kleene c.args.size c.args.k c.args.entries.now c.args.loops.now c.requires.loops c.requires.step
+                c.requires.filled c.loop-place.place c.loop-place-test.true c.loop-place.invariant.fit left;
+          }),
+    )
 
 pub returns-in-Err-Range : goal.returns-in-Err-Range
 returns-in-Err-Range g c =
@@ -27,16 +36,22 @@ returns-in-Err-Range g c =
     let refused = rw c.in-Err-Range.field-0-is at c.in-Err-Range.ensures.answer in
     let some : 1 ≤ c.args.size = omega arith in
     let column : c.loop-place.place % c.args.size < length c.args.loops.now = search rules in
-    let here = at_turn d g.D.Kleene c.args.size c.args.k c.args.entries.now c.args.loops.now c.requires.loops c.requires.step c.requires.filled (λ x y z. ¬ WayFits d x y z) c.loop-place.place _ _ _ c.loop-place-test.true column c.index-entries-place.is c.index-entries-row.is c.index-loops-column.is refused in
+    let here = at_turn d g.D.Kleene c.args.size c.args.k c.args.entries.now c.args.loops.now c.requires.loops c.requires.step
+    c.requires.filled (λ x y z. ¬ WayFits d x y z) c.loop-place.place _ _ _ c.loop-place-test.true column c.index-entries-place.is
+    c.index-entries-row.is c.index-loops-column.is refused in
     (refl, first_misfit c.args.size c.args.size c.loop-place.place _ some (record { within = c.loop-place-test.true; before = c.loop-place.invariant.fit; here = λ f. here f.1 }))
 
 pub loop-place-preserved : goal.loop-place-preserved
 loop-place-preserved g c =
     let d = g.D.Dioid in
     let column : c.loop-place.place % c.args.size < length c.args.loops.now = search rules in
-    let read = λ (P : g.row.D.Denot → g.row.D.Denot → g.row.D.Denot → Type 0). at_turn d g.D.Kleene c.args.size c.args.k c.args.entries.now c.args.loops.now c.requires.loops c.requires.step c.requires.filled P c.loop-place.place _ _ _ c.loop-place-test.true column c.index-entries-place.is c.index-entries-row.is c.index-loops-column.is in
+    let read = λ (P : g.row.D.Denot → g.row.D.Denot → g.row.D.Denot
+    → Type 0). at_turn d g.D.Kleene c.args.size c.args.k c.args.entries.now c.args.loops.now c.requires.loops c.requires.step
+    c.requires.filled P c.loop-place.place _ _ _ c.loop-place-test.true column c.index-entries-place.is c.index-entries-row.is c.index-loops-column.is in
     let items : c.push.new.self.items ≡ c.loop-place.values.items ++ (c.in-Ok.value ∷ []) = search rules in
-    rw items (holds_more _ _ _ _ _ _ c.loop-place.invariant (c.requires.loops.fit (c.loop-place.place % c.args.size) column, read (λ x y z. WayFits d x y z) c.in-Ok.ensures.answer.1) (read (λ x y z. c.in-Ok.value ≡ d.sum x (d.product y z)) c.in-Ok.ensures.answer.0) c.in-Ok.ensures.element)
+    rw items (holds_more _ _ _ _ _ _ c.loop-place.invariant
+    (c.requires.loops.fit (c.loop-place.place % c.args.size) column, read (λ x y z. WayFits d x y z) c.in-Ok.ensures.answer.1)
+    (read (λ x y z. c.in-Ok.value ≡ d.sum x (d.product y z)) c.in-Ok.ensures.answer.0) c.in-Ok.ensures.element)
 
 pub returns : goal.returns
 returns g c =
@@ -46,5 +61,8 @@ returns g c =
     let whole : c.loop-place.place ≡ c.args.size * c.args.size = search rules in
     let h = rw whole at c.loop-place.invariant in
     let fits = λ (i j : ℕ). EntryFits d s r c.args.k i j in
-    let value = λ (i j : ℕ). through d s r c.args.k i j in
-    (h.len, elements_everywhere d _ _ _ _ g.met.D.Dioid.closed.zero_is h, record { entries = entries_held d c.args.size c.args.size fits value _ h; fit = fits_held d c.args.size c.args.size fits value _ h })
+    let value = λ (i j : ℕ). through d s r c.args.k i j in (
+      h.len,
+      elements_everywhere d _ _ _ _ g.met.D.Dioid.closed.zero_is h,
+      record { entries = entries_held d c.args.size c.args.size fits value _ h; fit = fits_held d c.args.size c.args.size fits value _ h },
+    )

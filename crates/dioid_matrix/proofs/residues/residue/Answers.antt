@@ -11,7 +11,8 @@ returns-in-Err-Range g c =
     record {
       within = c.rows-rows.ensures.table.some_rows;
       before = λ i h. absurd (omega (arith, h));
-      here = first_misfits d g.D.Residuated (λ i. entry_of d c.args.left.now i c.args.column) (λ i. entry_of d c.args.right.now i c.args.other) _ _ c.entry.ensures.value c.entry-2.ensures.value refused;
+      here = first_misfits d g.D.Residuated (λ i. entry_of d c.args.left.now i c.args.column)
+          (λ i. entry_of d c.args.right.now i c.args.other) _ _ c.entry.ensures.value c.entry-2.ensures.value refused;
     }
 
 pub loop-row-init : goal.loop-row-init
@@ -34,7 +35,9 @@ returns-in-Err-Range-meet_left g c =
     record {
       within = omega (arith, c.loop-row-test.true, c.rows-rows.ensures.value);
       before = c.loop-row.invariant.fit;
-      here = row_misfits d g.D.Residuated (λ i. entry_of d c.args.left.now i c.args.column) (λ i. entry_of d c.args.right.now i c.args.other) c.loop-row.row _ _ _ (omega arith) c.loop-row.invariant.value c.entry-here.ensures.value c.entry-in-loop-row.ensures.value refused;
+      here = row_misfits d g.D.Residuated (λ i. entry_of d c.args.left.now i c.args.column)
+          (λ i. entry_of d c.args.right.now i c.args.other) c.loop-row.row _ _ _
+          (omega arith) c.loop-row.invariant.value c.entry-here.ensures.value c.entry-in-loop-row.ensures.value refused;
     }
 
 pub loop-row-preserved : goal.loop-row-preserved

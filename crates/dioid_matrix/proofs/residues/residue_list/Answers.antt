@@ -15,7 +15,17 @@ returns-in-Misfit g c =
     let middle = c.columns-middle.ensures.value in
     let columns = c.columns-columns.ensures.value in
     let stop = rw columns at c.in-Misfit.ensures in
-    rw columns (c.requires, first_misfit c.args.left.now.columns c.args.right.now.columns c.loop-place.place _ c.columns-columns.ensures.table.some_columns (record { within = rw (middle, columns) at c.loop-place-test.true; before = rw columns at c.loop-place.invariant.fit; here = λ f. stop.here (f _ stop.within) }), stop)
+    rw columns (
+      c.requires,
+      first_misfit c.args.left.now.columns c.args.right.now.columns c.loop-place.place _
+          c.columns-columns.ensures.table.some_columns
+          (record {
+            within = rw (middle, columns) at c.loop-place-test.true;
+            before = rw columns at c.loop-place.invariant.fit;
+            here = λ f. stop.here (f _ stop.within);
+          }),
+      stop,
+    )
 
 pub loop-place-preserved : goal.loop-place-preserved
 loop-place-preserved g c =
@@ -28,5 +38,9 @@ returns g c =
     let left = c.columns-middle.ensures.table in
     let right = c.columns-columns.ensures.table in
     let whole : c.loop-place.place ≡ c.columns-middle.result * c.columns-columns.result = search rules in
-    let h = rw (whole, c.columns-middle.ensures.value, c.columns-columns.ensures.value) at c.loop-place.invariant in
-    (h.len, elements_everywhere g.D.Dioid _ _ _ _ met.closed.zero_is h, residual_table g.D.Dioid g.D.Residuated met.closed met.laws g.met.D.Residuated.residual_laws c.args.left.now c.args.right.now c.requires left.some_rows left.elements right.elements _ h)
+    let h = rw (whole, c.columns-middle.ensures.value, c.columns-columns.ensures.value) at c.loop-place.invariant in (
+      h.len,
+      elements_everywhere g.D.Dioid _ _ _ _ met.closed.zero_is h,
+      residual_table g.D.Dioid g.D.Residuated met.closed met.laws g.met.D.Residuated.residual_laws c.args.left.now c.args.right.now
+          c.requires left.some_rows left.elements right.elements _ h,
+    )

@@ -10,4 +10,5 @@ invariant-loop-place g l =
     let s = g.D.Residuated in
     let a = entry_of d l.left in
     let b = entry_of d l.right in
-    HoldsEach d l.place (λ place. ResidueFits d s l.left.rows a b (place / l.columns) (place % l.columns)) (λ place. residual_of d s l.left.rows a b (place / l.columns) (place % l.columns)) l.values.items
+    HoldsEach d l.place (λ place. ResidueFits d s l.left.rows a b (place / l.columns) (place % l.columns))
+    (λ place. residual_of d s l.left.rows a b (place / l.columns) (place % l.columns)) l.values.items

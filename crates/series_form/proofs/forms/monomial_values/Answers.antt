@@ -10,12 +10,14 @@ use Rattle.series_form.proofs.forms.monomial_values.Goals as goal
 pub loop-place-preserved : goal.loop-place-preserved
 loop-place-preserved c =
     let t : ℤ = to_z w128 (of_z w128 c.args.date) in
-    c.in_ok-push.ensures.items ∙ table_push (monomial_at c.args.shift t) c.loop-place._place c.loop-place.values.items Early c.loop-place.invariant (sym (monomial_below c.args.shift t c.loop-place._place c.loop-place-test.true))
+    c.in_ok-push.ensures.items ∙ table_push (monomial_at c.args.shift t) c.loop-place._place c.loop-place.values.items Early
+    c.loop-place.invariant (sym (monomial_below c.args.shift t c.loop-place._place c.loop-place-test.true))
 
 pub returns : goal.returns
 returns c =
     let t : ℤ = to_z w128 (of_z w128 c.args.date) in
     let whole : c.loop-place._place ≡ c.args.shift = omega arith in
     let items : c.push-2.new.self.items ≡ table (monomial_at c.args.shift t) (c.loop-place._place + 1) =
-    c.in_ok-push-2.ensures.items ∙ table_push (monomial_at c.args.shift t) c.loop-place._place c.loop-place.values.items (At t) c.loop-place.invariant (sym (monomial_from c.args.shift t c.loop-place._place (omega arith))) in
+    c.in_ok-push-2.ensures.items ∙ table_push (monomial_at c.args.shift t) c.loop-place._place c.loop-place.values.items
+    (At t) c.loop-place.invariant (sym (monomial_from c.args.shift t c.loop-place._place (omega arith))) in
     items ∙ ap (λ (z : ℕ). table (monomial_at c.args.shift t) (z + 1)) whole ∙ ap (λ (z : ℤ). table (monomial_at c.args.shift z) (c.args.shift + 1)) (to_z-of_z w128 c.args.date c.ranges.date)

@@ -20,7 +20,8 @@ loop-periods-init c =
     let number = to_z-of_z w128 c.number_at.result (record { sfits = c.number_at.type_inv }) in
     let known : to_z w128 (of_z w128 c.args.known) ≡ c.args.known = to_z-of_z w128 c.args.known (record { sfits = c.ranges.known.sfits }) in
     let begun = reach_first f g c.common_start.ensures.left.canonical.form c.common_start.ensures.right.canonical.form c.requires.numbers start low in
-    let here : to_z w128 (of_z w128 c.number_at.result) ≡ integer_of_date (value_at g (later_start f g + start)) = number ∙ c.number_at.ensures.value ∙ ap (λ (z : ℕ). integer_of_date (value_at g (z + start))) c.common_start.ensures.value in
+    let here : to_z w128 (of_z w128 c.number_at.result) ≡ integer_of_date (value_at g (later_start f g + start)) = number
+    ∙ c.number_at.ensures.value ∙ ap (λ (z : ℕ). integer_of_date (value_at g (z + start))) c.common_start.ensures.value in
     let none : start + 0 * f.period ≡ start = omega arith in (
       subst (λ (z : ℤ). IsReach f g 0 start z) (sym here) begun,
       subst (λ (z : ℤ). unsigned_abs z ≤ greatest_moderate) (sym number) c.number_at.ensures.bound,

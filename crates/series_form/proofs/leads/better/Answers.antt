@@ -16,7 +16,8 @@ returns-then-reach-period c =
     let f = c.args.first.now in
     let place = c.args.reach.place in
     let t : ltb place f.period ≡ true = below place c.period.result f.period c.period.ensures.value c.if-reach-period.true in
-    let here : c.number_at-here.result ≡ integer_of_date (value_at f (later_start f c.args.second.now + place)) = c.number_at-here.ensures.value ∙ ap (λ (z : ℕ). integer_of_date (value_at f (z + place))) c.common_start.ensures.value in
+    let here : c.number_at-here.result ≡ integer_of_date (value_at f (later_start f c.args.second.now + place)) =
+    c.number_at-here.ensures.value ∙ ap (λ (z : ℕ). integer_of_date (value_at f (z + place))) c.common_start.ensures.value in
     to_z-of_z w128 c.greater.result (record { sfits = c.greater.type_inv })
     ∙ max_step c.greater.result (to_z w128 (of_z w128 c.args.best)) (to_z w128 (of_z w128 (to_z w128 (of_z w128 c.args.reach.height) -ℤ to_z w128 (of_z w128 c.number_at-here.result))))
     c.args.best (c.args.reach.height -ℤ integer_of_date (value_at f (later_start f c.args.second.now + place))) c.greater.ensures

@@ -13,7 +13,8 @@ use Rattle.series_form.proofs.Heights.{reach_before, covers_it, max_step, sum_co
 use Rattle.series_form.proofs.leads.step_back.Goals as goal
 
 wide : (h : ℤ) (periods : ℕ) → periods ≤ 100000 → unsigned_abs h ≤ (periods + 1) * greatest_moderate → unsigned_abs h ≤ greatest_height
-wide h periods few low = let e : (periods + 1) * greatest_moderate ≤ 100001 * greatest_moderate = mul-le (periods + 1) greatest_moderate 100001 greatest_moderate (omega arith) (omega arith) in omega arith
+wide h periods few low = let e : (periods + 1) * greatest_moderate ≤ 100001 * greatest_moderate =
+    mul-le (periods + 1) greatest_moderate 100001 greatest_moderate (omega arith) (omega arith) in omega arith
 
 pub returns-clause-reach : goal.returns-clause-reach
 returns-clause-reach c =
@@ -24,7 +25,9 @@ returns-clause-reach c =
     let isf = c.common_start.ensures.left.canonical.form in
     let isg = c.common_start.ensures.right.canonical.form in
     let here : c.number_at-here.result ≡ integer_of_date (value_at g (later_start f g + place_before f g place)) =
-    c.number_at-here.ensures.value ∙ ap (λ (z : ℕ). integer_of_date (value_at g (z + c.before-place.result))) c.common_start.ensures.value ∙ ap (λ (z : ℕ). integer_of_date (value_at g (later_start f g + z))) c.before-place.ensures.value in
+    c.number_at-here.ensures.value ∙ ap (λ (z : ℕ). integer_of_date
+    (value_at g (z + c.before-place.result))) c.common_start.ensures.value
+    ∙ ap (λ (z : ℕ). integer_of_date (value_at g (later_start f g + z))) c.before-place.ensures.value in
     let value : to_z w128 (of_z w128 c.greater.result) ≡ int_max (integer_of_date (value_at g (later_start f g + place_before f g place))) (height +ℤ gain_from_before f g place) =
     to_z-of_z w128 c.greater.result (record { sfits = c.greater.type_inv })
     ∙ max_step c.greater.result (to_z w128 (of_z w128 c.number_at-here.result)) (to_z w128 (of_z w128 (to_z w128 (of_z w128 height) +ℤ to_z w128 (of_z w128 c.gain.result))))
@@ -34,7 +37,9 @@ returns-clause-reach c =
     let low = subst (λ (z : ℕ). z < width_of f g) c.before-place.ensures.value c.before-place.ensures.within in
     let reach = reach_before f g isf isg c.requires.numbers c.args.periods place height (covers_it f g isf isg) c.requires.reach low in
     subst (λ (z : ℤ). IsReach f g (c.args.periods + 1) c.before-place.result z) (sym value)
-    (subst (λ (z : ℕ). IsReach f g (c.args.periods + 1) z (int_max (integer_of_date (value_at g (later_start f g + place_before f g place))) (height +ℤ gain_from_before f g place))) (sym c.before-place.ensures.value) reach)
+    (subst (λ (z : ℕ). IsReach f g (c.args.periods + 1) z
+    (int_max (integer_of_date (value_at g (later_start f g + place_before f g place))) (height +ℤ gain_from_before f g place)))
+    (sym c.before-place.ensures.value) reach)
 
 more : (periods : ℕ) (x h k : ℤ) → unsigned_abs x ≤ greatest_moderate → unsigned_abs h ≤ (periods + 1) * greatest_moderate → unsigned_abs k ≤ greatest_moderate
     → unsigned_abs (int_max x (h +ℤ k)) ≤ (periods + 2) * greatest_moderate

@@ -14,7 +14,9 @@ use Rattle.series_form.proofs.shorten.finish.Goals as goal
 pub invariant_of-result : goal.invariant_of-result
 invariant_of-result c =
     let ex : to_z w128 (of_z w128 c.args.step) ≡ c.args.step = to_z-of_z w128 c.args.step c.ranges.step in
-    let sh : IsShape c.args.values.items c.args.turn c.args.step c.in-Ok.shape = subst (λ (z : ℤ). IsShape c.args.values.items c.args.turn z c.in-Ok.shape) ex (subst (λ (z : List Date). IsShape z c.args.turn (to_z w128 (of_z w128 c.args.step)) c.in-Ok.shape) c.as_slice.ensures.value c.in-Ok.ensures) in
+    let sh : IsShape c.args.values.items c.args.turn c.args.step c.in-Ok.shape =
+    subst (λ (z : ℤ). IsShape c.args.values.items c.args.turn z c.in-Ok.shape) ex
+    (subst (λ (z : List Date). IsShape z c.args.turn (to_z w128 (of_z w128 c.args.step)) c.in-Ok.shape) c.as_slice.ensures.value c.in-Ok.ensures) in
     let low : unsigned_abs c.in-Ok.shape.step ≤ greatest_value = subst (λ (z : Form). unsigned_abs z.step ≤ greatest_value) sh.form sh.small.step in
     let form : form_with c.truncate.new.self.items c.in-Ok.shape.period (to_z w128 (of_z w128 c.in-Ok.shape.step)) ≡ shortened c.args.values.items c.args.turn c.args.step =
     ap (λ (z : List Date). form_with z c.in-Ok.shape.period (to_z w128 (of_z w128 c.in-Ok.shape.step))) c.truncate.ensures.items
@@ -24,7 +26,9 @@ invariant_of-result c =
 pub returns-in-Ok : goal.returns-in-Ok
 returns-in-Ok c =
     let ex : to_z w128 (of_z w128 c.args.step) ≡ c.args.step = to_z-of_z w128 c.args.step c.ranges.step in
-    let sh : IsShape c.args.values.items c.args.turn c.args.step c.in-Ok.shape = subst (λ (z : ℤ). IsShape c.args.values.items c.args.turn z c.in-Ok.shape) ex (subst (λ (z : List Date). IsShape z c.args.turn (to_z w128 (of_z w128 c.args.step)) c.in-Ok.shape) c.as_slice.ensures.value c.in-Ok.ensures) in
+    let sh : IsShape c.args.values.items c.args.turn c.args.step c.in-Ok.shape =
+    subst (λ (z : ℤ). IsShape c.args.values.items c.args.turn z c.in-Ok.shape) ex
+    (subst (λ (z : List Date). IsShape z c.args.turn (to_z w128 (of_z w128 c.args.step)) c.in-Ok.shape) c.as_slice.ensures.value c.in-Ok.ensures) in
     let low : unsigned_abs c.in-Ok.shape.step ≤ greatest_value = subst (λ (z : Form). unsigned_abs z.step ≤ greatest_value) sh.form sh.small.step in
     let form : form_with c.truncate.new.self.items c.in-Ok.shape.period (to_z w128 (of_z w128 c.in-Ok.shape.step)) ≡ shortened c.args.values.items c.args.turn c.args.step =
     ap (λ (z : List Date). form_with z c.in-Ok.shape.period (to_z w128 (of_z w128 c.in-Ok.shape.step))) c.truncate.ensures.items
@@ -35,5 +39,7 @@ pub returns-in-Err : goal.returns-in-Err
 returns-in-Err c =
     let ex : to_z w128 (of_z w128 c.args.step) ≡ c.args.step = to_z-of_z w128 c.args.step c.ranges.step in
     let f : FitsSigned w128 c.in-Err.value = search rules in
-    let great : IsTooGreat c.args.values.items c.args.turn c.args.step c.in-Err.value = subst (λ (z : ℤ). IsTooGreat c.args.values.items c.args.turn z c.in-Err.value) ex (subst (λ (z : List Date). IsTooGreat z c.args.turn (to_z w128 (of_z w128 c.args.step)) c.in-Err.value) c.as_slice.ensures.value c.in-Err.ensures) in
+    let great : IsTooGreat c.args.values.items c.args.turn c.args.step c.in-Err.value =
+    subst (λ (z : ℤ). IsTooGreat c.args.values.items c.args.turn z c.in-Err.value) ex
+    (subst (λ (z : List Date). IsTooGreat z c.args.turn (to_z w128 (of_z w128 c.args.step)) c.in-Err.value) c.as_slice.ensures.value c.in-Err.ensures) in
     rw (to_z-of_z w128 c.in-Err.value f) (shortened_great c.args.values.items c.args.turn c.args.step c.in-Err.value c.requires.positive c.requires.fits c.requires.rising great)

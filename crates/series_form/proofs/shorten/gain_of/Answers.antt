@@ -9,7 +9,8 @@ use Rattle.series_form.proofs.FirstPart.{V}
 use Rattle.series_form.proofs.Listed.{gain_fits, whole_gain}
 use Rattle.series_form.proofs.shorten.gain_of.Goals as goal
 
-listed : (l : List Date) (n : ℕ) (x : ℤ) (turn : ℕ) → 0 < n → n ≤ length l → turn < n → gap (V l n x (length l - n)) (V l n x (length l - n + turn)) ≡ gap (get_or l (length l - n) Early) (get_or l (length l - n + turn) Early)
+listed : (l : List Date) (n : ℕ) (x : ℤ) (turn : ℕ) → 0 < n → n ≤ length l → turn < n
+    → gap (V l n x (length l - n)) (V l n x (length l - n + turn)) ≡ gap (get_or l (length l - n) Early) (get_or l (length l - n + turn) Early)
 listed l n x turn pos_n fits w =
     ap (λ (z : Date). gap z (V l n x (length l - n + turn))) (value_in (form_with l n x) (length l - n) (omega arith))
     ∙ ap (gap (get_or l (length l - n) Early)) (value_in (form_with l n x) (length l - n + turn) (omega arith))
@@ -21,8 +22,11 @@ gap_of-requires c =
 
 pub returns-then-turn-period-clause-rest : goal.returns-then-turn-period-clause-rest
 returns-then-turn-period-clause-rest c =
-    let e : to_z w128 (of_z w128 c.gap_of.result) ≡ gap (V c.args.values.now c.args.period c.args.step (length c.args.values.now - c.args.period)) (V c.args.values.now c.args.period c.args.step (length c.args.values.now - c.args.period + c.args.turn)) =
-    to_z-of_z w128 c.gap_of.result (record { sfits = c.gap_of.type_inv }) ∙ c.gap_of.ensures ∙ sym (listed c.args.values.now c.args.period c.args.step c.args.turn c.requires.positive c.requires.fits c.if-turn-period.true) in
+    let e : to_z w128 (of_z w128 c.gap_of.result) ≡ gap
+    (V c.args.values.now c.args.period c.args.step (length c.args.values.now - c.args.period))
+    (V c.args.values.now c.args.period c.args.step (length c.args.values.now - c.args.period + c.args.turn)) =
+    to_z-of_z w128 c.gap_of.result (record { sfits = c.gap_of.type_inv }) ∙ c.gap_of.ensures
+    ∙ sym (listed c.args.values.now c.args.period c.args.step c.args.turn c.requires.positive c.requires.fits c.if-turn-period.true) in
     subst (λ (z : ℤ). FitsSigned w128 (c.args.step -ℤ z)) (sym e)
     (gain_fits c.args.values.now c.args.period c.args.step c.requires.positive c.requires.fits c.args.turn c.requires.turn c.requires.rising c.ranges.step).1
 
@@ -31,4 +35,5 @@ returns-in-At-clause-gain c =
     let e : c.args.period ≡ c.args.turn = omega arith in
     to_z-of_z w128 c.args.step c.ranges.step
     ∙ whole_gain c.args.values.now c.args.period c.args.step c.requires.positive c.requires.fits c.in-At.field-0 c.in-At.is
-    ∙ ap (λ (z : ℕ). gap (V c.args.values.now c.args.period c.args.step (length c.args.values.now - c.args.period)) (V c.args.values.now c.args.period c.args.step (length c.args.values.now - c.args.period + z))) e
+    ∙ ap (λ (z : ℕ). gap (V c.args.values.now c.args.period c.args.step (length c.args.values.now - c.args.period))
+    (V c.args.values.now c.args.period c.args.step (length c.args.values.now - c.args.period + z))) e

@@ -17,11 +17,15 @@ loop-turn-preserved c =
     elim c.if-period-turn-eq0.branch [
       | then-period-turn-eq0+else-repeats w ↦
           let jump : to_z w128 (of_z w128 w.gain_of-jump.result) ≡ gap (f c.args.from) (f (c.args.from + c.loop-turn.turn)) =
-          to_z-of_z w128 w.gain_of-jump.result (record { sfits = w.gain_of-jump.type_inv }) ∙ w.gain_of-jump.ensures.gain ∙ ap (λ (z : ℕ). gap (f z) (f (z + c.loop-turn.turn))) (sym c.requires.from) in
-          turn_step f c.args.from c.args.period c.loop-turn.turn _ (to_z w128 (of_z w128 w.gain_of-jump.result)) w.repeats.result c.loop-turn.invariant c.loop-turn-test.true jump w.repeats.ensures w.if-repeats.false
+          to_z-of_z w128 w.gain_of-jump.result (record { sfits = w.gain_of-jump.type_inv }) ∙ w.gain_of-jump.ensures.gain
+          ∙ ap (λ (z : ℕ). gap (f z) (f (z + c.loop-turn.turn))) (sym c.requires.from) in
+          turn_step f c.args.from c.args.period c.loop-turn.turn _
+          (to_z w128 (of_z w128 w.gain_of-jump.result)) w.repeats.result c.loop-turn.invariant c.loop-turn-test.true jump w.repeats.ensures w.if-repeats.false
       | else-period-turn-eq0 w ↦
           let up : Rising f = subst (λ (z : ℤ). Rising (V c.args.values.now c.args.period z)) (sym (to_z-of_z w128 c.args.step c.ranges.step)) c.requires.rising in
-          let again : Repeats f c.args.from c.args.period x = subst (λ (z : ℕ). Repeats f z c.args.period x) (sym c.requires.from) (value_repeats (form_with c.args.values.now c.args.period x) c.requires.positive c.requires.fits) in
+          let again : Repeats f c.args.from c.args.period x =
+          subst (λ (z : ℕ). Repeats f z c.args.period x) (sym c.requires.from)
+          (value_repeats (form_with c.args.values.now c.args.period x) c.requires.positive c.requires.fits) in
           turn_passed f c.args.from c.args.period c.loop-turn.turn c.loop-turn.invariant c.loop-turn-test.true
           (least_divides f c.args.from c.args.period x up c.requires.positive again) w.if-period-turn-eq0.false
     ]

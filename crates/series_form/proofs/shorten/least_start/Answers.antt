@@ -7,7 +7,8 @@ use Rattle.series_laws.specs.SeriesForms.{form_with, value_at, moves, least_star
 use Rattle.series_form.proofs.Steps.{start_found}
 use Rattle.series_form.proofs.shorten.least_start.Goals as goal
 
-one_more : (f : ℕ → Date) (n : ℕ) (x : ℤ) (p b : ℕ) (r : Bool) → b < p → ((k : ℕ) → p - b ≤ k → k < p → moves f n x k ≡ true) → r ≡ moves f n x (p - (b + 1)) → r ≡ true → (k : ℕ) → p - (b + 1) ≤ k → k < p → moves f n x k ≡ true
+one_more : (f : ℕ → Date) (n : ℕ) (x : ℤ) (p b : ℕ) (r : Bool) → b < p → ((k : ℕ) → p - b ≤ k → k < p → moves f n x k ≡ true)
+    → r ≡ moves f n x (p - (b + 1)) → r ≡ true → (k : ℕ) → p - (b + 1) ≤ k → k < p → moves f n x k ≡ true
 one_more f n x p b r w old e h k u v = ⊎_elim
     (λ low. let here : k ≡ p - (b + 1) = omega arith in ap (moves f n x) here ∙ sym e ∙ h)
     (λ high. old k high v)
@@ -17,7 +18,8 @@ found : (f : ℕ → Date) (n : ℕ) (x : ℤ) (p b : ℕ) (r : Bool) → b < p 
 found f n x p b r w old e h = start_found f n x p (p - b) (omega arith) old (λ _. let here : (p - b) - 1 ≡ p - (b + 1) = omega arith in ap (moves f n x) here ∙ sym e ∙ h)
 
 pub loop-back-preserved : goal.loop-back-preserved
-loop-back-preserved c = one_more (value_at (form_with c.args.values.now c.args.period (to_z w128 (of_z w128 c.args.step)))) c.args.turn (to_z w128 (of_z w128 c.args.jump)) c.args.from c.loop-back.back c.moves_at.result
+loop-back-preserved c = one_more (value_at (form_with c.args.values.now c.args.period (to_z w128 (of_z w128 c.args.step)))) c.args.turn
+    (to_z w128 (of_z w128 c.args.jump)) c.args.from c.loop-back.back c.moves_at.result
     c.loop-back-test.true c.loop-back.invariant c.moves_at.ensures c.if-not-moves_at.false
 
 pub returns-then-not-moves_at-clause-value : goal.returns-then-not-moves_at-clause-value

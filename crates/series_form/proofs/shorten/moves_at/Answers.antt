@@ -16,7 +16,8 @@ returns c =
     let b : Date = get_or c.args.values.now c.args.shift Early in
     let f = V c.args.values.now c.args.period c.args.step in
     let here : f c.args.shift ≡ b = value_in (form_with c.args.values.now c.args.period c.args.step) c.args.shift c.requires.shift in
-    let there : f (c.args.shift + c.args.turn) ≡ move c.args.step a = past c.args.values.now c.args.period c.args.step c.requires.positive c.requires.fits (c.args.shift + c.args.turn) (omega arith) (omega arith) in
+    let there : f (c.args.shift + c.args.turn) ≡ move c.args.step a =
+    past c.args.values.now c.args.period c.args.step c.requires.positive c.requires.fits (c.args.shift + c.args.turn) (omega arith) (omega arith) in
     let rest : to_z w128 (of_z w128 (to_z w128 (of_z w128 c.args.step) -ℤ to_z w128 (of_z w128 c.args.jump))) ≡ c.args.step -ℤ c.args.jump =
     ap (λ (z : ℤ). to_z w128 (of_z w128 (z -ℤ to_z w128 (of_z w128 c.args.jump)))) (to_z-of_z w128 c.args.step c.ranges.step)
     ∙ ap (λ (z : ℤ). to_z w128 (of_z w128 (c.args.step -ℤ z))) (to_z-of_z w128 c.args.jump c.ranges.jump)

@@ -23,5 +23,8 @@ returns-in-At-clause-value c =
 pub returns-in-At-clause-within : goal.returns-in-At-clause-within
 returns-in-At-clause-within c =
     let small = rw c.in-At.is at c.requires.date in
-    rw (sum_of c.in-At.time c.args.turns c.args.step small c.requires.turns c.requires.step c.requires.reach, to_z-of_z w128 (c.in-At.time +ℤ pos c.args.turns *ℤ c.args.step) (add_fits c.in-At.time c.args.turns c.args.step small c.requires.reach))
+    rw (
+      sum_of c.in-At.time c.args.turns c.args.step small c.requires.turns c.requires.step c.requires.reach,
+      to_z-of_z w128 (c.in-At.time +ℤ pos c.args.turns *ℤ c.args.step) (add_fits c.in-At.time c.args.turns c.args.step small c.requires.reach),
+    )
     (within_of c.in-At.time c.args.turns c.args.step small c.requires.reach)

@@ -33,7 +33,8 @@ loop-place-init c =
 
 pub loop-place-preserved : goal.loop-place-preserved
 loop-place-preserved c =
-    further (λ (i : ℕ). loss_of_part (form_with c.args.values.now c.args.period (to_z w128 (of_z w128 c.args.step))) ((length c.args.values.now - c.args.period) + i)) c.loop-place.place _ c.loss.result c.max-worst.result
+    further (λ (i : ℕ). loss_of_part (form_with c.args.values.now c.args.period (to_z w128 (of_z w128 c.args.step)))
+    ((length c.args.values.now - c.args.period) + i)) c.loop-place.place _ c.loss.result c.max-worst.result
     c.loop-place.invariant.0 c.loop-place.invariant.1 c.loss.ensures.value c.loss.ensures.bound c.max-worst.ensures.value
 
 pub returns-clause-value : goal.returns-clause-value
@@ -41,4 +42,5 @@ returns-clause-value c =
     let whole : c.loop-place.place ≡ c.args.period - 1 = omega arith in
     c.loop-place.invariant.0
     ∙ ap (greatest_int (λ (i : ℕ). loss_of_part (form_with c.args.values.now c.args.period (to_z w128 (of_z w128 c.args.step))) ((length c.args.values.now - c.args.period) + i))) whole
-    ∙ ap (λ (z : ℤ). greatest_int (λ (i : ℕ). loss_of_part (form_with c.args.values.now c.args.period z) ((length c.args.values.now - c.args.period) + i)) (c.args.period - 1)) (to_z-of_z w128 c.args.step c.ranges.step)
+    ∙ ap (λ (z : ℤ). greatest_int (λ (i : ℕ). loss_of_part (form_with c.args.values.now c.args.period z)
+    ((length c.args.values.now - c.args.period) + i)) (c.args.period - 1)) (to_z-of_z w128 c.args.step c.ranges.step)

@@ -7,4 +7,5 @@ use Rattle.series_form.specs.SeriesLimits.{greatest_part_loss}
 use Rattle.series_ops.proofs.anchors.greatest_loss.Given as goal
 
 abbrev pub invariant-loop-place : goal.invariant-loop-place
-invariant-loop-place l = (l.worst ≡ greatest_int (λ i. loss_of_part (form_with l.values l.fn.period l.fn.step) (repeat_start (form_with l.values l.fn.period l.fn.step) + i)) l.place) × (unsigned_abs l.worst ≤ greatest_part_loss)
+invariant-loop-place l = (l.worst ≡ greatest_int (λ i. loss_of_part (form_with l.values l.fn.period l.fn.step)
+    (repeat_start (form_with l.values l.fn.period l.fn.step) + i)) l.place) × (unsigned_abs l.worst ≤ greatest_part_loss)

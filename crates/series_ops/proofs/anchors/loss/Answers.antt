@@ -28,6 +28,7 @@ pub returns-in-At-clause-value : goal.returns-in-At-clause-value
 returns-in-At-clause-value c =
     let low : unsigned_abs c.in-At.value ≤ greatest_part_value = subst (λ (z : Date). IsMagnitudeUpTo greatest_part_value z) c.in-At.is (c.requires.values c.args.place) in
     let a : c.many.result ≡ times c.args.place c.args.step = c.many.ensures.value ∙ ap (times c.args.place) (to_z-of_z w128 c.args.step c.ranges.step) in
-    let b : c.many-in-At.result ≡ times c.args.period c.in-At.value = c.many-in-At.ensures.value ∙ ap (times c.args.period) (to_z-of_z w128 c.in-At.value (moderate_fits c.in-At.value (omega arith))) in
+    let b : c.many-in-At.result ≡ times c.args.period c.in-At.value = c.many-in-At.ensures.value
+    ∙ ap (times c.args.period) (to_z-of_z w128 c.in-At.value (moderate_fits c.in-At.value (omega arith))) in
     code c.many.result c.many-in-At.result c.many.ensures.bound c.many-in-At.ensures.bound ∙ ap (λ (z : ℤ). z -ℤ c.many-in-At.result) a ∙ ap (λ (z : ℤ). times c.args.place c.args.step -ℤ z) b
     ∙ lost (form_with c.args.values.now c.args.period c.args.step) c.args.place c.in-At.value c.requires.place c.in-At.is

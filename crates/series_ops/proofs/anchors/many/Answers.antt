@@ -11,4 +11,5 @@ pub returns-clause-value : goal.returns-clause-value
 returns-clause-value c = many_code c.args.count c.args.number c.requires.count c.requires.number
 
 pub returns-clause-bound : goal.returns-clause-bound
-returns-clause-bound c = subst (λ (z : ℤ). unsigned_abs z ≤ greatest_part_product) (sym (many_code c.args.count c.args.number c.requires.count c.requires.number)) (many_bound c.args.count c.args.number c.requires.count c.requires.number)
+returns-clause-bound c = subst (λ (z : ℤ). unsigned_abs z ≤ greatest_part_product)
+    (sym (many_code c.args.count c.args.number c.requires.count c.requires.number)) (many_bound c.args.count c.args.number c.requires.count c.requires.number)

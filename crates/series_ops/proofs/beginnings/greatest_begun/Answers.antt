@@ -11,7 +11,8 @@ returns-then-shift-known c =
     c.later.ensures.value
     ∙ ap (λ (z : Date). later_of z (value_listed c.as_slice-known.result.now c.args.shift))
     (c.greatest_split-near.ensures.value ∙ ap (greatest_from (split_of (value_listed c.args.first.now) (value_listed c.args.second.now) c.args.shift) 0) c.places-count.ensures)
-    ∙ begun_window c.args.begun.now.count c.args.begun.now.sums.items c.as_slice-known.result.now c.args.first.now c.args.second.now c.args.most c.args.shift c.requires.begun c.as_slice-known.ensures.value c.if-shift-known.true
+    ∙ begun_window c.args.begun.now.count c.args.begun.now.sums.items c.as_slice-known.result.now c.args.first.now c.args.second.now
+    c.args.most c.args.shift c.requires.begun c.as_slice-known.ensures.value c.if-shift-known.true
 
 pub returns : goal.returns
 returns c = c.greatest_split.ensures.value ∙ ap (greatest_from (split_of (value_listed c.args.first.now) (value_listed c.args.second.now) c.args.shift) 0) c.places.ensures

@@ -9,4 +9,5 @@ loop-place-preserved c =
     let inside = c.requires.first in
     let splits = c.requires.splits in
     let below = c.requires.second in
-    split_code long_scale c.args.first.now c.args.second.now c.args.shift c.args.from c.loop-place.place _ c.max-best.result c.requires.cells c.requires.others (omega arith) (omega arith) c.max-best.ensures.value (record { sfits = c.max-best.type_inv }) c.loop-place.invariant
+    split_code long_scale c.args.first.now c.args.second.now c.args.shift c.args.from c.loop-place.place _ c.max-best.result
+    c.requires.cells c.requires.others (omega arith) (omega arith) c.max-best.ensures.value (record { sfits = c.max-best.type_inv }) c.loop-place.invariant

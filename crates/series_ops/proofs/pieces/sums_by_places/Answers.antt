@@ -13,7 +13,8 @@ loop-place-init c = none_begun (value_listed c.args.first.now) (value_listed c.a
 
 pub joined-requires : goal.joined-requires
 joined-requires c = record {
-  size = ap length (c.as_slice.ensures.value ∙ c.loop-place.invariant) ∙ table_length (window (value_listed c.args.first.now) (value_listed c.args.second.now) c.args.from c.loop-place.place) (length c.args.second.now);
+  size = ap length (c.as_slice.ensures.value ∙ c.loop-place.invariant)
+      ∙ table_length (window (value_listed c.args.first.now) (value_listed c.args.second.now) c.args.from c.loop-place.place) (length c.args.second.now);
   date = up_to_more greatest_value_ahead greatest_part_product _ (omega arith) (c.requires.first (c.args.from + c.loop-place.place));
   others = all_more greatest_listed greatest_moderate c.args.second.now (omega arith) c.requires.second;
 }

@@ -22,7 +22,8 @@ loop-turn-init c =
     )
 
 pub with_turns-requires-clause-sums : goal.with_turns-requires-clause-sums
-with_turns-requires-clause-sums c = windows_up_to c.args.first.now c.args.second.now c.loop-turn.sums.items c.args.from (c.args.piece.size * c.loop-turn.done) (length c.args.second.now) c.requires.first c.requires.second c.loop-turn.invariant.0
+with_turns-requires-clause-sums c = windows_up_to c.args.first.now c.args.second.now c.loop-turn.sums.items c.args.from
+    (c.args.piece.size * c.loop-turn.done) (length c.args.second.now) c.requires.first c.requires.second c.loop-turn.invariant.0
 
 pub loop-turn-preserved : goal.loop-turn-preserved
 loop-turn-preserved c =
@@ -37,7 +38,9 @@ loop-turn-preserved c =
     let room : n * (c.loop-turn.done + c.lesser-more.result) ≤ n * w = mul-le n (c.loop-turn.done + c.lesser-more.result) n w (omega arith) (omega arith) in (
       turns_more c.args.first.now c.args.second.now c.loop-turn.sums.items c.in_ok-next.next.items c.args.from (n * w) n c.loop-turn.done c.lesser-more.result c.args.piece.step
           c.requires.piece.repeats (omega arith) room c.loop-turn.invariant.0
-          (c.in_ok-next.ensures ∙ ap (λ (z : ℤ). table (joined_at (value_listed c.loop-turn.sums.items) (value_listed c.loop-turn.sums.items) (n * c.lesser-more.result) (At (times c.lesser-more.result z))) (length c.loop-turn.sums.items)) step),
+          (c.in_ok-next.ensures ∙ ap (λ (z : ℤ). table
+          (joined_at (value_listed c.loop-turn.sums.items) (value_listed c.loop-turn.sums.items) (n * c.lesser-more.result)
+          (At (times c.lesser-more.result z))) (length c.loop-turn.sums.items)) step),
       omega arith,
       omega arith,
     )

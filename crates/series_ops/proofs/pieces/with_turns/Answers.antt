@@ -18,5 +18,9 @@ pub returns : goal.returns
 returns c =
     let date : to_z w128 (of_z w128 c.many.result) ≡ times c.args.more c.args.step =
     to_z-of_z w128 c.many.result (record { sfits = c.many.type_inv }) ∙ c.many.ensures.value ∙ ap (times c.args.more) (to_z-of_z w128 c.args.step c.ranges.step) in
-    subst (λ (z : List Date). IfOk c.joined.result (λ values. values.items ≡ table (joined_at (value_listed z) (value_listed z) c.args.back (At (times c.args.more c.args.step))) (length z))) c.as_slice-known.ensures.value
-    (subst (λ (z : ℤ). IfOk c.joined.result (λ values. values.items ≡ table (joined_at (value_listed c.as_slice-known.result.now) (value_listed c.as_slice-known.result.now) c.args.back (At z)) (length c.as_slice-known.result.now))) date c.joined.ensures)
+    subst (λ (z : List Date). IfOk c.joined.result
+    (λ values. values.items ≡ table (joined_at (value_listed z) (value_listed z) c.args.back (At (times c.args.more c.args.step)))
+    (length z))) c.as_slice-known.ensures.value
+    (subst (λ (z : ℤ). IfOk c.joined.result (λ values. values.items ≡ table
+    (joined_at (value_listed c.as_slice-known.result.now) (value_listed c.as_slice-known.result.now) c.args.back (At z))
+    (length c.as_slice-known.result.now))) date c.joined.ensures)

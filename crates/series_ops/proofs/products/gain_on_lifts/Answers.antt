@@ -39,5 +39,6 @@ returns-clause-bound c =
     let same : to_z w128 (of_z w128 (to_z w128 c.lifts-lifts.result *ℤ to_z w128 (of_z w128 c.gain_over-gain.result))) ≡ times c.lifts-lifts.result (fall_of c.args.first.now c.args.second.now) =
     code c.lifts-lifts.result c.gain_over-gain.result c.lifts-lifts.ensures.bound c.gain_over-gain.ensures.bound ∙ ap (times c.lifts-lifts.result) gain in
     subst (λ (z : ℤ). unsigned_abs z ≤ greatest_moderate) (sym same)
-    (lifted_bound c.lifts-lifts.result (period_with c.args.first.now c.args.second.now / c.args.second.now.period) c.args.second.now.period (period_with c.args.first.now c.args.second.now) c.args.second.now.step
+    (lifted_bound c.lifts-lifts.result (period_with c.args.first.now c.args.second.now / c.args.second.now.period)
+    c.args.second.now.period (period_with c.args.first.now c.args.second.now) c.args.second.now.step
     (common_second c.args.first.now.period c.args.second.now.period pos_n) pos_n c.lifts-lifts.ensures.covers c.gain_over-gain.ensures.series.small.step)

@@ -31,6 +31,7 @@ value_with_tail-requires-clause-known c = sums_same c.in_ok-known.known.items c.
 pub loop-shift-preserved : goal.loop-shift-preserved
 loop-shift-preserved c = c.in_ok-push.ensures.items
     ∙ table_push (product_at (value_at c.args.first.now) (value_listed c.args.second.now)) c.loop-shift.shift c.loop-shift.values.items _ c.loop-shift.invariant
-    (c.value_with_tail.ensures ∙ ap (λ (z : List Date). with_tail (value_listed z) (value_listed c.args.second.now) c.start-from.result (value_listed c.args.tails.now c.loop-shift.shift) c.loop-shift.shift) c.requires.parts
+    (c.value_with_tail.ensures ∙ ap (λ (z : List Date). with_tail (value_listed z) (value_listed c.args.second.now) c.start-from.result
+    (value_listed c.args.tails.now c.loop-shift.shift) c.loop-shift.shift) c.requires.parts
     ∙ parted_listed c.args.first.now (value_listed c.args.second.now) c.loop-shift.shift c.start-from.result (value_listed c.args.tails.now c.loop-shift.shift) c.start-from.ensures.value
     (listed_is (tail_product c.args.first.now (value_listed c.args.second.now)) (length c.args.tails.now) c.args.tails.now c.requires.tails c.loop-shift.shift c.loop-shift-test.true))

@@ -30,7 +30,8 @@ pub tail_list-requires-clause-second : goal.tail_list-requires-clause-second
 tail_list-requires-clause-second c = long (value_at c.args.second.now) c.args.count c.in_ok-seconds.seconds (c.in_ok-seconds.ensures ∙ c.as_slice.ensures.value ∙ c.in_ok-values.ensures.values)
 
 pub tail_list-requires-clause-second_bound : goal.tail_list-requires-clause-second_bound
-tail_list-requires-clause-second_bound c = table_up_to c.args.second.now c.args.count c.in_ok-seconds.seconds c.in_ok-values.ensures.series c.requires (c.in_ok-seconds.ensures ∙ c.as_slice.ensures.value ∙ c.in_ok-values.ensures.values)
+tail_list-requires-clause-second_bound c = table_up_to c.args.second.now c.args.count c.in_ok-seconds.seconds
+    c.in_ok-values.ensures.series c.requires (c.in_ok-seconds.ensures ∙ c.as_slice.ensures.value ∙ c.in_ok-values.ensures.values)
 
 pub product_list-requires-clause-second : goal.product_list-requires-clause-second
 product_list-requires-clause-second c = as_long _ (value_at c.args.second.now) c.args.count c.as_slice-2.result.now c.in_ok-seconds.seconds

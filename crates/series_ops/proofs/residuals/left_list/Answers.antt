@@ -21,7 +21,8 @@ next_left-next-requires-clause-values c =
 
 pub next_left-next-requires-clause-count : goal.next_left-next-requires-clause-count
 next_left-next-requires-clause-count c =
-    let size : length c.as_slice.result.now ≡ c.loop-shift._shift = ap length (c.as_slice.ensures.value ∙ c.loop-shift.invariant) ∙ table_length (left_over c.args.first.now c.args.second.now) c.loop-shift._shift in
+    let size : length c.as_slice.result.now ≡ c.loop-shift._shift = ap length (c.as_slice.ensures.value ∙ c.loop-shift.invariant)
+    ∙ table_length (left_over c.args.first.now c.args.second.now) c.loop-shift._shift in
     let more = c.loop-shift-test.true in
     let count = c.requires.count in
     omega arith
@@ -31,6 +32,7 @@ next_left-next-requires-clause-early c = subst (λ (z : List Date). AreEarlyTo c
 
 pub loop-shift-preserved : goal.loop-shift-preserved
 loop-shift-preserved c =
-    let size : length c.as_slice.result.now ≡ c.loop-shift._shift = ap length (c.as_slice.ensures.value ∙ c.loop-shift.invariant) ∙ table_length (left_over c.args.first.now c.args.second.now) c.loop-shift._shift in
+    let size : length c.as_slice.result.now ≡ c.loop-shift._shift = ap length (c.as_slice.ensures.value ∙ c.loop-shift.invariant)
+    ∙ table_length (left_over c.args.first.now c.args.second.now) c.loop-shift._shift in
     c.in_ok-push.ensures.items ∙ table_push (left_over c.args.first.now c.args.second.now) c.loop-shift._shift c.loop-shift.values.items _ c.loop-shift.invariant
     (c.next_left-next.ensures ∙ ap (left_over c.args.first.now c.args.second.now) size)

@@ -23,7 +23,8 @@ left_value-requires c =
     let size = c.requires.by_star.size in
     let whole : length (conjugates_reversed c.args.list.now) ≡ length c.args.list.now = turned_length c.args.list.now in
     let all : length (map conjugate_of c.args.by_star.now) ≡ length c.args.by_star.now = length-map c.args.by_star.now conjugate_of in
-    let reach = list_reaches c.args.first.now c.args.second.now c.requires.series.canonical.form c.values.ensures.series.canonical.form c.requires.decide (conjugates_reversed c.args.list.now) (length c.args.values.now) c.requires.list (omega arith) in
+    let reach = list_reaches c.args.first.now c.args.second.now c.requires.series.canonical.form c.values.ensures.series.canonical.form
+    c.requires.decide (conjugates_reversed c.args.list.now) (length c.args.values.now) c.requires.list (omega arith) in
     record {
       begun = omega arith;
       from = omega arith;
@@ -32,7 +33,8 @@ left_value-requires c =
       by_star = omega arith;
       head = subst (λ (z : ℕ). ArePieceSums c.args.known.now.head.items c.args.parts.now c.args.list.now c.args.begun (z - c.args.begun)) (sym start) c.requires.head;
       rest = subst (λ (z : ℕ). ArePieceSums c.args.known.now.rest.items c.args.parts.now c.args.by_star.now z (length c.args.parts.now - z)) (sym start)
-          (subst (λ (z : ℕ). ArePieceSums c.args.known.now.rest.items c.args.parts.now c.args.by_star.now (repeat_start c.args.first.now) (z - repeat_start c.args.first.now)) (sym parts) c.requires.rest);
+          (subst (λ (z : ℕ). ArePieceSums c.args.known.now.rest.items c.args.parts.now c.args.by_star.now
+          (repeat_start c.args.first.now) (z - repeat_start c.args.first.now)) (sym parts) c.requires.rest);
     }
 
 pub returns-then-shift-values : goal.returns-then-shift-values

@@ -31,7 +31,8 @@ left_by_star-requires-clause-list c =
     let short = c.values.ensures.series.short in
     let few = c.requires.few in
     let offsets = c.offsets.ensures.value in
-    long_table_up_to c.args.second.now (length c.values.result.now + c.offsets.result) c.as_slice.result.now c.values.ensures.series (omega arith) (c.as_slice.ensures.value ∙ c.in_ok-list.ensures.values)
+    long_table_up_to c.args.second.now (length c.values.result.now + c.offsets.result) c.as_slice.result.now c.values.ensures.series
+    (omega arith) (c.as_slice.ensures.value ∙ c.in_ok-list.ensures.values)
 
 pub conjugates_back-requires : goal.conjugates_back-requires
 conjugates_back-requires c =
@@ -40,7 +41,8 @@ conjugates_back-requires c =
     let few = c.requires.few in
     let offsets = c.offsets.ensures.value in
     all_more greatest_value_far_ahead greatest_listed c.as_slice-2.result.now (omega arith)
-    (long_table_up_to c.args.second.now (length c.values.result.now + c.offsets.result) c.as_slice-2.result.now c.values.ensures.series (omega arith) (c.as_slice-2.ensures.value ∙ c.in_ok-list.ensures.values))
+    (long_table_up_to c.args.second.now (length c.values.result.now + c.offsets.result) c.as_slice-2.result.now c.values.ensures.series
+    (omega arith) (c.as_slice-2.ensures.value ∙ c.in_ok-list.ensures.values))
 
 pub conjugates-requires : goal.conjugates-requires
 conjugates-requires c =
@@ -54,11 +56,13 @@ conjugates-requires c =
     let own = c.period.ensures.value in
     let positive : 0 < c.period.result = omega arith in
     let x : ℤ = to_z w128 (of_z w128 c.step.result) in
-    let step : unsigned_abs x ≤ greatest_value = subst (λ (z : ℤ). unsigned_abs z ≤ greatest_value) (sym (stepped c.args.first.now c.step.result c.step.ensures.series c.step.ensures.value)) c.step.ensures.series.small.step in
+    let step : unsigned_abs x ≤ greatest_value = subst (λ (z : ℤ). unsigned_abs z ≤ greatest_value)
+    (sym (stepped c.args.first.now c.step.result c.step.ensures.series c.step.ensures.value)) c.step.ensures.series.small.step in
     let whole = c.in_ok-by_star.ensures.size in
     subst (λ (z : List Date). AreUpTo greatest_listed z) (sym c.as_slice-3.ensures.value)
     (star_left_up_to c.as_slice.result.now c.in_ok-by_star.by_star.items c.period.result x positive step
-    (long_table_up_to c.args.second.now (length c.values.result.now + c.offsets.result) c.as_slice.result.now c.values.ensures.series (omega arith) (c.as_slice.ensures.value ∙ c.in_ok-list.ensures.values))
+    (long_table_up_to c.args.second.now (length c.values.result.now + c.offsets.result) c.as_slice.result.now c.values.ensures.series
+    (omega arith) (c.as_slice.ensures.value ∙ c.in_ok-list.ensures.values))
     c.in_ok-by_star.ensures.at (omega arith))
 
 pub left_list-requires-clause-list : goal.left_list-requires-clause-list

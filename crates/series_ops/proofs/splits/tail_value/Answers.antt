@@ -24,4 +24,5 @@ returns c =
     c.added.ensures ∙ ap (λ (z : ℤ). date_product (At z) (value_listed c.args.tails.now (c.args.shift - c.args.period))) (to_z-of_z w128 c.args.step c.ranges.step) in
     c.later.ensures.value ∙ ap (λ (z : Date). later_of z c.added.result) here
     ∙ ap (later_of (window (value_listed c.args.values.now) (value_listed c.args.second.now) (length c.args.values.now - c.args.period) c.args.period c.args.shift)) before
-    ∙ tail_carried (form_with c.args.values.now c.args.period c.args.step) (value_listed c.args.second.now) c.args.shift c.args.tails.now c.requires.positive c.requires.period c.requires.tails c.if-shift-period.false
+    ∙ tail_carried (form_with c.args.values.now c.args.period c.args.step)
+    (value_listed c.args.second.now) c.args.shift c.args.tails.now c.requires.positive c.requires.period c.requires.tails c.if-shift-period.false

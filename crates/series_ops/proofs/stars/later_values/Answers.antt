@@ -19,4 +19,5 @@ push-requires c =
 pub loop-shift-preserved : goal.loop-shift-preserved
 loop-shift-preserved c =
     let here : c.loop-shift.shift + 1 ≡ suc c.loop-shift.shift = omega arith in
-    c.in_ok-push.ensures ∙ table_push (later_part (value_at c.args.series.now)) c.loop-shift.shift c.loop-shift.values _ c.loop-shift.invariant (c.at.ensures.value ∙ ap (value_at c.args.series.now) here)
+    c.in_ok-push.ensures ∙ table_push (later_part (value_at c.args.series.now)) c.loop-shift.shift c.loop-shift.values _
+    c.loop-shift.invariant (c.at.ensures.value ∙ ap (value_at c.args.series.now) here)

@@ -15,14 +15,19 @@ pub returns-clause-answer : goal.returns-clause-answer
 returns-clause-answer c = low_answer c.args.first.now c.star_of_parts.result (ap above_zero (sym c.at.ensures.value) ∙ sym c.is_above_zero.ensures ∙ c.if-is_above_zero.false) c.star_of_parts.ensures
 
 pub returns-clause-model : goal.returns-clause-model
-returns-clause-model c = model_answer (star_at (value_at c.args.first.now)) (form_star c.args.first.now) (λ r. (k : ℕ) → IsStarOf (value_at c.args.first.now) k (value_at r k)) (star_need c.args.first.now) (star_carried c.args.first.now) c.star_of_parts.result
-    (form_star_is c.args.first.now c.at.ensures.series.canonical.form) (form_star_values c.args.first.now c.at.ensures.series.canonical.form) (λ g h k. star_only (value_at c.args.first.now) k (value_at g k) (h k))
+returns-clause-model c = model_answer (star_at (value_at c.args.first.now)) (form_star c.args.first.now)
+    (λ r. (k : ℕ) → IsStarOf (value_at c.args.first.now) k (value_at r k)) (star_need c.args.first.now) (star_carried c.args.first.now) c.star_of_parts.result
+    (form_star_is c.args.first.now c.at.ensures.series.canonical.form)
+    (form_star_values c.args.first.now c.at.ensures.series.canonical.form) (λ g h k. star_only (value_at c.args.first.now) k (value_at g k) (h k))
     (low_answer c.args.first.now c.star_of_parts.result (ap above_zero (sym c.at.ensures.value) ∙ sym c.is_above_zero.ensures ∙ c.if-is_above_zero.false) c.star_of_parts.ensures)
 
 pub returns-then-is_above_zero-clause-answer : goal.returns-then-is_above_zero-clause-answer
-returns-then-is_above_zero-clause-answer c = high_answer c.args.first.now c.constant.result (ap above_zero (sym c.at.ensures.value) ∙ sym c.is_above_zero.ensures ∙ c.if-is_above_zero.true) c.constant.ensures
+returns-then-is_above_zero-clause-answer c = high_answer c.args.first.now c.constant.result
+    (ap above_zero (sym c.at.ensures.value) ∙ sym c.is_above_zero.ensures ∙ c.if-is_above_zero.true) c.constant.ensures
 
 pub returns-then-is_above_zero-clause-model : goal.returns-then-is_above_zero-clause-model
-returns-then-is_above_zero-clause-model c = model_answer (star_at (value_at c.args.first.now)) (form_star c.args.first.now) (λ r. (k : ℕ) → IsStarOf (value_at c.args.first.now) k (value_at r k)) (star_need c.args.first.now) (star_carried c.args.first.now) c.constant.result
-    (form_star_is c.args.first.now c.at.ensures.series.canonical.form) (form_star_values c.args.first.now c.at.ensures.series.canonical.form) (λ g h k. star_only (value_at c.args.first.now) k (value_at g k) (h k))
+returns-then-is_above_zero-clause-model c = model_answer (star_at (value_at c.args.first.now)) (form_star c.args.first.now)
+    (λ r. (k : ℕ) → IsStarOf (value_at c.args.first.now) k (value_at r k)) (star_need c.args.first.now) (star_carried c.args.first.now) c.constant.result
+    (form_star_is c.args.first.now c.at.ensures.series.canonical.form)
+    (form_star_values c.args.first.now c.at.ensures.series.canonical.form) (λ g h k. star_only (value_at c.args.first.now) k (value_at g k) (h k))
     (high_answer c.args.first.now c.constant.result (ap above_zero (sym c.at.ensures.value) ∙ sym c.is_above_zero.ensures ∙ c.if-is_above_zero.true) c.constant.ensures)

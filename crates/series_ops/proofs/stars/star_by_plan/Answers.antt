@@ -9,7 +9,8 @@ use Rattle.series_ops.proofs.stars.star_by_plan.Goals as goal
 
 pub ended-requires-clause-some : goal.ended-requires-clause-some
 ended-requires-clause-some c =
-    let e : length c.in-Ok.values.items ≡ c.args.plan.from + c.args.plan.turn + 1 = ap length c.in-Ok.ensures ∙ table_length (parts_star (value_at c.args.first.now)) (c.args.plan.from + c.args.plan.turn + 1) in
+    let e : length c.in-Ok.values.items ≡ c.args.plan.from + c.args.plan.turn + 1 = ap length c.in-Ok.ensures
+    ∙ table_length (parts_star (value_at c.args.first.now)) (c.args.plan.from + c.args.plan.turn + 1) in
     omega arith
 
 pub ended-requires-clause-beginning : goal.ended-requires-clause-beginning

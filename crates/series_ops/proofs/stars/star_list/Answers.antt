@@ -21,7 +21,8 @@ loop-shift-init c = (
   c.in_ok-push.ensures.items ∙ ap (λ (z : List Date). z ++ (At (pos 0) ∷ [])) c.new-stars.ensures.items,
   c.in_ok-push-2.ensures ∙ ap (λ (z : List Date). z ++ (At (pos 0) ∷ [])) c.new-cells.ensures,
   c.new-tails.ensures.items,
-  begun_none c.args.rest.now _ (repeat_start c.args.first.now) c.nothing_begun-begun.result.count c.nothing_begun-begun.result.sums.items c.nothing_begun-begun.ensures.count c.nothing_begun-begun.ensures.sums,
+  begun_none c.args.rest.now _ (repeat_start c.args.first.now) c.nothing_begun-begun.result.count
+      c.nothing_begun-begun.result.sums.items c.nothing_begun-begun.ensures.count c.nothing_begun-begun.ensures.sums,
 )
 
 pub tail_value-tail-requires : goal.tail_value-tail-requires
@@ -88,7 +89,8 @@ push-requires-in-loop-shift-2 c =
     (passed_form f c.args.rest.now c.period-period.result c.step-step.result c.step-step.ensures.series c.period-period.ensures.value c.step-step.ensures.value) in
     let next : c.later-next.result ≡ parts_star (value_at f) (c.loop-shift.shift + 1) =
     c.later-next.ensures.value ∙ ap (later_of (At (pos 0))) (c.later-best.ensures.value ∙ ap (λ (z : Date). later_of z c.tail_value-tail.result) c.greatest_begun.ensures)
-    ∙ star_next f c.period-period.ensures.series c.args.rest.now c.requires.rest c.loop-shift.shift c.start-from.result c.loop-shift.cells c.tail_value-tail.result c.loop-shift.invariant.1 c.start-from.ensures.value tail
+    ∙ star_next f c.period-period.ensures.series c.args.rest.now c.requires.rest c.loop-shift.shift c.start-from.result
+    c.loop-shift.cells c.tail_value-tail.result c.loop-shift.invariant.1 c.start-from.ensures.value tail
     ∙ ap (parts_star (value_at f)) following in
     subst (λ (z : Date). IsMagnitudeUpTo greatest_listed z) (sym next) (star_moderate f c.period-period.ensures.series (c.loop-shift.shift + 1) (omega arith))
 
@@ -101,12 +103,15 @@ loop-shift-preserved c =
     (passed_form f c.args.rest.now c.period-period.result c.step-step.result c.step-step.ensures.series c.period-period.ensures.value c.step-step.ensures.value) in
     let next : c.later-next.result ≡ parts_star (value_at f) (c.loop-shift.shift + 1) =
     c.later-next.ensures.value ∙ ap (later_of (At (pos 0))) (c.later-best.ensures.value ∙ ap (λ (z : Date). later_of z c.tail_value-tail.result) c.greatest_begun.ensures)
-    ∙ star_next f c.period-period.ensures.series c.args.rest.now c.requires.rest c.loop-shift.shift c.start-from.result c.loop-shift.cells c.tail_value-tail.result c.loop-shift.invariant.1 c.start-from.ensures.value tail
+    ∙ star_next f c.period-period.ensures.series c.args.rest.now c.requires.rest c.loop-shift.shift c.start-from.result
+    c.loop-shift.cells c.tail_value-tail.result c.loop-shift.invariant.1 c.start-from.ensures.value tail
     ∙ ap (parts_star (value_at f)) following in (
       c.in_ok-push-5.ensures.items ∙ table_push (parts_star (value_at f)) (c.loop-shift.shift + 1) c.loop-shift.stars.items _ c.loop-shift.invariant.0 next,
       c.in_ok-push-4.ensures ∙ table_push (parts_star (value_at f)) (c.loop-shift.shift + 1) c.loop-shift.cells _ c.loop-shift.invariant.1 next,
-      c.in_ok-push-3.ensures.items ∙ table_push (tail_product (form_with c.args.rest.now f.period f.step) (parts_star (value_at f))) c.loop-shift.shift c.loop-shift.tails.items _ c.loop-shift.invariant.2
+      c.in_ok-push-3.ensures.items ∙ table_push (tail_product (form_with c.args.rest.now f.period f.step)
+          (parts_star (value_at f))) c.loop-shift.shift c.loop-shift.tails.items _ c.loop-shift.invariant.2
           (tail ∙ later_tails f c.period-period.ensures.series c.args.rest.now c.requires.rest c.loop-shift.shift c.loop-shift.cells c.loop-shift.invariant.1 c.loop-shift.shift (omega arith)),
       begun_pushed c.in_ok-more.more.count c.in_ok-more.more.sums.items c.args.rest.now c.loop-shift.cells _ (repeat_start f) _
-          (subst (λ (z : ℕ). IsPieceBegun c.in_ok-more.more.count c.in_ok-more.more.sums.items c.args.rest.now c.loop-shift.cells z) c.start-from.ensures.value c.in_ok-more.ensures) c.in_ok-push-4.ensures,
+          (subst (λ (z : ℕ). IsPieceBegun c.in_ok-more.more.count c.in_ok-more.more.sums.items c.args.rest.now c.loop-shift.cells z)
+          c.start-from.ensures.value c.in_ok-more.ensures) c.in_ok-push-4.ensures,
     )

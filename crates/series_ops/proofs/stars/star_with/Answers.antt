@@ -11,7 +11,8 @@ use Rattle.series_ops.proofs.stars.star_with.Goals as goal
 pub returns-then-need-gt20000 : goal.returns-then-need-gt20000
 returns-then-need-gt20000 c =
     let one : c.args.one.now ≡ one_shift = one_is c.args.one.now c.plan_of_sum-plan.ensures.right.canonical c.requires.one in
-    let need : c.plan_of_sum-plan.result.from + c.plan_of_sum-plan.result.turn ≡ need_of (sum_plan c.args.first.now one_shift) = ap need_of c.plan_of_sum-plan.ensures.value ∙ ap (λ (z : Form). need_of (sum_plan c.args.first.now z)) one in
+    let need : c.plan_of_sum-plan.result.from + c.plan_of_sum-plan.result.turn ≡ need_of (sum_plan c.args.first.now one_shift) =
+    ap need_of c.plan_of_sum-plan.ensures.value ∙ ap (λ (z : Form). need_of (sum_plan c.args.first.now z)) one in
     long_need c.args.first.now (c.plan_of_sum-plan.result.from + c.plan_of_sum-plan.result.turn) need c.if-need-gt20000.true
 
 pub plan_with-plan-requires : goal.plan_with-plan-requires
@@ -30,8 +31,10 @@ star_by_plan-requires c = record { series = c.plan_of_sum-plan.ensures.left; low
 pub returns-in-Ok : goal.returns-in-Ok
 returns-in-Ok c =
     let one : c.args.one.now ≡ one_shift = one_is c.args.one.now c.plan_of_sum-plan.ensures.right.canonical c.requires.one in
-    let need : c.plan_of_sum-plan.result.from + c.plan_of_sum-plan.result.turn ≡ need_of (sum_plan c.args.first.now one_shift) = ap need_of c.plan_of_sum-plan.ensures.value ∙ ap (λ (z : Form). need_of (sum_plan c.args.first.now z)) one in
+    let need : c.plan_of_sum-plan.result.from + c.plan_of_sum-plan.result.turn ≡ need_of (sum_plan c.args.first.now one_shift) =
+    ap need_of c.plan_of_sum-plan.ensures.value ∙ ap (λ (z : Form). need_of (sum_plan c.args.first.now z)) one in
     let fits = c.if-need-gt20000.false in
     let short : need_of (sum_plan c.args.first.now one_shift) ≤ 20000 = omega arith in
     subst (λ (z : ℕ). AnswersOf (λ r. HasValues r (parts_star (value_at c.args.first.now))) (need_of (star_plan c.args.first.now)) z c.star_by_plan.result) (sym (short_carried c.args.first.now short))
-    (subst (λ (z : NeedPlan). AnswersOf (λ r. HasValues r (parts_star (value_at c.args.first.now))) (need_of z) (need_of z) c.star_by_plan.result) c.plan_with-plan.ensures.value c.star_by_plan.ensures)
+    (subst (λ (z : NeedPlan). AnswersOf (λ r. HasValues r (parts_star (value_at c.args.first.now))) (need_of z)
+    (need_of z) c.star_by_plan.result) c.plan_with-plan.ensures.value c.star_by_plan.ensures)

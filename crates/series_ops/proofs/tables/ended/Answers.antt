@@ -15,7 +15,8 @@ shortest-requires c =
     let size : c.len-last.result ≡ length c.args.values.items = omega arith in
     let items : c.truncate.new.self.items ≡ all_but_last c.args.values.items = c.truncate.ensures.items ∙ ap (λ (z : ℕ). take (z - 1) c.args.values.items) size in
     let next = last c.args.values.items c.len-last.result c.index-next.result.now c.requires.some size c.index-next.ensures in
-    subst (λ (z : List Date). IsBeginning z c.args.turn c.index-next.result.now) (sym items) (subst (λ (z : Date). IsBeginning (all_but_last c.args.values.items) c.args.turn z) (sym next) c.requires.beginning)
+    subst (λ (z : List Date). IsBeginning z c.args.turn c.index-next.result.now) (sym items)
+    (subst (λ (z : Date). IsBeginning (all_but_last c.args.values.items) c.args.turn z) (sym next) c.requires.beginning)
 
 pub returns : goal.returns
 returns c =

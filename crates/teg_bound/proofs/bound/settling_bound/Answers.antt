@@ -42,7 +42,8 @@ bound_number-requires c =
     let none = iff_false c.has_input.ensures c.if-has_input.false in
     let places = alone net c.places.result.now none c.places.ensures.value (sym c.is_empty.ensures ∙ c.if-is_empty.false) in
     let live = ranking_is_live net c.args._live.now c.requires.live in
-    let best = best_is net c.args.answer.now c.in-Some.ratio c.places.ensures.rules live c.requires.certificate (tells_best c.args.answer.now c.in-Some.ratio (sym c.best_ratio.ensures ∙ c.in-Some.is)) in
+    let best = best_is net c.args.answer.now c.in-Some.ratio c.places.ensures.rules live c.requires.certificate
+    (tells_best c.args.answer.now c.in-Some.ratio (sym c.best_ratio.ensures ∙ c.in-Some.is)) in
     record { place = places.some_place; time = best.small.0; tokens = best.small.1 }
 
 pub returns : goal.returns

@@ -11,7 +11,8 @@ pub loop-at-preserved : goal.loop-at-preserved
 loop-at-preserved c = record {
   read = next_run c.args.text.now c.loop-at.at (state_of c.loop-at.reader) (Some (state_of c.in-Ok.next)) c.loop-at-test.true c.loop-at.invariant.read c.in-Ok.ensures.0;
   well = c.in-Ok.ensures.1;
-  shallow = next_shallow c.args.text.now c.loop-at.at (state_of c.loop-at.reader) c.loop-at.invariant.read (rw (levels_length c.loop-at.reader.outer.items) c.in-Ok.ensures.2) c.loop-at.invariant.shallow;
+  shallow = next_shallow c.args.text.now c.loop-at.at (state_of c.loop-at.reader) c.loop-at.invariant.read
+      (rw (levels_length c.loop-at.reader.outer.items) c.in-Ok.ensures.2) c.loop-at.invariant.shallow;
 }
 
 pub returns-in-Err-clause-answer : goal.returns-in-Err-clause-answer

@@ -20,6 +20,7 @@ loop-place-preserved c =
 pub returns : goal.returns
 returns c =
     let part_of = c.args.part_of.now in (
-      λ t. each_place_of (λ p. get_or part_of p.from.index 0 ≤ get_or part_of p.to.index 0) c.args.net.now c.loop-place.place-index (rw c.places-place-items.ensures.value at c.loop-place-test.false) c.loop-place.invariant,
+      λ t. each_place_of (λ p. get_or part_of p.from.index 0 ≤ get_or part_of p.to.index 0) c.args.net.now c.loop-place.place-index
+          (rw c.places-place-items.ensures.value at c.loop-place-test.false) c.loop-place.invariant,
       λ h. refl,
     )

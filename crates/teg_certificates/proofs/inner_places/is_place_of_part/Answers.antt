@@ -11,7 +11,8 @@ returns c =
     let id = c.args.id in
     let own_in : id.index < length c.places-own.result.now = omega arith in
     let in_net : id.index < length net.places = rw c.places-own.ensures.value at own_in in
-    let item : c.index-own-index.result ≡ place_at net id = rw c.places-own.ensures.value at (get_or_read c.places-own.result.now id.index c.index-own-index.result own_in c.index-own-index.is no_place) in (
+    let item : c.index-own-index.result ≡ place_at net id =
+    rw c.places-own.ensures.value at (get_or_read c.places-own.result.now id.index c.index-own-index.result own_in c.index-own-index.is no_place) in (
       λ t.
           let both : IsMember part_of c.args.part (from_of net id) × IsMember part_of c.args.part (to_of net id) = rw item at (c.is_inner.ensures.0 t) in
           record { in_range = in_net; from_member = both.0; to_member = both.1 },

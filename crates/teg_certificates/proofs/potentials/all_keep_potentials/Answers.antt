@@ -28,7 +28,9 @@ returns-then-not-keeps_potential c =
     let item : c.place-item.result ≡ place_at net p = rw c.places-place-items.ensures.value at (get_or_read c.places-place-items.result.now i c.place-item.result own_in c.place-item.is no_place) in
     let in_net : i < length net.places = rw c.places-place-items.ensures.value at own_in in (
       λ (e : false ≡ true). absurd (false≢true e),
-      λ h. absurd (iff_false c.keeps_potential.ensures c.if-not-keeps_potential.true (rw item (λ (f : IsMember part_of c.args.part (from_of net p)) (g : IsMember part_of c.args.part (to_of net p)). h p (record { in_range = in_net; from_member = f; to_member = g })))),
+      λ h. absurd (iff_false c.keeps_potential.ensures c.if-not-keeps_potential.true
+          (rw item (λ (f : IsMember part_of c.args.part (from_of net p)) (g : IsMember part_of c.args.part (to_of net p)). h p
+          (record { in_range = in_net; from_member = f; to_member = g })))),
     )
 
 pub returns : goal.returns

@@ -15,7 +15,8 @@ none_read : (xs : List (Option ℕ)) (i : ℕ) (o : Option ℕ) (b : Bool) → i
 none_read xs i None b l e s t = sym (get_or_read xs i None l e None)
 none_read xs i (Some x) b l e s t = cc
 
-some_read : (exits : List (Option PlaceId)) (left : List (Option ℕ)) (at : ℕ) (o : Option ℕ) (x : ℕ) → get_or exits at None ≢ None → length left ≡ length exits → o ≡ get_or left at o → o ≡ Some x → get_or left at None ≡ Some x
+some_read : (exits : List (Option PlaceId)) (left : List (Option ℕ)) (at : ℕ) (o : Option ℕ) (x : ℕ) → get_or exits at None ≢ None
+    → length left ≡ length exits → o ≡ get_or left at o → o ≡ Some x → get_or left at None ≡ Some x
 some_read exits left at o x g e r s =
     let in' : at < length left = omega (arith, in_by_some exits at g, e) in
     sym (get_or_read left at o in' r None) ∙ s
@@ -38,7 +39,9 @@ walk-preserved c =
     (trail_more c.args.net.now c.args.exits.now c.args.start c.walk.left.items c.walk.trail.items c.walk.at c.unwrap-exit.result c.requires.goes_on h in' none c.unwrap-exit.ensures)
 
 pub split_off-requires : goal.split_off-requires
-split_off-requires c = let m = c.walk.invariant.marks c.walk.at c.unwrap-first.result (some_read c.args.exits.now c.walk.left.items c.walk.at c.index-2.result.now c.unwrap-first.result c.walk.invariant.goes_on c.walk.invariant.count c.index-2.ensures c.unwrap-first.ensures) in let ok = c.walk.trail.ok in omega (arith, m.0, ok.0)
+split_off-requires c = let m = c.walk.invariant.marks c.walk.at c.unwrap-first.result
+    (some_read c.args.exits.now c.walk.left.items c.walk.at c.index-2.result.now c.unwrap-first.result c.walk.invariant.goes_on
+    c.walk.invariant.count c.index-2.ensures c.unwrap-first.ensures) in let ok = c.walk.trail.ok in omega (arith, m.0, ok.0)
 
 IfOk_then : {A E : Type 0} (r : Result A E) {P Q : A → Type 0} → IfOk r P → ((x : A) → P x → Q x) → IfOk r Q
 IfOk_then (Ok x) p f = f x p
@@ -47,7 +50,9 @@ IfOk_then (Err e) p f = p
 pub returns-clause-circuit : goal.returns-clause-circuit
 returns-clause-circuit c =
     IfOk_then c.split_off.result c.split_off.ensures.tail (λ w e.
-    rw e (circuit_of_trail c.args.net.now c.args.exits.now c.args.start c.walk.left.items c.walk.trail.items c.walk.at c.unwrap-first.result c.walk.invariant (some_read c.args.exits.now c.walk.left.items c.walk.at c.index-2.result.now c.unwrap-first.result c.walk.invariant.goes_on c.walk.invariant.count c.index-2.ensures c.unwrap-first.ensures)))
+    rw e (circuit_of_trail c.args.net.now c.args.exits.now c.args.start c.walk.left.items c.walk.trail.items c.walk.at
+    c.unwrap-first.result c.walk.invariant (some_read c.args.exits.now c.walk.left.items c.walk.at c.index-2.result.now
+    c.unwrap-first.result c.walk.invariant.goes_on c.walk.invariant.count c.index-2.ensures c.unwrap-first.ensures)))
 
 pub returns-clause-no_tokens : goal.returns-clause-no_tokens
 returns-clause-no_tokens c =

@@ -22,5 +22,6 @@ returns c =
     let told = c.in_ok-text.ensures.text
     ∙ (ap (λ (rs : List (Vec Round)). cycle_text net answer (Some (runs_lists rs))) c.as_slice.ensures.value
     ∙ ap (λ (rs : List (List RoundLists)). cycle_text net answer (Some rs)) (sym (lists_of runs))) in
-    let kept = subst (λ (rs : List (List RoundLists)). All IsRunKept rs) (sym (lists_of runs)) (subst (λ (rs : List (Vec Round)). All IsRunKept (runs_lists rs)) c.as_slice.ensures.value c.in_ok-text.ensures.kept) in
+    let kept = subst (λ (rs : List (List RoundLists)). All IsRunKept rs) (sym (lists_of runs))
+    (subst (λ (rs : List (Vec Round)). All IsRunKept (runs_lists rs)) c.as_slice.ensures.value c.in_ok-text.ensures.kept) in
     (refl, (answer, rounds_of_runs runs, c.in_ok-answer.ensures.answer, c.in_ok-answer.ensures.runs, kept, told))

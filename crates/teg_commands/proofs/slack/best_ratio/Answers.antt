@@ -6,7 +6,8 @@ use Rattle.teg_commands.proofs.slack.best_ratio.Goals as goal
 
 pub returns-clause-none : goal.returns-clause-none
 returns-clause-none c =
-    none_is c.best_ratio.result (HasNoCircuit c.args.net.now IsAnyPlace) (λ e. named_none c.args.net.now c.args.answer.now.parts.items c.args.answer.now.best c.requires.of_net (sym c.best_ratio.ensures ∙ e))
+    none_is c.best_ratio.result (HasNoCircuit c.args.net.now IsAnyPlace)
+    (λ e. named_none c.args.net.now c.args.answer.now.parts.items c.args.answer.now.best c.requires.of_net (sym c.best_ratio.ensures ∙ e))
 
 pub returns-clause-some : goal.returns-clause-some
 returns-clause-some c =

@@ -23,4 +23,5 @@ pub returns : goal.returns
 returns c =
     let net = c.args.net.now in
     let back = back_is net c.args.best c.args.losses.now c.requires.can c.args.ending c.requires.ending c.args.back.now c.requires.back (Some c.in-Some-back.rest) c.in-Some-back.is in
-    tells_slack net c.requires.can.rules c.args.best c.args.losses.now c.requires.can c.args.ending.place c.requires.ending.in_range c.in-Some.loss c.in-Some.is c.in-Some-back.rest back c.slack_by.result c.slack_by.ensures
+    tells_slack net c.requires.can.rules c.args.best c.args.losses.now c.requires.can c.args.ending.place c.requires.ending.in_range
+    c.in-Some.loss c.in-Some.is c.in-Some-back.rest back c.slack_by.result c.slack_by.ensures

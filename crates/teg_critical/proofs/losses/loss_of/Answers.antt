@@ -13,7 +13,8 @@ loss_in-requires c =
     let certificate = c.requires.certificate in
     let part = c.in_ok-part.part in
     let inside = c.in_ok-part.ensures.inside in
-    let told : c.index.result.now ≡ answer_of_part answer part = get_or_read answer.parts.items part c.index.result.now (part_low net answer certificate c.args.place part inside) c.index.ensures NoCircuit in
+    let told : c.index.result.now ≡ answer_of_part answer part =
+    get_or_read answer.parts.items part c.index.result.now (part_low net answer certificate c.args.place part inside) c.index.ensures NoCircuit in
     let place = read_place net c.places.result.now c.args.place c.index-places-place.result c.places.ensures.value c.requires.place c.index-places-place.is in
     rw (told, place) (can_lose_in net answer certificate c.args.best c.requires.best c.places.ensures.rules c.args.place part inside)
 
@@ -23,6 +24,7 @@ returns c =
     let answer = c.args.answer.now in
     let part = c.in_ok-part.part in
     let inside = c.in_ok-part.ensures.inside in
-    let told : c.index.result.now ≡ answer_of_part answer part = get_or_read answer.parts.items part c.index.result.now (part_low net answer c.requires.certificate c.args.place part inside) c.index.ensures NoCircuit in
+    let told : c.index.result.now ≡ answer_of_part answer part =
+    get_or_read answer.parts.items part c.index.result.now (part_low net answer c.requires.certificate c.args.place part inside) c.index.ensures NoCircuit in
     let place = read_place net c.places.result.now c.args.place c.index-places-place.result c.places.ensures.value c.requires.place c.index-places-place.is in
     is_loss net answer c.args.best c.args.place part inside c.loss_in.result (rw (told, place) at c.loss_in.ensures)

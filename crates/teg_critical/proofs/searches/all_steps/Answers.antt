@@ -27,9 +27,14 @@ loop-index-preserved c =
     elim c.match-step_by.branch [
       | in-Some+in_ok-push w ↦
           let rules : IsPlaceOf net (place_at net id) = c.places-place-items.ensures.rules.each_place k no_place l in
-          let from_in : c.place-item.result.from.index < length all = (let count = c.loop-index.invariant.count in let in' : c.place-item.result.from.index < length net.transitions = rw place rules.from_in in omega arith) in
-          let was : w.index_mut.result.now ≡ get_or all c.place-item.result.from.index [] = get_or_read all c.place-item.result.from.index w.index_mut.result.now from_in w.index_mut.ensures.value [] in
-          rw (w.all-is, w.in_ok-push.ensures, was) (all_place net losses all k c.place-item.result _ w.in-Some.step c.places-place-items.ensures.rules c.requires.small c.loop-index.invariant l place told w.in-Some.ensures.step)
+          let from_in : c.place-item.result.from.index < length all =
+          (let count = c.loop-index.invariant.count in let in' : c.place-item.result.from.index < length net.transitions =
+          rw place rules.from_in in omega arith) in
+          let was : w.index_mut.result.now ≡ get_or all c.place-item.result.from.index [] =
+          get_or_read all c.place-item.result.from.index w.index_mut.result.now from_in w.index_mut.ensures.value [] in
+          rw (w.all-is, w.in_ok-push.ensures, was)
+          (all_place net losses all k c.place-item.result _ w.in-Some.step c.places-place-items.ensures.rules c.requires.small
+          c.loop-index.invariant l place told w.in-Some.ensures.step)
       | in_default w ↦ rw w.all-is (all_skip net losses all k c.place-item.result _ c.loop-index.invariant place told w.in_default.ensures.none)
     ]
 

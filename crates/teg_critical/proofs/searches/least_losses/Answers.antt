@@ -22,8 +22,10 @@ search-init c =
     let filled : c.in_ok-least.least.items ≡ replicate (length c.transitions-count.result.now) None = c.in_ok-least.ensures.items_if_clones_equal (search rules) in
     let all_open : c.in_ok-settled.settled.items ≡ replicate (length c.transitions-count.result.now) false = c.in_ok-settled.ensures.items_if_clones_equal (search rules) in
     let start_in : c.args.end < length c.transitions-count.result.now = rw c.transitions-count.ensures.value c.requires.end in
-    let searching = search_begins c.args.net.now c.args.losses.now c.args.end c.in_ok-least.least.items c.in_ok-settled.settled.items (length c.transitions-count.result.now) filled all_open (ap length c.transitions-count.ensures.value) start_in in (
-      queue_begins c.args.net.now c.args.losses.now c.args.end c.in_ok-least.least.items c.in_ok-settled.settled.items (length c.transitions-count.result.now) (heap_items c.new-queue.result) (heap_items c.push.new.self) searching filled start_in
+    let searching = search_begins c.args.net.now c.args.losses.now c.args.end c.in_ok-least.least.items c.in_ok-settled.settled.items
+    (length c.transitions-count.result.now) filled all_open (ap length c.transitions-count.ensures.value) start_in in (
+      queue_begins c.args.net.now c.args.losses.now c.args.end c.in_ok-least.least.items c.in_ok-settled.settled.items
+          (length c.transitions-count.result.now) (heap_items c.new-queue.result) (heap_items c.push.new.self) searching filled start_in
           c.new-queue.ensures.items c.in_ok-push.ensures.permutation (c.in_ok-push.ensures.heap_order c.new-queue.ensures.heap_order),
       omega arith,
       λ i d m. absurd (omega arith),
@@ -60,7 +62,8 @@ bounds-steps-at c =
     omega arith
 
 -- the steps of a transition, as they are read
-steps_read : {net : NetLists} {losses : List (Option Loss)} {all : List (List LossStep)} {read own : List LossStep} (at : ℕ) → AreSteps net losses all → at < length net.transitions → read ≡ get_or all at read → own ≡ read → AreStepsFrom net losses at own
+steps_read : {net : NetLists} {losses : List (Option Loss)} {all : List (List LossStep)} {read own : List LossStep} (at : ℕ)
+    → AreSteps net losses all → at < length net.transitions → read ≡ get_or all at read → own ≡ read → AreStepsFrom net losses at own
 steps_read {net} {losses} {all} {read} at steps l is e = subst (AreStepsFrom net losses at) (sym e) (own_steps net losses all at read steps l is)
 
 pub relax-requires-clause-ends : goal.relax-requires-clause-ends
@@ -77,8 +80,10 @@ relax-requires-clause-small c =
     (steps_read c.in-Some.field-0.0.1 c.requires.steps l c.index-steps-at.is c.as_slice.ensures).small
 
 -- the entry of an unsettled transition is the nearest
-near_of : {net : NetLists} {losses : List (Option Loss)} {start : ℕ} {least : List (Option ℕ)} {settled : List Bool} {first : Reverse (ℕ × ℕ)} {queue rest : List (Reverse (ℕ × ℕ))} {read : Bool} → IsQueueing net losses start least settled queue
-    → IsPermutation queue (first ∷ rest) → (IsHeap nearest_first queue → IsUpperBound nearest_first first rest) → read ≡ get_or settled first.0.1 read → read ≡ false → IsNearest least settled first.0.1 first.0.0
+near_of : {net : NetLists} {losses : List (Option Loss)} {start : ℕ} {least : List (Option ℕ)} {settled : List Bool}
+    {first : Reverse (ℕ × ℕ)} {queue rest : List (Reverse (ℕ × ℕ))} {read : Bool} → IsQueueing net losses start least settled queue
+    → IsPermutation queue (first ∷ rest) → (IsHeap nearest_first queue → IsUpperBound nearest_first first rest)
+    → read ≡ get_or settled first.0.1 read → read ≡ false → IsNearest least settled first.0.1 first.0.0
 near_of {settled = settled} {first = first} {read = read} h moved top is not_yet =
     let l = first_in h moved in
     let marks = h.searching.marks in
@@ -114,7 +119,8 @@ search-smaller-else-next-wanted c =
     (one_settled settled at near.in_range near.open_) c.in-Some.ensures.len c.in_ok-relax.ensures.few
 
 -- what the search has found once the entry's steps are taken
-searching_on : {net : NetLists} {losses : List (Option Loss)} {start : ℕ} {least new : List (Option ℕ)} {settled : List Bool} {own : List LossStep} {at base : ℕ} → IsNet net → IsSearching net losses start least settled → IsNearest least settled at base
+searching_on : {net : NetLists} {losses : List (Option Loss)} {start : ℕ} {least new : List (Option ℕ)} {settled : List Bool}
+    {own : List LossStep} {at base : ℕ} → IsNet net → IsSearching net losses start least settled → IsNearest least settled at base
     → AreStepsFrom net losses at own → IsRelaxed own base least new → IsSearching net losses start new (set settled at true)
 searching_on {net} ok searching near from relaxed =
     let marks = searching.marks in
@@ -158,7 +164,8 @@ search-preserved c =
     let first = c.in-Some.field-0 in
     let l = first_in h c.in-Some.ensures.permutation in
     let marks = h.searching.marks in
-    let done : is_settled c.search.settled.items first.0.1 ≡ true = sym (c.index.ensures ∙ get_or_default c.search.settled.items first.0.1 c.index.result.now true (omega arith)) ∙ c.if-not-index.false in (
+    let done : is_settled c.search.settled.items first.0.1 ≡ true =
+    sym (c.index.ensures ∙ get_or_default c.search.settled.items first.0.1 c.index.result.now true (omega arith)) ∙ c.if-not-index.false in (
       passed_over h c.in-Some.ensures.permutation done (c.in-Some.ensures.heap_order h.heap).0,
       c.search.invariant.1,
       c.search.invariant.2,

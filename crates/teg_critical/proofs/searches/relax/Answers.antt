@@ -28,7 +28,8 @@ loop-step-preserved c =
           let less : (d : ℕ) → told_at mid s.to ≡ Some d → c.args.base + s.loss ≤ d = λ d e. w.if-is_less.ensures.less (search rules) d e in
           rw (w.least-is, w.queue-is) (
             step_taken steps c.args.base k old mid s h.0 l is (omega arith) less,
-            one_queued old mid (heap_items c.args.queue.now) (heap_items c.loop-step.queue) (heap_items w.push.new.self) s.to (c.args.base + s.loss) h.1 (omega arith) less w.in_ok-push.ensures.permutation w.in_ok-push.ensures.heap_order,
+            one_queued old mid (heap_items c.args.queue.now) (heap_items c.loop-step.queue) (heap_items w.push.new.self) s.to
+                (c.args.base + s.loss) h.1 (omega arith) less w.in_ok-push.ensures.permutation w.in_ok-push.ensures.heap_order,
             omega (arith, h.2, w.in_ok-push.ensures.len),
           )
       | else-is_less w ↦ rw (w.least-is, w.queue-is) (step_past steps c.args.base k old mid s h.0 l is (w.if-is_less.ensures.not_less refl), h.1, omega (arith, h.2))

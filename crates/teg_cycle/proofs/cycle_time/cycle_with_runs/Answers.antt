@@ -21,7 +21,9 @@ loop-part-preserved c =
     let count = h.count in
     let at : c.loop-part.part ≡ length old = sym count in
     let push = length_push old x in
-    let runs = one_more net part_of old x (rounds_of_runs c.loop-part.runs.items) (option_map (λ r. r.items) c.in_ok-answer.rounds) h.runs (subst (λ k. IsRunOf net part_of k x (option_map (λ r. r.items) c.in_ok-answer.rounds)) at e.run) in
+    let runs = one_more net part_of old x (rounds_of_runs c.loop-part.runs.items)
+    (option_map (λ r. r.items) c.in_ok-answer.rounds) h.runs
+    (subst (λ k. IsRunOf net part_of k x (option_map (λ r. r.items) c.in_ok-answer.rounds)) at e.run) in
     rw c.in_ok-keep.ensures
     (record {
       count = omega arith;

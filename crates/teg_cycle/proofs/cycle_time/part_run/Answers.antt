@@ -12,7 +12,8 @@ pub returns-clause-certificate : goal.returns-clause-certificate
 returns-clause-certificate c =
     let p = c.args.parts.now in
     let e = c.in_ok-answer.ensures in
-    answer_certifies c.args.net.now p.part_of c.args.part c.in_ok-answer.answer e.best e.limits (run_tells c.args.net.now p.part_of c.args.part c.in_ok-answer.rounds.items c.in_ok-answer.answer e.run e.answer)
+    answer_certifies c.args.net.now p.part_of c.args.part c.in_ok-answer.answer e.best e.limits
+    (run_tells c.args.net.now p.part_of c.args.part c.in_ok-answer.rounds.items c.in_ok-answer.answer e.run e.answer)
 
 pub returns-clause-run : goal.returns-clause-run
 returns-clause-run c =

@@ -7,7 +7,8 @@ use Rattle.teg_dates.proofs.passes.begin_row.Goals as goal
 pub later_date-requires : goal.later_date-requires
 later_date-requires g c =
     let net = c.args.net.now in
-    rw c.release.ensures (release_within net (g.S.Source.initial c.args.source.now) (g.S.Source.release c.args.source.now net) g.C.DateCell.most c.args.number c.loop-index.index c.requires.bounded c.requires.number)
+    rw c.release.ensures (release_within net (g.S.Source.initial c.args.source.now)
+    (g.S.Source.release c.args.source.now net) g.C.DateCell.most c.args.number c.loop-index.index c.requires.bounded c.requires.number)
 
 pub loop-index-preserved : goal.loop-index-preserved
 loop-index-preserved g c =

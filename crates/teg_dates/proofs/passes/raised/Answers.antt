@@ -30,7 +30,9 @@ pub delayed-requires-clause-within : goal.delayed-requires-clause-within
 delayed-requires-clause-within g c =
     let turn = turn_in c.args.net.now c.args.place c.requires.rules c.requires.place in
     let from = held_read g.C.DateCell.held c.args.row.now c.args.place.from.index _ (rw c.requires.full turn.from_in) c.index-row-place-then-tokens-eq0.is in
-    rw from (within_here c.args.net.now (g.S.Source.initial c.args.source.now) (g.P.Past.rows c.args.past.now).back (map g.C.DateCell.held c.args.row.now) c.args.number c.args.place c.requires.place g.C.DateCell.most c.if-tokens-eq0.true c.requires.number c.requires.within)
+    rw from (within_here c.args.net.now (g.S.Source.initial c.args.source.now) (g.P.Past.rows c.args.past.now).back
+    (map g.C.DateCell.held c.args.row.now) c.args.number c.args.place c.requires.place g.C.DateCell.most c.if-tokens-eq0.true
+    c.requires.number c.requires.within)
 
 pub delayed-requires-clause-hold : goal.delayed-requires-clause-hold
 delayed-requires-clause-hold g c =
@@ -52,7 +54,9 @@ back-requires-clause-last g c =
 
 pub delayed-requires-then-tokens-number-clause-within : goal.delayed-requires-then-tokens-number-clause-within
 delayed-requires-then-tokens-number-clause-within g c =
-    rw c.back.ensures (within_before c.args.net.now (g.S.Source.initial c.args.source.now) (g.P.Past.rows c.args.past.now).back (map g.C.DateCell.held c.args.row.now) c.args.number c.args.place c.requires.place g.C.DateCell.most (omega arith) c.if-tokens-number.true c.requires.within)
+    rw c.back.ensures (within_before c.args.net.now (g.S.Source.initial c.args.source.now) (g.P.Past.rows c.args.past.now).back
+    (map g.C.DateCell.held c.args.row.now) c.args.number c.args.place c.requires.place g.C.DateCell.most
+    (omega arith) c.if-tokens-number.true c.requires.within)
 
 pub delayed-requires-then-tokens-number-clause-hold : goal.delayed-requires-then-tokens-number-clause-hold
 delayed-requires-then-tokens-number-clause-hold g c =
@@ -64,23 +68,36 @@ initial-requires-clause-last g c =
 
 pub later_date-requires : goal.later_date-requires
 later_date-requires g c =
-    rw c.initial.ensures (initial_within c.args.net.now (g.S.Source.initial c.args.source.now) (g.S.Source.release c.args.source.now c.args.net.now) g.C.DateCell.most c.args.number c.args.place.place c.requires.bounded c.requires.place.in_range c.requires.number (omega (arith, c.requires.place.tokens)))
+    rw c.initial.ensures (initial_within c.args.net.now (g.S.Source.initial c.args.source.now)
+    (g.S.Source.release c.args.source.now c.args.net.now) g.C.DateCell.most c.args.number c.args.place.place c.requires.bounded
+    c.requires.place.in_range c.requires.number (omega (arith, c.requires.place.tokens)))
 
 pub returns-then-tokens-eq0 : goal.returns-then-tokens-eq0
 returns-then-tokens-eq0 g c =
     let turn = turn_in c.args.net.now c.args.place c.requires.rules c.requires.place in
     let to = held_read g.C.DateCell.held c.args.row.now c.args.place.to.index _ (rw c.requires.full turn.to_in) c.index-row-place.is in
     let from = held_read g.C.DateCell.held c.args.row.now c.args.place.from.index _ (rw c.requires.full turn.from_in) c.index-row-place-then-tokens-eq0.is in
-    c.later.ensures ∙ ap (λ z. later_of z (g.C.DateCell.held c.delayed.result)) to ∙ ap (later_of (get_or (map g.C.DateCell.held c.args.row.now) c.args.place.to.index Early)) (c.delayed.ensures ∙ ap (delayed c.args.place.hold) from ∙ sym (taken_here c.args.net.now (g.S.Source.initial c.args.source.now) (g.P.Past.rows c.args.past.now).back (map g.C.DateCell.held c.args.row.now) c.args.number c.args.place c.requires.place c.if-tokens-eq0.true c.requires.number))
+    c.later.ensures ∙ ap (λ z. later_of z (g.C.DateCell.held c.delayed.result)) to
+    ∙ ap (later_of (get_or (map g.C.DateCell.held c.args.row.now) c.args.place.to.index Early))
+    (c.delayed.ensures ∙ ap (delayed c.args.place.hold) from
+    ∙ sym (taken_here c.args.net.now (g.S.Source.initial c.args.source.now) (g.P.Past.rows c.args.past.now).back
+    (map g.C.DateCell.held c.args.row.now) c.args.number c.args.place c.requires.place c.if-tokens-eq0.true c.requires.number))
 
 pub returns-then-tokens-number : goal.returns-then-tokens-number
 returns-then-tokens-number g c =
     let turn = turn_in c.args.net.now c.args.place c.requires.rules c.requires.place in
     let to = held_read g.C.DateCell.held c.args.row.now c.args.place.to.index _ (rw c.requires.full turn.to_in) c.index-row-place.is in
-    c.later-then-tokens-number.ensures ∙ ap (λ z. later_of z (g.C.DateCell.held c.delayed-then-tokens-number.result)) to ∙ ap (later_of (get_or (map g.C.DateCell.held c.args.row.now) c.args.place.to.index Early)) (c.delayed-then-tokens-number.ensures ∙ ap (delayed c.args.place.hold) c.back.ensures ∙ sym (taken_before c.args.net.now (g.S.Source.initial c.args.source.now) (g.P.Past.rows c.args.past.now).back (map g.C.DateCell.held c.args.row.now) c.args.number c.args.place c.requires.place (omega arith) c.if-tokens-number.true))
+    c.later-then-tokens-number.ensures ∙ ap (λ z. later_of z (g.C.DateCell.held c.delayed-then-tokens-number.result)) to
+    ∙ ap (later_of (get_or (map g.C.DateCell.held c.args.row.now) c.args.place.to.index Early))
+    (c.delayed-then-tokens-number.ensures ∙ ap (delayed c.args.place.hold) c.back.ensures
+    ∙ sym (taken_before c.args.net.now (g.S.Source.initial c.args.source.now) (g.P.Past.rows c.args.past.now).back
+    (map g.C.DateCell.held c.args.row.now) c.args.number c.args.place c.requires.place (omega arith) c.if-tokens-number.true))
 
 pub returns-else-tokens-number : goal.returns-else-tokens-number
 returns-else-tokens-number g c =
     let turn = turn_in c.args.net.now c.args.place c.requires.rules c.requires.place in
     let to = held_read g.C.DateCell.held c.args.row.now c.args.place.to.index _ (rw c.requires.full turn.to_in) c.index-row-place.is in
-    c.later_date.ensures ∙ ap (λ z. later_of z c.initial.result) to ∙ ap (later_of (get_or (map g.C.DateCell.held c.args.row.now) c.args.place.to.index Early)) (c.initial.ensures ∙ sym (taken_first c.args.net.now (g.S.Source.initial c.args.source.now) (g.P.Past.rows c.args.past.now).back (map g.C.DateCell.held c.args.row.now) c.args.number c.args.place c.requires.place c.if-tokens-number.false))
+    c.later_date.ensures ∙ ap (λ z. later_of z c.initial.result) to
+    ∙ ap (later_of (get_or (map g.C.DateCell.held c.args.row.now) c.args.place.to.index Early))
+    (c.initial.ensures ∙ sym (taken_first c.args.net.now (g.S.Source.initial c.args.source.now) (g.P.Past.rows c.args.past.now).back
+    (map g.C.DateCell.held c.args.row.now) c.args.number c.args.place c.requires.place c.if-tokens-number.false))

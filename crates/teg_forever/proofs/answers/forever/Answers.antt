@@ -5,7 +5,8 @@ use Rattle.teg_forever.proofs.answers.forever.Goals as goal
 pub returns-clause-releases : goal.returns-clause-releases
 returns-clause-releases c =
     each_ok c.releases_of.result _ _ c.releases_of.ensures.releases
-    (λ releases h. all_releases c.args.net.now c.args.rows.now releases.items c.latest_at_inputs_are_latest.ensures c.transitions.ensures.rules (c.ranked_nets_are_live.ensures c.args.net.now c.args.live.now c.requires.stands) c.in_ok-keep_dues.ensures.meet h)
+    (λ releases h. all_releases c.args.net.now c.args.rows.now releases.items c.latest_at_inputs_are_latest.ensures
+    c.transitions.ensures.rules (c.ranked_nets_are_live.ensures c.args.net.now c.args.live.now c.requires.stands) c.in_ok-keep_dues.ensures.meet h)
 
 pub releases_of-requires : goal.releases_of-requires
 releases_of-requires c = record {

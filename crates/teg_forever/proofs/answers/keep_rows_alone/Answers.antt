@@ -21,12 +21,14 @@ returns-in-Late-clause-late c =
     let told = subst (IsTold c.args.net.now c.row-item.result) c.in-Late.is c.in_ok-late.ensures.told in
     subst (ForeverRefused c.args.net.now c.args.rows.now) (sym c.refused_at.ensures)
     (late_answer_in c.args.net.now c.requires.rules c.requires.live c.late_is_soon.ensures c.args.rows.now c.requires.rows zero.0 zero.1 c.loop-row.row-index c.row-item.result
-    (got c.args.rows.now c.loop-row.row-index c.row-item.result c.loop-row-test.true c.row-item.is) (c.loop-row.invariant zero.0 zero.1) c.in-Late.late.number c.in-Late.late.due c.in-Late.late.least (told zero.0 zero.1))
+    (got c.args.rows.now c.loop-row.row-index c.row-item.result c.loop-row-test.true c.row-item.is)
+    (c.loop-row.invariant zero.0 zero.1) c.in-Late.late.number c.in-Late.late.due c.in-Late.late.least (told zero.0 zero.1))
 
 pub loop-row-preserved : goal.loop-row-preserved
 loop-row-preserved c x least =
     let told = subst (IsTold c.args.net.now c.row-item.result) c.in-None.is c.in_ok-late.ensures.told in
-    all_items (NoneLate x) c.args.rows.now c.args.rows.now c.loop-row.row-index c.row-item.result refl c.loop-row-test.true (subst (NoneLate x) c.row-item.is (told x least)) (c.loop-row.invariant x least)
+    all_items (NoneLate x) c.args.rows.now c.args.rows.now c.loop-row.row-index c.row-item.result refl c.loop-row-test.true
+    (subst (NoneLate x) c.row-item.is (told x least)) (c.loop-row.invariant x least)
 
 pub returns-clause-kept : goal.returns-clause-kept
 returns-clause-kept c told x least =

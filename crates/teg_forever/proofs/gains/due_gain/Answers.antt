@@ -18,7 +18,8 @@ same r l e low = ap (λ (z : List Date). form_with z r.every (to_z w128 r.gap)) 
 pub from_list-requires-clause-rising : goal.from_list-requires-clause-rising
 from_list-requires-clause-rising c =
     let list : c.as_slice-2.result.now ≡ listed_dates c.args.row.now = c.as_slice-2.ensures.value ∙ c.in_ok-list.ensures ∙ ap (map (λ (d : ℕ). At (pos d))) c.as_slice.ensures in
-    subst (λ (z : Form). Rising (value_at z)) (sym (same c.args.row.now c.as_slice-2.result.now list c.requires.goes_on.gap_in)) (c.forms_are_series.ensures.dues c.args.net.now c.args.row.now c.requires).rising
+    subst (λ (z : Form). Rising (value_at z)) (sym (same c.args.row.now c.as_slice-2.result.now list c.requires.goes_on.gap_in))
+    (c.forms_are_series.ensures.dues c.args.net.now c.args.row.now c.requires).rising
 
 pub gain_of-requires : goal.gain_of-requires
 gain_of-requires c =

@@ -6,13 +6,16 @@ use Rattle.teg_forever.proofs.Series.{walk_made, walk_fits}
 use Rattle.teg_forever.proofs.gains.walk_gain.Goals as goal
 
 pub told_series-requires-clause-some : goal.told_series-requires-clause-some
-told_series-requires-clause-some c = (c.forms_are_series.ensures.walks c.args.net.now c.requires.rules c.args.input.index c.args.settled.now c.requires.transfer c.args.transition.index c.requires.transition).some
+told_series-requires-clause-some c = (c.forms_are_series.ensures.walks c.args.net.now c.requires.rules c.args.input.index
+    c.args.settled.now c.requires.transfer c.args.transition.index c.requires.transition).some
 
 pub told_series-requires-clause-fits : goal.told_series-requires-clause-fits
-told_series-requires-clause-fits c = (c.forms_are_series.ensures.walks c.args.net.now c.requires.rules c.args.input.index c.args.settled.now c.requires.transfer c.args.transition.index c.requires.transition).fits
+told_series-requires-clause-fits c = (c.forms_are_series.ensures.walks c.args.net.now c.requires.rules c.args.input.index
+    c.args.settled.now c.requires.transfer c.args.transition.index c.requires.transition).fits
 
 pub told_series-requires-clause-rising : goal.told_series-requires-clause-rising
-told_series-requires-clause-rising c = (c.forms_are_series.ensures.walks c.args.net.now c.requires.rules c.args.input.index c.args.settled.now c.requires.transfer c.args.transition.index c.requires.transition).rising
+told_series-requires-clause-rising c = (c.forms_are_series.ensures.walks c.args.net.now c.requires.rules c.args.input.index
+    c.args.settled.now c.requires.transfer c.args.transition.index c.requires.transition).rising
 
 pub gain_of-requires : goal.gain_of-requires
 gain_of-requires c =

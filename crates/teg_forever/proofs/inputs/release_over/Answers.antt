@@ -14,11 +14,13 @@ returns-clause-divisions c = any_on c.release_by.result _ c.in_ok-latest.ensures
 pub returns-clause-fine : goal.returns-clause-fine
 returns-clause-fine c =
     any_ok c.release_by.result (IsFine c.args.net.now c.args.rows.now c.args.input.index)
-    (fine c.args.net.now c.args.rows.now c.args.input.index c.requires.asked.rules c.requires.asked.is_live c.requires.asked.ends c.requires.asked.input c.columns_exist.ensures c.in_ok-latest.latest c.in_ok-latest.ensures.meet
+    (fine c.args.net.now c.args.rows.now c.args.input.index c.requires.asked.rules c.requires.asked.is_live c.requires.asked.ends
+    c.requires.asked.input c.columns_exist.ensures c.in_ok-latest.latest c.in_ok-latest.ensures.meet
     (c.args.settled.now, c.requires.asked.transfer, c.requires.asked.short))
 
 pub returns-clause-release : goal.returns-clause-release
 returns-clause-release c =
     each_ok c.release_by.result _ (IsReleaseOf c.args.net.now c.args.rows.now c.args.input.index) c.release_by.ensures.release
-    (released c.args.net.now c.args.rows.now c.args.input.index c.requires.asked.rules c.requires.asked.is_live c.requires.asked.ends c.requires.asked.input c.columns_exist.ensures c.in_ok-latest.latest c.in_ok-latest.ensures.meet
+    (released c.args.net.now c.args.rows.now c.args.input.index c.requires.asked.rules c.requires.asked.is_live c.requires.asked.ends
+    c.requires.asked.input c.columns_exist.ensures c.in_ok-latest.latest c.in_ok-latest.ensures.meet
     c.residuals_are_latest_dates.ensures.latest c.residuals_are_latest_dates.ensures.numbers c.requires.some c.requires.meet)

@@ -41,7 +41,8 @@ loop-number-preserved c =
     ⊎_elim
     (λ (h : (next.turns < old.turns) × (c.sooner-best.result ≡ next)).
     let less : next.turns < old.turns = h.0 in
-    let is = soonest_next x r c.args.past n c.args.gain old.number old.due old.least next.due next.least past c.turns_at.ensures.due c.turns_at.ensures.least (omega arith) c.loop-number.invariant.is in
+    let is = soonest_next x r c.args.past n c.args.gain old.number old.due old.least next.due next.least past c.turns_at.ensures.due
+    c.turns_at.ensures.least (omega arith) c.loop-number.invariant.is in
     subst (Kept c.args.settled.now r c.args.past (n + 1 - 1) c.args.gain) (sym h.1) (record {
       is = subst (λ (m : ℕ). IsSoonest x r c.args.past m c.args.gain next.number next.due next.least) same
           (subst (λ (m : ℕ). IsSoonest x r c.args.past n c.args.gain m next.due next.least) (sym c.turns_at.ensures.number) is);
@@ -49,7 +50,8 @@ loop-number-preserved c =
     }))
     (λ (h : (old.turns ≤ next.turns) × (c.sooner-best.result ≡ old)).
     let less : old.turns ≤ next.turns = h.0 in
-    let is = soonest_kept x r c.args.past n c.args.gain old.number old.due old.least next.due next.least past c.turns_at.ensures.due c.turns_at.ensures.least (omega arith) c.loop-number.invariant.is in
+    let is = soonest_kept x r c.args.past n c.args.gain old.number old.due old.least next.due next.least past c.turns_at.ensures.due
+    c.turns_at.ensures.least (omega arith) c.loop-number.invariant.is in
     subst (Kept c.args.settled.now r c.args.past (n + 1 - 1) c.args.gain) (sym h.1) (record {
       is = subst (λ (m : ℕ). IsSoonest x r c.args.past m c.args.gain old.number old.due old.least) same is;
       turns = before;
@@ -60,4 +62,5 @@ pub returns-clause-is : goal.returns-clause-is
 returns-clause-is c =
     let low : c.args.last + 1 ≤ c.loop-number.number = c.loop-number-test.false in
     let same : c.loop-number.number - 1 ≡ c.args.last = omega arith in
-    subst (λ (m : ℕ). IsSoonest (settled_date c.args.settled.now) c.args.row.now c.args.past m c.args.gain c.loop-number.best.number c.loop-number.best.due c.loop-number.best.least) same c.loop-number.invariant.is
+    subst (λ (m : ℕ). IsSoonest (settled_date c.args.settled.now) c.args.row.now c.args.past m c.args.gain c.loop-number.best.number
+    c.loop-number.best.due c.loop-number.best.least) same c.loop-number.invariant.is

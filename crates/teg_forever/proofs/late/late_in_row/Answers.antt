@@ -3,7 +3,8 @@ use Rattle.teg_forever.proofs.late.late_in_row.Goals as goal
 
 pub returns-in-Some-clause-some : goal.returns-in-Some-clause-some
 returns-in-Some-clause-some c =
-    soon c.args.net.now c.requires.rules c.requires.live c.args.settled.now c.requires.form c.args.row.now c.requires.row c.late_is_soon.ensures c.in-Some.late.number c.in-Some.late.due c.in-Some.late.least c.in-Some.ensures.some
+    soon c.args.net.now c.requires.rules c.requires.live c.args.settled.now c.requires.form c.args.row.now c.requires.row
+    c.late_is_soon.ensures c.in-Some.late.number c.in-Some.late.due c.in-Some.late.least c.in-Some.ensures.some
 
 pub returns-then-turn-clause-none : goal.returns-then-turn-clause-none
 returns-then-turn-clause-none c =

@@ -11,6 +11,7 @@ returns-clause-rises c =
     let f = c.args.settled.now in
     let t = c.args.transition.index in
     let climbing = c.requires.climbing in
-    let step : to_z w128 (of_z w128 c.step-step.result) ≡ pos climbing.step = to_z-of_z w128 c.step-step.result (record { sfits = c.step-step.type_inv }) ∙ c.step-step.ensures.value ∙ climbing.step_is in
+    let step : to_z w128 (of_z w128 c.step-step.result) ≡ pos climbing.step =
+    to_z-of_z w128 c.step-step.result (record { sfits = c.step-step.type_inv }) ∙ c.step-step.ensures.value ∙ climbing.step_is in
     subst (λ (n : ℕ). RisesIn f t c.period-period.result n) (sym (ap nat_abs step))
     (subst (λ (n : ℕ). RisesIn f t n climbing.step) (sym c.period-period.ensures.value) (rises_in_period f t climbing c.requires.steps))

@@ -10,5 +10,6 @@ use Rattle.teg_forever.proofs.numbers.dates_of.Given as goal
 abbrev pub invariant-loop-index : goal.invariant-loop-index
 invariant-loop-index l = record {
   same : l.dates.items ++ map (digits_value 10) (drop l.index (fields_of l.«record»)) ≡ dates_of_fields (fields_of l.«record»);
-  small : list_all (λ d. nat_le d greatest_input_date) (map (digits_value 10) (drop l.index (fields_of l.«record»))) ≡ list_all (λ d. nat_le d greatest_input_date) (dates_of_fields (fields_of l.«record»));
+  small : list_all (λ d. nat_le d greatest_input_date) (map (digits_value 10) (drop l.index (fields_of l.«record»))) ≡ list_all
+      (λ d. nat_le d greatest_input_date) (dates_of_fields (fields_of l.«record»));
 }

@@ -8,14 +8,16 @@ pub returns-in_err-meet-clause-stopped : goal.returns-in_err-meet-clause-stopped
 returns-in_err-meet-clause-stopped c =
     let p = err_from_is_err_and c.from_residual.result c.from_residual.ensures.1 in
     rw (p.1, p.2)
-    (stopped_at c.args.net.now c.args.rows.now c.args.input 0 c.columns_exist.ensures c.requires.asked.rules c.requires.asked.is_live c.requires.asked.ends c.requires.asked.input (c.args.settled.now, c.requires.asked.transfer, c.requires.asked.short)
+    (stopped_at c.args.net.now c.args.rows.now c.args.input 0 c.columns_exist.ensures c.requires.asked.rules c.requires.asked.is_live
+    c.requires.asked.ends c.requires.asked.input (c.args.settled.now, c.requires.asked.transfer, c.requires.asked.short)
     c.requires.some (λ walks dues columns j l. absurd (omega arith)) c.in_err-meet.field-0.0 c.in_err-meet.ensures.refused)
 
 pub returns-in_err-meet-2-clause-stopped : goal.returns-in_err-meet-2-clause-stopped
 returns-in_err-meet-2-clause-stopped c =
     let p = err_from_is_err_and c.from_residual-in_err-meet-2.result c.from_residual-in_err-meet-2.ensures.1 in
     rw (p.1, p.2)
-    (stopped_at c.args.net.now c.args.rows.now c.args.input c.loop-place.place c.columns_exist.ensures c.requires.asked.rules c.requires.asked.is_live c.requires.asked.ends c.requires.asked.input (c.args.settled.now, c.requires.asked.transfer, c.requires.asked.short)
+    (stopped_at c.args.net.now c.args.rows.now c.args.input c.loop-place.place c.columns_exist.ensures c.requires.asked.rules
+    c.requires.asked.is_live c.requires.asked.ends c.requires.asked.input (c.args.settled.now, c.requires.asked.transfer, c.requires.asked.short)
     c.loop-place-test.true (λ walks dues columns. (c.loop-place.invariant.meet.over walks dues columns).fit) c.in_err-meet-2.field-0.0 c.in_err-meet-2.ensures.refused)
 
 pub returns-clause-meet : goal.returns-clause-meet

@@ -9,7 +9,8 @@ returns-in-Ok-clause-residual c =
     let r = c.index-rows-place.result in
     let rows = c.args.rows.now in
     let alike = subst (IsAlikeAt rows c.args.place) (sym c.first-due.ensures) (c.requires.divisions.firsts.each c.args.place c.requires.place) in
-    residual_found c.args.net.now rows c.args.input.index c.args.place c.first-due.result r (got rows c.args.place r c.requires.place c.index-rows-place.is) alike c.in_ok-walk.walk c.in_ok-walk.ensures
+    residual_found c.args.net.now rows c.args.input.index c.args.place c.first-due.result r
+    (got rows c.args.place r c.requires.place c.index-rows-place.is) alike c.in_ok-walk.walk c.in_ok-walk.ensures
     c.divide.new.self.list.items c.in-Ok.at c.in-Ok.ensures.divisions.each c.in-Ok.ensures.place
 
 pub returns-in-Err-clause-refused : goal.returns-in-Err-clause-refused

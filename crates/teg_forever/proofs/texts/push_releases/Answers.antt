@@ -23,7 +23,8 @@ loop-index-preserved c =
     ∙ ap (λ (n : ℕ). text ++ line_then (release_line net n r) []) c.input_at.ensures.value
     ∙ ap (λ (x : Release). text ++ line_then (release_line net (get_or ts i 0) x) []) c.index-releases-index.is in
     record {
-      text = line_more net ts releases i 0 r text (string_bytes c.push_release.new.text) _ (omega (arith, lt, length-map c.args.inputs.now (λ (t : TransitionId). t.index))) (omega arith) pushed c.loop-index.invariant.text;
+      text = line_more net ts releases i 0 r text (string_bytes c.push_release.new.text) _
+          (omega (arith, lt, length-map c.args.inputs.now (λ (t : TransitionId). t.index))) (omega arith) pushed c.loop-index.invariant.text;
       told = all_items IsReleaseTold releases releases i r refl (omega arith) (subst IsReleaseTold c.index-releases-index.is c.in_ok-push_release.ensures.told) c.loop-index.invariant.told;
     }
 

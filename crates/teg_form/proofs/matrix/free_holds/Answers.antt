@@ -17,7 +17,8 @@ use Rattle.teg_form.proofs.matrix.free_holds.Goals.{then-place-eq0, else-place-e
 raised : (net : NetLists) (holds : List Date) (i : ℕ) (p : Place) → IsNet net → HoldsUpTo net holds i → i < length net.places → p ≡ get_or net.places i no_place → p.tokens ≡ 0
     → HoldsUpTo net (set holds (p.from.index * length net.transitions + p.to.index) (later_of (cell holds (length net.transitions) p.from.index p.to.index) (At (pos p.hold)))) (i + 1)
 raised net holds i p ok h l e z =
-    let P : Place → Type 0 = λ q. HoldsUpTo net (set holds (q.from.index * length net.transitions + q.to.index) (later_of (cell holds (length net.transitions) q.from.index q.to.index) (At (pos q.hold)))) (i + 1) in
+    let P : Place → Type 0 = λ q. HoldsUpTo net (set holds (q.from.index * length net.transitions + q.to.index)
+    (later_of (cell holds (length net.transitions) q.from.index q.to.index) (At (pos q.hold)))) (i + 1) in
     subst P (sym e) (holds_more net holds i ok h l (ap (λ q. q.tokens) (sym e) ∙ z))
 
 in_holds : (net : NetLists) (holds : List Date) (i : ℕ) (p : Place) → IsNet net → HoldsUpTo net holds i → i < length net.places → p ≡ get_or net.places i no_place

@@ -33,6 +33,7 @@ pub unreachable-requires-in-Err-Range : goal.unreachable-requires-in-Err-Range
 unreachable-requires-in-Err-Range c =
     let net : NetLists = c.args.net.now in
     let matrix : c.in-Ok.matrix ≡ table_of (length net.transitions) (length net.transitions) c.in_ok-holds.holds.items = rw c.transitions-count.ensures.value at c.in-Ok.ensures.answer.0 in
-    let refused : StarRefused dates stars c.in-Ok.matrix (Range c.in-Err-Range.field-0-0 c.in-Err-Range.field-0-1 c.in-Err-Range.field-0-2) = rw c.in-Err-Range.field-0-is at c.in-Err-Range.ensures.answer in
+    let refused : StarRefused dates stars c.in-Ok.matrix
+    (Range c.in-Err-Range.field-0-0 c.in-Err-Range.field-0-1 c.in-Err-Range.field-0-2) = rw c.in-Err-Range.field-0-is at c.in-Err-Range.ensures.answer in
     range_never net c.args.live.now c.transitions-count.ensures.rules c.requires.stands dates stars of_dates c.in_ok-holds.holds.items c.in_ok-holds.ensures
     c.in-Err-Range.field-0-0 c.in-Err-Range.field-0-1 c.in-Err-Range.field-0-2 (rw matrix at refused)

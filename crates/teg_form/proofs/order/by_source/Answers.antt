@@ -11,7 +11,8 @@ returns c =
     let end = rw c.places-place-items.ensures.value at c.loop-index-test.false in
     let p = c.in_ok-sort_by_key.ensures.permutation in
     record {
-      few = few_of (let e : length c.sort_by_key.new.self.items ≡ length c.loop-index.order.items = search rules in e) c.loop-index.invariant.few (rw c.places-place-items.ensures.value at c.loop-index.auto.index-end);
+      few = few_of (let e : length c.sort_by_key.new.self.items ≡ length c.loop-index.order.items =
+          search rules in e) c.loop-index.invariant.few (rw c.places-place-items.ensures.value at c.loop-index.auto.index-end);
       known = All-permutation (IsMarkedPlace c.args.net.now) _ _ p c.loop-index.invariant.known;
       all = λ k l s. Contains-permutation _ _ (marked_at c.args.net.now k) p (c.loop-index.invariant.all k (omega arith) s);
       sorted = IsNonDecreasingBy-from_sort_by_key (λ m. m.key) _ c.in_ok-sort_by_key.ensures.sorted (λ a r q k. search rules);

@@ -68,7 +68,8 @@ loop-start-preserved c =
           let long : length now ≡ c.loop-start.passed.len = omega (arith, w.fresh_end.auto.passed, ok.0, ap length w.deref_mut.ensures.value) in
           let end_in = end_member net π parts part i passed now end c.requires.policy (record { in_range = c.loop-start-test.true; here = w.if-parts-start.true }) e.0 in
           rw (w.starts-is, w.passed-is, written_back now passed c.loop-start.passed.len long)
-          (started_new net π parts part starts passed now i end h e.0 c.requires.policy w.lowest_back.result end_in (end_fresh net π parts part starts passed now i end h e.0 e.1) w.lowest_back.ensures)
+          (started_new net π parts part starts passed now i end h e.0 c.requires.policy w.lowest_back.result
+          end_in (end_fresh net π parts part starts passed now i end h e.0 e.1) w.lowest_back.ensures)
       | then-parts-start+in_default w ↦
           let now = w.fresh_end.new.passed in
           let e = rw w.deref_mut.ensures.value at w.in_default.ensures.none in

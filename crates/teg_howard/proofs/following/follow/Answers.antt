@@ -20,7 +20,8 @@ follow-init c =
     let highest = c.in_ok-followers.followers.highest.items in
     let value : c.index.result.now ≡ get_or highest root None = get_or_read highest root c.index.result.now (omega (arith, r.member.in_range, links.highest_count)) c.index.ensures None in
     rw (c.in_ok-add.ensures, c.new-waiting.ensures.items, value)
-    (spread_start c.args.net.now c.args.parts.now c.args.part (policy_of c.args.policy.now) root c.args.ratio.time c.args.ratio.tokens c.in_ok-values.values.items c.in_ok-followers.followers r.member links
+    (spread_start c.args.net.now c.args.parts.now c.args.part
+    (policy_of c.args.policy.now) root c.args.ratio.time c.args.ratio.tokens c.in_ok-values.values.items c.in_ok-followers.followers r.member links
     (followed_start c.args.net.now c.args.parts.now c.args.part c.args.ratio.time c.args.ratio.tokens root (policy_of c.args.policy.now) c.in_ok-values.values.items r.member alone) alone.others)
 
 pub offset_bounds-policy-member : goal.offset_bounds-policy-member
@@ -50,7 +51,9 @@ offer_from-requires-clause-within c =
     let vs = c.follow.values.items in
     let few = c.requires.kept.few_transitions in
     rw c.deref.ensures.value
-    (held_at net c.args.parts.now c.args.part c.args.ratio.time c.args.ratio.tokens c.args.root (policy_of c.args.policy.now) vs c.follow.invariant.followed.valued (omega (arith, c.requires.count_parts)) (from_of net (policy_of c.args.policy.now c.in-Some.member)))
+    (held_at net c.args.parts.now c.args.part c.args.ratio.time c.args.ratio.tokens c.args.root
+    (policy_of c.args.policy.now) vs c.follow.invariant.followed.valued (omega (arith, c.requires.count_parts))
+    (from_of net (policy_of c.args.policy.now c.in-Some.member)))
 
 pub index_mut-requires : goal.index_mut-requires
 index_mut-requires c =

@@ -5,7 +5,9 @@ use Rattle.teg_net.specs.Parts.{IsMember}
 use Rattle.teg_howard.specs.Policies.{first_id}
 use Rattle.teg_howard.specs.FoundCircuits.{policy_of}
 use Rattle.teg_howard.proofs.Spreading.{linked_skip, linked_more}
-use Rattle.teg_howard.proofs.following.link_followers.Goals.{then-parts-member+then-member-root, else-parts-member, else-parts-member-via-then-parts-member+else-member-root, else-parts-member-via-else-parts-member}
+use Rattle.teg_howard.proofs.following.link_followers.Goals.{then-parts-member+then-member-root, else-parts-member}
+use Rattle.teg_howard.proofs.following.link_followers.Goals.{else-parts-member-via-then-parts-member+else-member-root}
+use Rattle.teg_howard.proofs.following.link_followers.Goals.{else-parts-member-via-else-parts-member}
 use Rattle.teg_howard.proofs.following.link_followers.Goals as goal
 
 pub loop-member-preserved : goal.loop-member-preserved

@@ -19,7 +19,9 @@ loop-index-preserved c =
     let p : PlaceId = record { index = c.loop-index.index } in
     let h = c.loop-index.invariant in
     let in_net : p.index < length net.places = rw c.places-place-items.ensures.value at c.loop-index-test.true in
-    let item : c.place-item.result ≡ place_at net p = rw c.places-place-items.ensures.value at (get_or_read c.places-place-items.result.now p.index c.place-item.result c.loop-index-test.true c.place-item.is no_place) in
+    let item : c.place-item.result ≡ place_at net p =
+    rw c.places-place-items.ensures.value at (get_or_read c.places-place-items.result.now p.index c.place-item.result
+    c.loop-index-test.true c.place-item.is no_place) in
     elim c.if-is_inside.branch [
       | then-is_inside+in_ok-push w ↦
           let both : IsMember parts part (from_of net p) × IsMember parts part (to_of net p) = rw item at (c.is_inside.ensures.0 w.if-is_inside.true) in

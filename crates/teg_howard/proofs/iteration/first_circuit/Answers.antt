@@ -41,13 +41,15 @@ returns c =
     let e = c.of.ensures in
     let best : IsBestFound net parts part (policy_of ps) c.deref.result.now f = rw c.unwrap-found.ensures at c.in_ok-best_circuit.ensures.some in
     let filled : c.in_ok-everywhere.everywhere.items ≡ replicate (length parts) true = c.in_ok-everywhere.ensures.items_if_clones_equal (search rules) in
-    let can = can_settle net parts part ps r f c.deref.result.now c.requires.circuit low.count (lowest_policy net parts part ps c.requires.circuit low) (lowest_in_range net parts part ps c.requires.circuit low) best e.ratio e.time e.tokens in
+    let can = can_settle net parts part ps r f c.deref.result.now c.requires.circuit low.count
+    (lowest_policy net parts part ps c.requires.circuit low) (lowest_in_range net parts part ps c.requires.circuit low) best e.ratio e.time e.tokens in
     record {
       can = can;
       gives = λ routed st count h.
           let standing = settled_stands net parts part ps routed r f.places.items st can (lowest_outside net parts part ps low) (count ∙ low.count) h in
           record {
             standing = standing;
-            first = first_stands net parts part ps routed c.deref.result.now r f st low (entered net parts part c.requires.circuit) (λ t m. rw (c.deref.ensures.value, filled) (all_marked (length parts) t m.in_range)) best standing h;
+            first = first_stands net parts part ps routed c.deref.result.now r f st low (entered net parts part c.requires.circuit)
+                (λ t m. rw (c.deref.ensures.value, filled) (all_marked (length parts) t m.in_range)) best standing h;
           };
     }

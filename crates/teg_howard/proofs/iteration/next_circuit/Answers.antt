@@ -36,5 +36,10 @@ returns-in_ok-circuit-in-None c =
     let i = c.requires.improved in
     let none = rw c.in-None.is at c.in_ok-found.ensures.none in
     let can = ready_same net parts part i.policy ps st marked c.requires.circuit i.standing i.up i.count none in
-    let same : c.in_ok-circuit-in-None.circuit.items ≡ st.round.circuit.places.items = same_from_all_zip _ st.round.circuit.places.items c.in_ok-circuit-in-None.circuit.items c.in_ok-circuit-in-None.ensures.cases.0 (λ x y r. search rules) in
-    rw same (record { can = can; gives = λ routed next count h. goes_same net parts part i.policy ps routed st next marked c.requires.circuit i.standing i.up none i.some.0 i.some.1 can (count ∙ i.count) h })
+    let same : c.in_ok-circuit-in-None.circuit.items ≡ st.round.circuit.places.items =
+    same_from_all_zip _ st.round.circuit.places.items c.in_ok-circuit-in-None.circuit.items c.in_ok-circuit-in-None.ensures.cases.0 (λ x y r. search rules) in
+    rw same (record {
+      can = can;
+      gives = λ routed next count h. goes_same net parts part i.policy ps routed st next marked
+          c.requires.circuit i.standing i.up none i.some.0 i.some.1 can (count ∙ i.count) h;
+    })

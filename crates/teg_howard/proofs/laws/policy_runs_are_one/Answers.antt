@@ -12,7 +12,8 @@ use Rattle.teg_howard.proofs.Rising.{each_round}
 use Rattle.teg_howard.proofs.OneRun.{Equal, one_run}
 use Rattle.teg_howard.proofs.laws.policy_runs_are_one.Goals as goal
 
-same_rounds : (part_of : List ℕ) (part : ℕ) (r q : Round) → ListsMembers part_of part (chosen_for r.choices.items) → ListsMembers part_of part (chosen_for q.choices.items) → Equal r q → AreSameRounds r q
+same_rounds : (part_of : List ℕ) (part : ℕ) (r q : Round) → ListsMembers part_of part (chosen_for r.choices.items)
+    → ListsMembers part_of part (chosen_for q.choices.items) → Equal r q → AreSameRounds r q
 same_rounds part_of part r q h k e = record {
   choices = same_choices part_of part r q h k e.choices e.values;
   places = λ t. ap (λ (f : Policy). f t) e.choices;
@@ -31,5 +32,6 @@ returns c = λ net part_of part rs qs kept live h k.
       count = same_count net part_of part live kept rs qs h k;
       rounds = λ i d l.
           let one = one_run net part_of part live kept rs qs d h k in
-          same_rounds part_of part (get_or rs i d) (get_or qs i d) (each_round net part_of part rs h.run i d l).members (each_round net part_of part qs k.run i d (omega (arith, l, one.0))).members (one.1 i l);
+          same_rounds part_of part (get_or rs i d) (get_or qs i d) (each_round net part_of part rs h.run i d l).members
+          (each_round net part_of part qs k.run i d (omega (arith, l, one.0))).members (one.1 i l);
     }

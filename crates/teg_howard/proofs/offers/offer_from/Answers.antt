@@ -16,7 +16,9 @@ pub unwrap-value-requires : goal.unwrap-value-requires
 unwrap-value-requires c =
     let net = c.args.net.now in
     let id = c.args.id in
-    let item : c.index-places-id.result ≡ place_at net id = rw c.places.ensures.value at (get_or_read c.places.result.now id.index c.index-places-id.result (rw c.places.ensures.value c.requires.place) c.index-places-id.is no_place) in
+    let item : c.index-places-id.result ≡ place_at net id =
+    rw c.places.ensures.value at (get_or_read c.places.result.now id.index c.index-places-id.result
+    (rw c.places.ensures.value c.requires.place) c.index-places-id.is no_place) in
     subst (λ (x : Place). IsSome (get_or c.args.values.now x.from.index None)) (sym item) (some_of (value_held c.args.values.now (from_of net id)) c.requires.start)
 
 pub offer-requires-clause-within : goal.offer-requires-clause-within
@@ -25,7 +27,9 @@ offer-requires-clause-within c =
     let id = c.args.id in
     let values = c.args.values.now in
     let z = c.unwrap-value.result in
-    let item : c.index-places-id.result ≡ place_at net id = rw c.places.ensures.value at (get_or_read c.places.result.now id.index c.index-places-id.result (rw c.places.ensures.value c.requires.place) c.index-places-id.is no_place) in
+    let item : c.index-places-id.result ≡ place_at net id =
+    rw c.places.ensures.value at (get_or_read c.places.result.now id.index c.index-places-id.result
+    (rw c.places.ensures.value c.requires.place) c.index-places-id.is no_place) in
     let e : value_held values (from_of net id) ≡ Some z = subst (λ (x : Place). get_or values x.from.index None ≡ Some z) item c.unwrap-value.ensures in
     let within : IsMagnitudeWithin greatest_scaled_potential z = subst (IsMagnitudeWithin greatest_scaled_potential) (ap value_or_zero e) c.requires.within in
     rw (to_z-of_z w128 z (fits_within z within)) within
@@ -36,7 +40,9 @@ returns c =
     let id = c.args.id in
     let values = c.args.values.now in
     let z = c.unwrap-value.result in
-    let item : c.index-places-id.result ≡ place_at net id = rw c.places.ensures.value at (get_or_read c.places.result.now id.index c.index-places-id.result (rw c.places.ensures.value c.requires.place) c.index-places-id.is no_place) in
+    let item : c.index-places-id.result ≡ place_at net id =
+    rw c.places.ensures.value at (get_or_read c.places.result.now id.index c.index-places-id.result
+    (rw c.places.ensures.value c.requires.place) c.index-places-id.is no_place) in
     let e : value_held values (from_of net id) ≡ Some z = subst (λ (x : Place). get_or values x.from.index None ≡ Some z) item c.unwrap-value.ensures in
     let within : IsMagnitudeWithin greatest_scaled_potential z = subst (IsMagnitudeWithin greatest_scaled_potential) (ap value_or_zero e) c.requires.within in
     let same : to_z w128 (of_z w128 z) ≡ z = to_z-of_z w128 z (fits_within z within) in

@@ -26,7 +26,8 @@ loop-id-init c =
     let filled : cs ≡ replicate n false = c.in_ok-changed.ensures.items_if_clones_equal (search rules) in
     let ok_g = c.in_ok-greatest.greatest.ok in
     let ok_c = c.in_ok-changed.changed.ok in
-    improving_none net parts part c.args.ratio.time c.args.ratio.tokens (potentials c.args.values.now) c.args.policy.now c.in_ok-greatest.greatest.items cs (number_at net parts part c.args.inner.now 0) c.requires.can.count
+    improving_none net parts part c.args.ratio.time c.args.ratio.tokens
+    (potentials c.args.values.now) c.args.policy.now c.in_ok-greatest.greatest.items cs (number_at net parts part c.args.inner.now 0) c.requires.can.count
     (omega (arith, c.in_ok-greatest.ensures.len, ok_g.0)) (omega (arith, c.in_ok-changed.ensures.len, ok_c.0))
     (λ t. rw filled (no_mark n t)) (none_first net parts part c.args.inner.now c.requires.inner) c.requires.can.in_range
 
@@ -62,7 +63,8 @@ loop-id-preserved c =
     let offered : c.offer_from-offered.result ≡ offer_of net a b v p = c.offer_from-offered.ensures in
     let bar : IsBar v gs cs (to_of net p) c.bar_of.result = rw (ends, c.deref.ensures.value, c.deref-in-loop-id.ensures.value) at c.bar_of.ensures in
     let far = λ (ps : List PlaceId) (gs' : List ℤ) (cs' : List Bool) (g : Improving net parts part a b v first ps gs' cs' (p.index + 1)).
-    improving_far net parts part a b v first ps gs' cs' (p.index + 1) g (number_at net parts part ids (k + 1)) (rises_at net parts part ids inner k p l here) (λ q e m. none_between net parts part ids inner k p q l here e m) in
+    improving_far net parts part a b v first ps gs' cs' (p.index + 1) g (number_at net parts part ids (k + 1))
+    (rises_at net parts part ids inner k p l here) (λ q e m. none_between net parts part ids inner k p q l here e m) in
     elim c.if-offered-bar_of.branch [
       | then-offered-bar_of w ↦
           let less : c.bar_of.result <ℤ c.offer_from-offered.result = omega (arith, ints, w.if-offered-bar_of.true) in

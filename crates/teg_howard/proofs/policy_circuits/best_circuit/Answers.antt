@@ -55,9 +55,11 @@ better_of-best-requires-clause-in_range c =
     let member : IsMember c.args.parts.now c.args.part i = c.in_ok-starts.ensures.only i (sym read ∙ c.if-index.true) in
     let r = c.requires in
     let found : IsFoundAt net (policy_of c.args.policy.now) c.loop-start.start c.in-Some.circuit = rw c.in-Some.is at c.in_ok-circuit.ensures.some in
-    λ k d l. ((found_circuit net c.args.parts.now c.args.part (policy_of c.args.policy.now) c.args.marked.now r.policy r.kept r.live r.parts c.loop-start.start c.in-Some.circuit member found).inside k d l).in_range
+    λ k d l. ((found_circuit net c.args.parts.now c.args.part
+    (policy_of c.args.policy.now) c.args.marked.now r.policy r.kept r.live r.parts c.loop-start.start c.in-Some.circuit member found).inside k d l).in_range
 
-best_some : (net : NetLists) (parts : List ℕ) (part : ℕ) (π : Policy) (marked : List Bool) (ok : IsPolicy net parts part π) (kept : IsNet net) (live : IsLive net) (count : length parts ≡ length net.transitions) (n : ℕ) (best : Option FoundCircuit)
+best_some : (net : NetLists) (parts : List ℕ) (part : ℕ) (π : Policy) (marked : List Bool) (ok : IsPolicy net parts part π)
+    (kept : IsNet net) (live : IsLive net) (count : length parts ≡ length net.transitions) (n : ℕ) (best : Option FoundCircuit)
     → length parts ≤ n → BestTo net parts part π marked n best → IfSome best (λ f. IsBestFound net parts part π marked f)
 best_some net parts part π marked ok kept live count n None l b = tt
 best_some net parts part π marked ok kept live count n (Some f) l b = best_all net parts part π marked ok kept live count n f l b
@@ -65,9 +67,11 @@ best_some net parts part π marked ok kept live count n (Some f) l b = best_all 
 pub returns-clause-some : goal.returns-clause-some
 returns-clause-some c =
     let r = c.requires in
-    best_some c.args.net.now c.args.parts.now c.args.part (policy_of c.args.policy.now) c.args.marked.now r.policy r.kept r.live r.parts c.loop-start.start c.loop-start.best (omega arith) c.loop-start.invariant
+    best_some c.args.net.now c.args.parts.now c.args.part
+    (policy_of c.args.policy.now) c.args.marked.now r.policy r.kept r.live r.parts c.loop-start.start c.loop-start.best (omega arith) c.loop-start.invariant
 
-best_none : (net : NetLists) (parts : List ℕ) (part : ℕ) (π : Policy) (marked : List Bool) (ok : IsPolicy net parts part π) (kept : IsNet net) (live : IsLive net) (count : length parts ≡ length net.transitions) (n : ℕ) (best : Option FoundCircuit)
+best_none : (net : NetLists) (parts : List ℕ) (part : ℕ) (π : Policy) (marked : List Bool) (ok : IsPolicy net parts part π)
+    (kept : IsNet net) (live : IsLive net) (count : length parts ≡ length net.transitions) (n : ℕ) (best : Option FoundCircuit)
     → length parts ≤ n → BestTo net parts part π marked n best → IfNone best ((d : List PlaceId) → IsPolicyCircuit net parts part π d → Passes net marked d → ⊥)
 best_none net parts part π marked ok kept live count n None l b = none_all net parts part π marked ok kept live count n l b
 best_none net parts part π marked ok kept live count n (Some f) l b = tt
@@ -75,4 +79,5 @@ best_none net parts part π marked ok kept live count n (Some f) l b = tt
 pub returns-clause-none : goal.returns-clause-none
 returns-clause-none c =
     let r = c.requires in
-    best_none c.args.net.now c.args.parts.now c.args.part (policy_of c.args.policy.now) c.args.marked.now r.policy r.kept r.live r.parts c.loop-start.start c.loop-start.best (omega arith) c.loop-start.invariant
+    best_none c.args.net.now c.args.parts.now c.args.part
+    (policy_of c.args.policy.now) c.args.marked.now r.policy r.kept r.live r.parts c.loop-start.start c.loop-start.best (omega arith) c.loop-start.invariant

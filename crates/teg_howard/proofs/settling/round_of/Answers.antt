@@ -21,7 +21,8 @@ loop-member-preserved c =
           let same : to_z w128 (of_z w128 w.unwrap.result) ≡ w.unwrap.result = to_z-of_z w128 w.unwrap.result fits in
           let value : value_or_zero (value_held c.args.values.now i) ≡ w.unwrap.result = ap value_or_zero w.unwrap.ensures in
           rw (w.choices-is, w.in_ok-push.ensures.items, same)
-          (subst (λ (v : ℤ). Listed parts c.args.part (policy_of c.args.policy.now) c.args.values.now (c.loop-member.choices.items ++ record { transition = record { index = i }; place = policy_of c.args.policy.now i; value = v } ∷ []) (i + 1)) value
+          (subst (λ (v : ℤ). Listed parts c.args.part (policy_of c.args.policy.now) c.args.values.now
+          (c.loop-member.choices.items ++ record { transition = record { index = i }; place = policy_of c.args.policy.now i; value = v } ∷ []) (i + 1)) value
           (listed_more parts c.args.part (policy_of c.args.policy.now) c.args.values.now c.loop-member.choices.items i h member))
       | else-parts-member w ↦ rw w.choices-is (listed_skip parts c.args.part (policy_of c.args.policy.now) c.args.values.now c.loop-member.choices.items i h (λ m. w.if-parts-member.false m.here))
     ]

@@ -18,7 +18,11 @@ route-init c =
     let r = c.requires.can in
     record {
       in_range = r.in_range;
-      routed = ([], routed_none net c.args.parts.now c.args.part c.args.ratio.time c.args.ratio.tokens c.args.root (policy_of c.args.policy.now) r.is_policy c.in_ok-values.values.items c.in_ok-values.ensures.followed c.in_ok-values.ensures.all);
+      routed = (
+        [],
+        routed_none net c.args.parts.now c.args.part c.args.ratio.time c.args.ratio.tokens c.args.root
+            (policy_of c.args.policy.now) r.is_policy c.in_ok-values.values.items c.in_ok-values.ensures.followed c.in_ok-values.ensures.all,
+      );
       none_before = λ k l. absurd (omega arith);
     }
 
@@ -31,7 +35,8 @@ offer_from-requires-clause-within c =
     let h = c.route.invariant.routed.1 in
     let few = c.requires.can.kept.few_transitions in
     rw c.deref-in-Some.ensures.value
-    (held_at net c.args.parts.now c.args.part c.args.ratio.time c.args.ratio.tokens c.args.root (policy_of c.route.policy) c.route.values.items h.valued (omega (arith, c.requires.can.count_parts)) (from_of net c.index-id.result.now))
+    (held_at net c.args.parts.now c.args.part c.args.ratio.time c.args.ratio.tokens c.args.root
+    (policy_of c.route.policy) c.route.values.items h.valued (omega (arith, c.requires.can.count_parts)) (from_of net c.index-id.result.now))
 
 pub route-preserved : goal.route-preserved
 route-preserved c =
@@ -59,8 +64,13 @@ route-preserved c =
     rw (ends, to_z-of_z w128 offered fits, c.min-from.ensures, exit)
     (record {
       in_range = All-set (λ q. q.index < length net.places) c.route.policy (to_of net p) p next.join.inside.in_range c.route.invariant.in_range;
-      routed = (joins ++ p ∷ [], route_step net parts c.args.part c.args.root c.args.ratio (policy_of c.args.policy.now) joins c.route.policy vs p offered r.kept r.small (c.route.auto.policy ∙ r.count) h next o);
-      none_before = none_before_next net ids vs rank (to_of net p) (get_or exits (to_of net p) 0) offered first.none_before (omega (arith, member_in, h.valued.count)) (inner.exits.first (to_of net p) exit_in);
+      routed = (
+        joins ++ p ∷ [],
+        route_step net parts c.args.part c.args.root c.args.ratio
+            (policy_of c.args.policy.now) joins c.route.policy vs p offered r.kept r.small (c.route.auto.policy ∙ r.count) h next o,
+      );
+      none_before = none_before_next net ids vs rank (to_of net p) (get_or exits (to_of net p) 0) offered first.none_before
+          (omega (arith, member_in, h.valued.count)) (inner.exits.first (to_of net p) exit_in);
     })
 
 pub returns : goal.returns
@@ -69,4 +79,5 @@ returns c =
     let ids = c.args.inner.now.ids.items in
     let vs = c.route.values.items in
     let none = none_is_join net ids c.args.parts.now c.args.part c.requires.inner.lists vs (rw (c.deref.ensures.value, c.deref-in-route.ensures.value) at c.in_default.ensures.none) in
-    routed_all net c.args.parts.now c.args.part c.requires.can.kept c.requires.strong c.args.root c.requires.can.member c.args.policy.now c.route.policy c.args.ratio c.route.invariant.routed.0 vs c.route.invariant.in_range c.route.invariant.routed.1 none
+    routed_all net c.args.parts.now c.args.part c.requires.can.kept c.requires.strong c.args.root c.requires.can.member
+    c.args.policy.now c.route.policy c.args.ratio c.route.invariant.routed.0 vs c.route.invariant.in_range c.route.invariant.routed.1 none

@@ -22,8 +22,10 @@ loop-at-preserved c =
     record {
       stands = c.go_on.ensures.stands;
       taken =
-          take_more c.args.net.now rows order c.loop-at.first.window.number k c.loop-at.cells c.go_on.new.cells c.loop-at.dates i (get_or c.go_on.new.cells r.transition.index 0) o c.requires.order c.requires.due h l
-          (λ q. get_or_default order i q no_numbered l) (sym (known.number no_row) ∙ sym number) (c.go_on.auto.cells ∙ h.full) (rw number c.go_on.ensures.row) refl (λ d. get_or_default rows o.index d no_row known.in_range);
+          take_more c.args.net.now rows order c.loop-at.first.window.number k c.loop-at.cells c.go_on.new.cells c.loop-at.dates i
+          (get_or c.go_on.new.cells r.transition.index 0) o c.requires.order c.requires.due h l
+          (λ q. get_or_default order i q no_numbered l) (sym (known.number no_row) ∙ sym number) (c.go_on.auto.cells ∙ h.full)
+          (rw number c.go_on.ensures.row) refl (λ d. get_or_default rows o.index d no_row known.in_range);
     }
 
 pub returns : goal.returns

@@ -33,4 +33,5 @@ returns c =
     let r : DueRow = record { row = c.args.row.row; transition = c.args.row.transition; number = c.args.row.number; date = c.args.least } in
     let at : IsAtStart net c.in_ok-plan.plan c.unwrap-number.result.0.index c.unwrap-number.result.1 = rw c.unwrap-number.ensures at c.first_at_start.ensures.some in
     ok_map c.walk.result (λ w. IsLateWalk net r.transition.index r.number (start_date net w.start.index w.number) r.date w) c.walk.ensures.tight
-    (λ w tight. tight_is_late net r c.unwrap-number.result.0.index c.unwrap-number.result.1 (dates_of_plan c.in_ok-plan.plan c.unwrap-number.result.0.index c.unwrap-number.result.1) w at.is (tight (due_in (r ∷ [])) c.in_ok-plan.ensures.plan))
+    (λ w tight. tight_is_late net r c.unwrap-number.result.0.index c.unwrap-number.result.1
+    (dates_of_plan c.in_ok-plan.plan c.unwrap-number.result.0.index c.unwrap-number.result.1) w at.is (tight (due_in (r ∷ [])) c.in_ok-plan.ensures.plan))

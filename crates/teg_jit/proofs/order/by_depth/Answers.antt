@@ -12,7 +12,8 @@ loop-index-preserved c =
     let l = rw value at c.loop-index-test.true in
     let read = get_or_read c.places-place-items.result.now c.loop-index.index c.place-item.result c.loop-index-test.true c.place-item.is no_place in
     let place : c.place-item.result ≡ get_or c.args.net.now.places c.loop-index.index no_place = rw value at read in
-    rw (c.in_ok-push.ensures.items, c.rank.ensures.rank, place, c.transitions.ensures.value) (order_more c.args.net.now c.args.live.now c.loop-index.order.items c.loop-index.index c.loop-index.invariant l)
+    rw (c.in_ok-push.ensures.items, c.rank.ensures.rank, place, c.transitions.ensures.value)
+    (order_more c.args.net.now c.args.live.now c.loop-index.order.items c.loop-index.index c.loop-index.invariant l)
 
 pub returns : goal.returns
 returns c =

@@ -20,12 +20,15 @@ overflow_sub-date c =
     let ok : IsNet net = c.places-places.ensures.rules in
     let known = c.requires.order.2.known i none_depth c.loop-depth-test.true in
     let p : Place = place_at net o.place in
-    let item : c.index-places-depth.result ≡ p = read_place net c.places-places.result.now o.place.index c.index-places-depth.result c.places-places.ensures.value known.in_range c.index-places-depth.is in
+    let item : c.index-places-depth.result ≡ p = read_place net c.places-places.result.now o.place.index c.index-places-depth.result
+    c.places-places.ensures.value known.in_range c.index-places-depth.is in
     let read : c.date_at.result ≡ date_there (latest_in (length net.transitions) c.loop-depth.dates p.to.index (c.args.number + p.tokens)) = rw (width, item) at c.date_at.ensures.date in
     let room = c.requires.passed in
     let h = c.loop-depth.invariant.passed room.0 room.1 in
     rw item
-    ((has_room net room.0 c.args.order.now c.args.last c.args.number (length net.transitions) i i c.in-Some.date o.place c.loop-depth.dates room.2.0 ok room.2.1 room.2.2 h known.in_range c.requires.number (sym c.in-Some.is ∙ read)).0)
+    ((has_room net room.0 c.args.order.now c.args.last c.args.number
+    (length net.transitions) i i c.in-Some.date o.place c.loop-depth.dates room.2.0 ok room.2.1 room.2.2 h known.in_range
+    c.requires.number (sym c.in-Some.is ∙ read)).0)
 
 pub loop-depth-init : goal.loop-depth-init
 loop-depth-init c = record { full = c.requires.full; passed = λ due h. h c.args.order.now }
@@ -47,7 +50,9 @@ loop-depth-preserved c = record {
       let ok : IsNet net = c.places-places.ensures.rules in
       let known = c.requires.order.2.known i none_depth l in
       let p : Place = place_at net o.place in
-      let item : c.index-places-depth.result ≡ p = read_place net c.places-places.result.now o.place.index c.index-places-depth.result c.places-places.ensures.value known.in_range c.index-places-depth.is in
+      let item : c.index-places-depth.result ≡ p =
+      read_place net c.places-places.result.now o.place.index c.index-places-depth.result c.places-places.ensures.value known.in_range
+      c.index-places-depth.is in
       let read : c.date_at.result ≡ date_there (latest_in n c.loop-depth.dates p.to.index (c.args.number + p.tokens)) = rw (width, item) at c.date_at.ensures.date in
       let h = c.loop-depth.invariant.passed due s in
       elim c.match-date_at.branch [
@@ -55,7 +60,8 @@ loop-depth-preserved c = record {
             let some : Some w.in-Some.date ≡ date_there (latest_in n c.loop-depth.dates p.to.index (c.args.number + p.tokens)) = sym w.in-Some.is ∙ read in
             let cell : w.cell_of.result ≡ firing_position n p.from.index c.args.number = rw (width, item) at w.cell_of.ensures.value in
             let room = c.requires.passed in
-            let fits = (has_room net room.0 c.args.order.now c.args.last c.args.number n i i w.in-Some.date o.place c.loop-depth.dates room.2.0 ok room.2.1 room.2.2 (c.loop-depth.invariant.passed room.0 room.1) known.in_range c.requires.number some).0 in
+            let fits = (has_room net room.0 c.args.order.now c.args.last c.args.number n i i w.in-Some.date o.place c.loop-depth.dates
+            room.2.0 ok room.2.1 room.2.2 (c.loop-depth.invariant.passed room.0 room.1) known.in_range c.requires.number some).0 in
             rw (w.dates-is, w.lower.ensures, cell, item)
             (place_some net due c.requires.order.0 c.args.order.now c.args.last c.args.number i w.in-Some.date o c.loop-depth.dates ok c.requires.order.1 c.requires.order.2
             (λ x f keeps. (has_room net due c.args.order.now c.args.last c.args.number n i i w.in-Some.date o.place c.loop-depth.dates x ok f keeps h known.in_range c.requires.number some).1)
@@ -67,4 +73,5 @@ loop-depth-preserved c = record {
 pub returns-clause-settled : goal.returns-clause-settled
 returns-clause-settled c = λ due s.
     let last : c.loop-depth.depth-index ≡ length c.args.order.now = omega (arith, c.loop-depth-test.false, c.loop-depth.auto.depth-index-end) in
-    number_done c.args.net.now due c.requires.order.0 c.args.order.now c.args.last c.args.number c.loop-depth.depth-index c.loop-depth.dates c.requires.order.2 c.requires.number last (c.loop-depth.invariant.passed due s)
+    number_done c.args.net.now due c.requires.order.0 c.args.order.now c.args.last c.args.number c.loop-depth.depth-index
+    c.loop-depth.dates c.requires.order.2 c.requires.number last (c.loop-depth.invariant.passed due s)

@@ -20,7 +20,9 @@ loop-row-preserved c =
     let own : NamesFiring net r = c.requires.due.each i no_row l in
     let width = c.transitions-width.ensures.value in
     rw (c.lower.ensures, c.cell_of-cell.ensures.value, width)
-    (begun_more (length net.transitions) rows c.args.last c.loop-row.dates i r (λ j q m. let o = c.requires.due.each j q m in (o.in_range, o.from_one)) c.loop-row.invariant l at own.in_range own.from_one (c.requires.greatest.most i no_row l)
+    (begun_more (length net.transitions) rows c.args.last c.loop-row.dates i r
+    (λ j q m. let o = c.requires.due.each j q m in (o.in_range, o.from_one)) c.loop-row.invariant l at own.in_range own.from_one
+    (c.requires.greatest.most i no_row l)
     (due_of_row rows i r c.requires.due.once l (at r)))
 
 pub returns-clause-settled : goal.returns-clause-settled

@@ -6,4 +6,5 @@ use Rattle.teg_jit.proofs.planning.latest_inputs.Goals as goal
 pub returns-clause-inputs : goal.returns-clause-inputs
 returns-clause-inputs c =
     let plan = c.in_ok-plan_for.ensures.plan in
-    latest_dates_are_inputs c.args.net.now c.keep_dues.ensures.rules plan.live (due_in c.args.due.now.rows.items) (rw c.deref-2.ensures.value at c.in_ok-keep_dues.ensures.kept) (dates_of_plan c.in_ok-plan_for.field-0) (rw c.deref-3.ensures.value at plan.latest)
+    latest_dates_are_inputs c.args.net.now c.keep_dues.ensures.rules plan.live (due_in c.args.due.now.rows.items)
+    (rw c.deref-2.ensures.value at c.in_ok-keep_dues.ensures.kept) (dates_of_plan c.in_ok-plan_for.field-0) (rw c.deref-3.ensures.value at plan.latest)

@@ -20,7 +20,8 @@ leaves_once-requires c = IsPathBetween-in_range c.args.net.now c.args.places.now
 pub returns-else-end-start-clause-is : goal.returns-else-end-start-clause-is
 returns-else-end-start-clause-is c = (
   λ t. absurd (grind (arith, common_steps)),
-  λ h. let same = IsPathBetween-closed c.args.net.now c.args.places.now h.closed.0 c.in-Some.start.index c.in-Some-path_end.end.index h.closed.1 c.in-Some.ensures.start c.in-Some-path_end.ensures.end in grind (arith, common_steps),
+  λ h. let same = IsPathBetween-closed c.args.net.now c.args.places.now h.closed.0 c.in-Some.start.index c.in-Some-path_end.end.index
+      h.closed.1 c.in-Some.ensures.start c.in-Some-path_end.ensures.end in grind (arith, common_steps),
 )
 
 pub returns-then-end-start-clause-in_range : goal.returns-then-end-start-clause-in_range

@@ -13,7 +13,8 @@ empty_path net (p ∷ ps) e = absurd (omega arith)
 pub returns-in-None-clause-is : goal.returns-in-None-clause-is
 returns-in-None-clause-is c = (
   λ t. empty_path c.args.net.now c.args.places.now (grind (arith, common_steps)),
-  λ h. let none : c.args.places.now ≡ [] = c.in-None.ensures.none (IsPath-in_range c.args.net.now c.args.places.now h) in let short : length c.args.places.now ≡ 0 = ap length none in grind (arith, common_steps),
+  λ h. let none : c.args.places.now ≡ [] = c.in-None.ensures.none
+      (IsPath-in_range c.args.net.now c.args.places.now h) in let short : length c.args.places.now ≡ 0 = ap length none in grind (arith, common_steps),
 )
 
 pub returns-in-Some-clause-in_range : goal.returns-in-Some-clause-in_range

@@ -12,11 +12,14 @@ if_none (Some x) p = tt
 pub returns-in_err-at-clause-none : goal.returns-in_err-at-clause-none
 returns-in_err-at-clause-none c =
     if_none c.from_residual.result
-    (IsWalkLeft-none c.args.net.now c.args.steps.now c.args.start.index c.args.number c.loop-step.step-index c.loop-step.at.index c.loop-step.count (By no_id) c.loop-step.invariant c.loop-step-test.true c.in_err-at.ensures.none)
+    (IsWalkLeft-none c.args.net.now c.args.steps.now c.args.start.index c.args.number c.loop-step.step-index c.loop-step.at.index
+    c.loop-step.count (By no_id) c.loop-step.invariant c.loop-step-test.true c.in_err-at.ensures.none)
 
 pub loop-step-preserved : goal.loop-step-preserved
 loop-step-preserved c =
-    IsWalkLeft-more c.args.net.now c.args.steps.now c.args.start.index c.args.number c.loop-step.step-index c.loop-step.at.index c.loop-step.count c.in_ok-at.field-0-0.index c.in_ok-at.field-0-1 (By no_id) c.loop-step.invariant c.loop-step-test.true c.in_ok-at.ensures.end
+    IsWalkLeft-more c.args.net.now c.args.steps.now c.args.start.index c.args.number c.loop-step.step-index c.loop-step.at.index
+    c.loop-step.count c.in_ok-at.field-0-0.index c.in_ok-at.field-0-1 (By no_id) c.loop-step.invariant c.loop-step-test.true c.in_ok-at.ensures.end
 
 pub returns-clause-end : goal.returns-clause-end
-returns-clause-end c = IsWalkLeft-end c.args.net.now c.args.steps.now c.args.start.index c.args.number c.loop-step.step-index c.loop-step.at.index c.loop-step.count c.loop-step.invariant c.loop-step-test.false
+returns-clause-end c = IsWalkLeft-end c.args.net.now c.args.steps.now c.args.start.index c.args.number c.loop-step.step-index
+    c.loop-step.at.index c.loop-step.count c.loop-step.invariant c.loop-step-test.false

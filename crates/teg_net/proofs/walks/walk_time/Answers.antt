@@ -7,4 +7,5 @@ pub step_time-time-requires : goal.step_time-time-requires
 step_time-time-requires c =
     let w = c.args.walk.now in
     let inside = rw c.deref-step-items.ensures.value at c.loop-step-test.true in
-    rw c.deref-step-items.ensures.value (Walks-steps c.args.net.now w.steps.items w.start.index w.number c.requires.steps.0 c.requires.steps.1 c.requires.steps.2 c.loop-step.step-index (By no_id) inside)
+    rw c.deref-step-items.ensures.value (Walks-steps c.args.net.now w.steps.items w.start.index w.number c.requires.steps.0
+    c.requires.steps.1 c.requires.steps.2 c.loop-step.step-index (By no_id) inside)

@@ -7,7 +7,9 @@ use Rattle.teg_parts.specs.PartNumbers.{component_at, part_number}
 use Rattle.teg_parts.proofs.Marks.{none_by, some_by}
 use Rattle.teg_parts.proofs.NumberingSteps.{blocked_more, blocked_skip}
 use Rattle.teg_parts.proofs.numbering.blocked_components.Goals as goal
-use Rattle.teg_parts.proofs.numbering.blocked_components.Goals.{then-components-from+then-is_none, else-components-from, else-components-from-via-then-components-from+else-is_none, else-components-from-via-else-components-from}
+use Rattle.teg_parts.proofs.numbering.blocked_components.Goals.{then-components-from+then-is_none, else-components-from}
+use Rattle.teg_parts.proofs.numbering.blocked_components.Goals.{else-components-from-via-then-components-from+else-is_none}
+use Rattle.teg_parts.proofs.numbering.blocked_components.Goals.{else-components-from-via-else-components-from}
 
 pub loop-place-preserved : goal.loop-place-preserved
 loop-place-preserved c =
@@ -32,7 +34,8 @@ loop-place-preserved c =
           (blocked_skip net comps numbers c.loop-place.blocked.items p h
           (λ b.
           elim w.else-components-from.branch [
-            | else-components-from-via-then-components-from+else-is_none v ↦ some_by (part_number numbers (from_of net p)) v.is_none.result (rw item at v.is_none.ensures) v.if-is_none.false b.unnumbered
+            | else-components-from-via-then-components-from+else-is_none v ↦
+                some_by (part_number numbers (from_of net p)) v.is_none.result (rw item at v.is_none.ensures) v.if-is_none.false b.unnumbered
             | else-components-from-via-else-components-from v ↦ b.other (rw item at v.if-components-from.false)
           ]))
     ]

@@ -24,7 +24,8 @@ loop-place-preserved c =
     elim c.if-part-part_of.branch [
       | then-part-part_of w ↦
           let same : get_or part_of (from_of net p) 0 ≡ get_or part_of (to_of net p) 0 = rw item at w.if-part-part_of.true in
-          let inside : IsPlaceOfPart net part_of part p = record { in_range = in_net; from_member = record { in_range = from_in; here = refl }; to_member = record { in_range = to_in; here = sym same } } in
+          let inside : IsPlaceOfPart net part_of part p =
+          record { in_range = in_net; from_member = record { in_range = from_in; here = refl }; to_member = record { in_range = to_in; here = sym same } } in
           rw (w.inner-is, item) (marked_more net part_of c.args.count c.loop-place.inner.items p part h (c.requires.below (from_of net p) 0 from_in) inside)
       | else-part-part_of w ↦ rw w.inner-is (marked_skip net part_of c.args.count c.loop-place.inner.items p h (rw item at w.if-part-part_of.false))
     ]

@@ -26,7 +26,8 @@ loop-index-preserved c =
     let near : c.near_end-near.result ≡ near_of way net p = c.near_end-near.ensures ∙ ap (near_in way) item in
     let t_in = near_in_net net way c.places-place-items.ensures.rules p in_net in
     let high_in : near_of way net p < length c.loop-index.highest.items = omega (arith, h.highest_count) in
-    let value : c.index.result.now ≡ get_or c.loop-index.highest.items (near_of way net p) None = get_or_read c.loop-index.highest.items (near_of way net p) c.index.result.now high_in (rw near at c.index.ensures) None in
+    let value : c.index.result.now ≡ get_or c.loop-index.highest.items (near_of way net p) None =
+    get_or_read c.loop-index.highest.items (near_of way net p) c.index.result.now high_in (rw near at c.index.ensures) None in
     rw (near, c.in_ok-push.ensures.items, value) (linked_more net way c.loop-index.highest.items c.loop-index.lower.items p h t_in)
 
 pub returns-clause-places : goal.returns-clause-places

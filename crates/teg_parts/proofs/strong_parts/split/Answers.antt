@@ -8,4 +8,5 @@ returns c =
     let found = c.in_ok-found.found.items in
     let order : AreInOrderOf net found c.in_ok-part_of.part_of.items c.in_ok-part_of.count = rw c.deref.ensures.value at c.in_ok-part_of.ensures.order in
     let marks : AreInnerMarks net c.in_ok-part_of.part_of.items c.in_ok-inner.inner.items = rw c.deref-2.ensures.value at c.in_ok-inner.ensures.marks in
-    rw c.new.ensures (are_parts net c.in_ok-part_of.ensures.rules found c.in_ok-found.ensures c.in_ok-part_of.part_of.items c.in_ok-part_of.count order c.in_ok-inner.inner.items c.in_ok-inner.ensures.long marks)
+    rw c.new.ensures (are_parts net c.in_ok-part_of.ensures.rules found c.in_ok-found.ensures c.in_ok-part_of.part_of.items
+    c.in_ok-part_of.count order c.in_ok-inner.inner.items c.in_ok-inner.ensures.long marks)

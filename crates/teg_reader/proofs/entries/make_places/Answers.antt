@@ -7,7 +7,9 @@ use Rattle.teg_reader.specs.NetOf.{entry_place}
 use Rattle.teg_reader.proofs.entries.make_places.Goals as goal
 
 pub make_place-requires-clause-sound : goal.make_place-requires-clause-sound
-make_place-requires-clause-sound c = entry_passes (is_sound_place (map deref c.args.names.now.keys)) c.args.entries.now c.loop-entry.entry-index c.entry-item.result c.loop-entry-test.true c.entry-item.is c.requires.sound
+make_place-requires-clause-sound c = entry_passes (is_sound_place
+    (map deref c.args.names.now.keys)) c.args.entries.now c.loop-entry.entry-index c.entry-item.result c.loop-entry-test.true c.entry-item.is c.requires.sound
 
 pub loop-entry-preserved : goal.loop-entry-preserved
-loop-entry-preserved c = pushed_of (entry_place (map view c.args.transitions.now)) c.args.entries.now c.loop-entry.entry-index c.entry-item.result _ _ _ c.loop-entry-test.true c.entry-item.is c.loop-entry.invariant c.in_ok-make_place.ensures c.in_ok-push.ensures.items
+loop-entry-preserved c = pushed_of (entry_place (map view c.args.transitions.now)) c.args.entries.now c.loop-entry.entry-index
+    c.entry-item.result _ _ _ c.loop-entry-test.true c.entry-item.is c.loop-entry.invariant c.in_ok-make_place.ensures c.in_ok-push.ensures.items

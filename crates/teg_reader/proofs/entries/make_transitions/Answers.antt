@@ -7,4 +7,5 @@ pub make_transition-requires : goal.make_transition-requires
 make_transition-requires c = entry_passes has_good_name c.args.entries.now c.loop-entry.entry-index c.entry-item.result c.loop-entry-test.true c.entry-item.is c.requires
 
 pub loop-entry-preserved : goal.loop-entry-preserved
-loop-entry-preserved c = pushed_of entry_transition c.args.entries.now c.loop-entry.entry-index c.entry-item.result _ _ _ c.loop-entry-test.true c.entry-item.is c.loop-entry.invariant c.in_ok-make_transition.ensures c.in_ok-push.ensures.items
+loop-entry-preserved c = pushed_of entry_transition c.args.entries.now c.loop-entry.entry-index c.entry-item.result _ _ _
+    c.loop-entry-test.true c.entry-item.is c.loop-entry.invariant c.in_ok-make_transition.ensures c.in_ok-push.ensures.items

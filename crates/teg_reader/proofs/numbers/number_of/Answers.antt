@@ -16,6 +16,7 @@ pub returns : goal.returns
 unfolding id_of
 returns c =
     let there : position_or_len (bytes_eq c.args.text.now) (map deref c.args.names.now.keys) ≡ c.in-Some.index =
-    sym (position_deref c.args.text.now c.args.names.now.keys) ∙ position_found (λ k. bytes_eq c.args.text.now k.now) c.args.names.now.keys c.in-Some.index (sym c.get_index_of.ensures.index ∙ c.in-Some.is) in
+    sym (position_deref c.args.text.now c.args.names.now.keys)
+    ∙ position_found (λ k. bytes_eq c.args.text.now k.now) c.args.names.now.keys c.in-Some.index (sym c.get_index_of.ensures.index ∙ c.in-Some.is) in
     let id : ℕ → TransitionId = λ n. record { index = n } in
     ap id (sym there)

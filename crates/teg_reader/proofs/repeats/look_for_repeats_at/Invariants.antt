@@ -9,5 +9,6 @@ use Rattle.teg_reader.proofs.repeats.look_for_repeats_at.Given as goal
 abbrev pub invariant-loop-index : goal.invariant-loop-index
 invariant-loop-index l = record {
   seen : HasTexts l.texts (texts_before l.key l.index l.entries);
-  rest : first_finding (repeats_earlier l.key (map view l.entries)) l.section (l.index + 1) (entries_from l.index l.entries) ≡ first_finding (repeats_earlier l.key (map view l.entries)) l.section 1 (map view l.entries);
+  rest : first_finding (repeats_earlier l.key (map view l.entries)) l.section (l.index + 1)
+      (entries_from l.index l.entries) ≡ first_finding (repeats_earlier l.key (map view l.entries)) l.section 1 (map view l.entries);
 }

@@ -8,4 +8,5 @@ pub loop-date-preserved : goal.loop-date-preserved
 loop-date-preserved c =
     let dates = c.args.dates.now in
     let i = c.loop-date.date-index in
-    pushed_value number_data dates i (get_or dates i 0) _ _ _ c.loop-date-test.true (get_or_default dates i 0 (get_or dates i 0) c.loop-date-test.true) c.loop-date.invariant c.number_value.ensures c.in_ok-push.ensures.items
+    pushed_value number_data dates i (get_or dates i 0) _ _ _ c.loop-date-test.true
+    (get_or_default dates i 0 (get_or dates i 0) c.loop-date-test.true) c.loop-date.invariant c.number_value.ensures c.in_ok-push.ensures.items

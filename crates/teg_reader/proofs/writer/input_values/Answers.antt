@@ -14,4 +14,5 @@ pub loop-input-preserved : goal.loop-input-preserved
 loop-input-preserved c =
     let l = rw c.inputs-input-items.ensures.value at c.loop-input-test.true in
     let is = rw c.inputs-input-items.ensures.value at c.input-item.is in
-    pushed_value (input_entry c.args.net.now.transitions) c.args.net.now.inputs c.loop-input.input-index c.input-item.result _ _ _ l is c.loop-input.invariant c.in_ok-input_value.ensures c.in_ok-push.ensures.items
+    pushed_value (input_entry c.args.net.now.transitions) c.args.net.now.inputs c.loop-input.input-index c.input-item.result _ _ _ l is
+    c.loop-input.invariant c.in_ok-input_value.ensures c.in_ok-push.ensures.items

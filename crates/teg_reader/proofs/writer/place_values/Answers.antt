@@ -14,4 +14,5 @@ pub loop-place-preserved : goal.loop-place-preserved
 loop-place-preserved c =
     let l = rw c.places-place-items.ensures.value at c.loop-place-test.true in
     let is = rw c.places-place-items.ensures.value at c.place-item.is in
-    pushed_value (place_entry c.args.net.now.transitions) c.args.net.now.places c.loop-place.place-index c.place-item.result _ _ _ l is c.loop-place.invariant c.in_ok-place_value.ensures c.in_ok-push.ensures.items
+    pushed_value (place_entry c.args.net.now.transitions) c.args.net.now.places c.loop-place.place-index c.place-item.result _ _ _ l is
+    c.loop-place.invariant c.in_ok-place_value.ensures c.in_ok-push.ensures.items

@@ -52,7 +52,8 @@ returns-in-Err-clause-legal g c =
     let i = c.loop-row.row-index in
     let l = c.loop-row-test.true in
     let h = c.loop-row.invariant in
-    refused_not_legal c.args.net.now log i c.loop-row.game.run (get_or log i no_row) c.in-Err.why c.refused.result l (λ d. get_or_default log i d no_row l) h.run c.in-Err.ensures.refused c.refused.ensures.failed
+    refused_not_legal c.args.net.now log i c.loop-row.game.run (get_or log i no_row) c.in-Err.why c.refused.result l
+    (λ d. get_or_default log i d no_row l) h.run c.in-Err.ensures.refused c.refused.ensures.failed
 
 pub returns-in-Err-clause-earliest : goal.returns-in-Err-clause-earliest
 returns-in-Err-clause-earliest g c =
@@ -65,7 +66,8 @@ returns-in-Err-clause-earliest g c =
 
 pub returns-in-Err-clause-named : goal.returns-in-Err-clause-named
 returns-in-Err-clause-named g c =
-    refused_named c.args.net.now c.loop-row.game.run (get_or c.args.log.now c.loop-row.row-index no_row) c.loop-row.accepted c.in-Err.why c.refused.result c.in-Err.ensures.refused c.refused.ensures.told
+    refused_named c.args.net.now c.loop-row.game.run
+    (get_or c.args.log.now c.loop-row.row-index no_row) c.loop-row.accepted c.in-Err.why c.refused.result c.in-Err.ensures.refused c.refused.ensures.told
 
 pub returns-in_default-clause-replayed : goal.returns-in_default-clause-replayed
 returns-in_default-clause-replayed g c = ([], firings_begin c.args.net.now c.args.log.now, shown_begins _)

@@ -17,13 +17,15 @@ returns-in-None-clause-fails c =
 pub returns-clause-latest : goal.returns-clause-latest
 returns-clause-latest c =
     rw c.next_number-number.ensures.number at
-    (latest_is c.args.net.now c.args.history.now.run c.args.fired c.next_number-number.result c.args.into.now c.loop-id.id-index c.loop-id.latest c.requires.into c.loop-id.invariant (omega (arith, c.loop-id-test.false)))
+    (latest_is c.args.net.now c.args.history.now.run c.args.fired c.next_number-number.result c.args.into.now c.loop-id.id-index
+    c.loop-id.latest c.requires.into c.loop-id.invariant (omega (arith, c.loop-id-test.false)))
 
 pub returns-clause-tokens : goal.returns-clause-tokens
 returns-clause-tokens c =
     rw c.next_number-number.ensures.number at
     (latest_by c.args.net.now c.args.history.now.run c.args.fired.transition.index c.next_number-number.result c.loop-id.latest c.args.fired.date c.loop-id.invariant.by
-    (latest_is c.args.net.now c.args.history.now.run c.args.fired c.next_number-number.result c.args.into.now c.loop-id.id-index c.loop-id.latest c.requires.into c.loop-id.invariant (omega (arith, c.loop-id-test.false))).enough)
+    (latest_is c.args.net.now c.args.history.now.run c.args.fired c.next_number-number.result c.args.into.now c.loop-id.id-index
+    c.loop-id.latest c.requires.into c.loop-id.invariant (omega (arith, c.loop-id-test.false))).enough)
 
 pub loop-id-preserved : goal.loop-id-preserved
 loop-id-preserved c =

@@ -42,4 +42,5 @@ returns c =
     let all : c.loop-number.number ≡ length answer.parts = omega (arith, c.loop-number-test.false, c.loop-number.auto.number-end, c.len-number-end.ensures, length-map parts part_lists) in
     rw all at c.loop-number.invariant
     ∙ (ap (λ (l : List ℕ). l ++ flat_map (λ k. written (lines k)) (range_with_len 0 (length answer.parts))) c.in_ok-text.ensures
-    ∙ (ap (λ (l : List ℕ). written head ++ l) (sym (written_flat_map lines (range_with_len 0 (length answer.parts)))) ∙ sym (written_append head (flat_map lines (range_with_len 0 (length answer.parts))))))
+    ∙ (ap (λ (l : List ℕ). written head ++ l) (sym (written_flat_map lines (range_with_len 0 (length answer.parts))))
+    ∙ sym (written_append head (flat_map lines (range_with_len 0 (length answer.parts))))))

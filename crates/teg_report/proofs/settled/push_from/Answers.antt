@@ -14,7 +14,8 @@ push_each-requires c =
     let net = c.args.net.now in
     let lines = c.args.from.now.lines.items in
     subst (λ (ls : List TransferLine). All (λ l. l.to.index < length net.transitions) ls) (sym c.deref.ensures.value)
-    (λ i d l. subst (λ (t : TimesTo). t.to.index < length net.transitions) (get_or-map times_to lines i d (times_to d) l) (c.requires.lines i (times_to d) (omega (arith, l, length-map lines times_to))))
+    (λ i d l. subst (λ (t : TimesTo). t.to.index < length net.transitions) (get_or-map times_to lines i d (times_to d) l)
+    (c.requires.lines i (times_to d) (omega (arith, l, length-map lines times_to))))
 
 pub returns-clause-text : goal.returns-clause-text
 returns-clause-text c =
@@ -33,5 +34,6 @@ pub returns-clause-kept : goal.returns-clause-kept
 returns-clause-kept c = record {
   after = c.in_ok-push_from_line.ensures.after;
   period = c.in_ok-push_from_line.ensures.period;
-  lines = All-map AreTimesToKept times_to c.args.from.now.lines.items (subst (λ (ls : List TransferLine). All (λ l. AreTimesToKept (times_to l)) ls) c.deref.ensures.value c.in_ok-push_each.ensures.kept);
+  lines = All-map AreTimesToKept times_to c.args.from.now.lines.items
+      (subst (λ (ls : List TransferLine). All (λ l. AreTimesToKept (times_to l)) ls) c.deref.ensures.value c.in_ok-push_each.ensures.kept);
 }

@@ -25,7 +25,8 @@ loop-from-preserved c =
     let i = c.loop-from.from-index in
     let text = string_bytes c.loop-from.text in
     let within : i < length (map times_from inputs) = omega (arith, c.loop-from-test.true, length-map inputs times_from) in
-    let same : times_from item ≡ get_or (map times_from inputs) i (times_from item) = ap times_from c.from-item.is ∙ sym (get_or-map times_from inputs i item (times_from item) c.loop-from-test.true) in (
+    let same : times_from item ≡ get_or (map times_from inputs) i (times_from item) = ap times_from c.from-item.is
+    ∙ sym (get_or-map times_from inputs i item (times_from item) c.loop-from-test.true) in (
       more_items (λ x. written (from_lines net x)) (string_bytes c.in_ok-text.text) text _ (map times_from inputs) (map times_from inputs) i (times_from item) refl within
           (c.in_ok-push_from.ensures.text ∙ ap (λ (x : TimesFrom). text ++ written (from_lines net x)) same) c.loop-from.invariant.0,
       all_items AreTimesKept (map times_from inputs) (map times_from inputs) i (times_from item) refl within (subst AreTimesKept same c.in_ok-push_from.ensures.kept) c.loop-from.invariant.1,

@@ -47,5 +47,6 @@ pub returns : goal.returns
 returns g c = λ x h.
     let count = c.args.count in
     let last : c.loop-number.number ≡ count = omega (arith, c.loop-number-test.false, c.loop-number.auto.number-end) in
-    gathered_last c.args.net.now x (g.W.Sink.state c.args.out.now) (g.W.Sink.state c.loop-number.out) (g.W.Sink.state c.write_all.new.out) c.loop-number.block c.loop-number.filled count c.write_all.result
+    gathered_last c.args.net.now x (g.W.Sink.state c.args.out.now) (g.W.Sink.state c.loop-number.out)
+    (g.W.Sink.state c.write_all.new.out) c.loop-number.block c.loop-number.filled count c.write_all.result
     (rw last at (c.loop-number.invariant.gathered x h)) c.write_all.ensures

@@ -35,7 +35,11 @@ returns-clause-runs g c =
     (three_added _ _ _ _ _ _ _ c.new-monitors.ensures.items c.in_ok-keep.ensures c.in_ok-keep-2.ensures c.in_ok-keep-3.ensures)
     (read_made own.own-1 _ own.at-1-1 refl (List ℕ) (λ j m. j.1.line_text m f) c.into_dyn_box.result.vtable c.into_dyn_box.result.value c.in_ok-new.field-0.value c.into_dyn_box.ensures.1
     ∙ ap (λ m. (own.own-1.entry own.at-1-1).1.line_text m f) c.in_ok-new.ensures.ok ∙ c.new.ensures f)
-    (read_made own.own-1 _ own.at-1-2 refl (List ℕ) (λ j m. j.1.line_text m f) c.into_dyn_box-in_ok-new-2.result.vtable c.into_dyn_box-in_ok-new-2.result.value c.in_ok-new-2.field-0.value c.into_dyn_box-in_ok-new-2.ensures.1
+    (read_made own.own-1 _ own.at-1-2 refl (List ℕ)
+    (λ j m. j.1.line_text m f) c.into_dyn_box-in_ok-new-2.result.vtable c.into_dyn_box-in_ok-new-2.result.value
+    c.in_ok-new-2.field-0.value c.into_dyn_box-in_ok-new-2.ensures.1
     ∙ ap (λ m. (own.own-1.entry own.at-1-2).1.line_text m f) c.in_ok-new-2.ensures.ok ∙ c.new-3.ensures f)
-    (read_made own.own-1 _ own.at-1-3 refl (List ℕ) (λ j m. j.1.line_text m f) c.into_dyn_box-in_ok-new-3.result.vtable c.into_dyn_box-in_ok-new-3.result.value c.in_ok-new-3.field-0.value c.into_dyn_box-in_ok-new-3.ensures.1
+    (read_made own.own-1 _ own.at-1-3 refl (List ℕ)
+    (λ j m. j.1.line_text m f) c.into_dyn_box-in_ok-new-3.result.vtable c.into_dyn_box-in_ok-new-3.result.value
+    c.in_ok-new-3.field-0.value c.into_dyn_box-in_ok-new-3.ensures.1
     ∙ ap (λ m. (own.own-1.entry own.at-1-3).1.line_text m f) c.in_ok-new-3.ensures.ok ∙ c.new-5.ensures f)) c.workbench.ensures

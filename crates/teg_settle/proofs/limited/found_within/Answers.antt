@@ -4,8 +4,11 @@ use Rattle.teg_settle.proofs.limited.found_within.Goals as goal
 
 pub returns-then-found-from-clause-too_long : goal.returns-then-found-from-clause-too_long
 returns-then-found-from-clause-too_long c =
-    let found = rw c.in-Some.is at c.in_ok-found.ensures in
-    (refl, past_seen c.args.net.now c.args.releases.now c.args.most c.args.limit c.in-Some.found.rows c.in-Some.found.form c.requires.ready found.seen (omega (arith, c.if-found-from.true, c.from-in-Some.ensures)))
+    let found = rw c.in-Some.is at c.in_ok-found.ensures in (
+      refl,
+      past_seen c.args.net.now c.args.releases.now c.args.most c.args.limit c.in-Some.found.rows c.in-Some.found.form
+          c.requires.ready found.seen (omega (arith, c.if-found-from.true, c.from-in-Some.ensures)),
+    )
 
 pub returns-in-None-clause-too_long : goal.returns-in-None-clause-too_long
 returns-in-None-clause-too_long c =

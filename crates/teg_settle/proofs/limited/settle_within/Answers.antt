@@ -19,7 +19,8 @@ returns-clause-too_long c =
     let r = c.in_ok-releases.releases in
     let own = c.in_ok-releases.ensures in
     let limit = c.args.limit in
-    IfErr-weaker c.within.result (IsRightSettleRefusal (LeastSettlesPast net r limit) limit) (IsRightSettleRefusal (NetSettlesPast net limit) limit) (own_refusal net r own.tokens own.waits limit) c.within.ensures.too_long
+    IfErr-weaker c.within.result (IsRightSettleRefusal (LeastSettlesPast net r limit) limit)
+    (IsRightSettleRefusal (NetSettlesPast net limit) limit) (own_refusal net r own.tokens own.waits limit) c.within.ensures.too_long
 
 pub returns-clause-slopes : goal.returns-clause-slopes
 returns-clause-slopes c =

@@ -18,7 +18,9 @@ returns-in-Some-date-clause-value c =
     let at : slice_get net.inputs c.args.list ≡ Some l = got net.inputs c.args.list l read.3.0 read.3.1 in
     let is : Some c.in-Some-date.date ≡ list_date l.dates l.again c.args.number = sym c.in-Some-date.is ∙ c.date.ensures.value in
     let rules : IsInputOf net l = subst (IsInputOf net) (sym (read.3.1 l)) (c.inputs.ensures.rules.each_input c.args.list l read.3.0) in
-    let most : c.in-Some-date.date ≤ greatest_input_date * (c.args.number + 1) = subst (λ o. IfSome o (λ d. d ≤ greatest_input_date * (c.args.number + 1))) (sym is) (list_date-most l.dates l.again c.args.number rules.dates_in rules.again) in
+    let most : c.in-Some-date.date ≤ greatest_input_date * (c.args.number + 1) =
+    subst (λ o. IfSome o (λ d. d ≤ greatest_input_date * (c.args.number + 1))) (sym is)
+    (list_date-most l.dates l.again c.args.number rules.dates_in rules.again) in
     let fits : At _ ≡ At (pos c.in-Some-date.date) = ap At (omega (arith, ints, most, c.requires.last)) in
     fits ∙ (ap as_date is ∙ sym (ap (λ o. as_date (date_by_list o c.args.number)) at))
 

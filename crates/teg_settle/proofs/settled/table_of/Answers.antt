@@ -10,6 +10,7 @@ loop-index-preserved c =
     record {
       count = grind (arith, common_steps);
       rows = λ t l. rw c.in_ok-push.ensures.items
-          (mapped_more (λ r. r.items) (λ i dates. AreShownDates c.args.rows.now i c.args.count dates) [] c.loop-index.table.items c.in_ok-dates_of.field-0 (λ i m. inv.rows i (omega (arith, inv.count)))
+          (mapped_more (λ r. r.items) (λ i dates. AreShownDates c.args.rows.now i c.args.count dates) [] c.loop-index.table.items
+          c.in_ok-dates_of.field-0 (λ i m. inv.rows i (omega (arith, inv.count)))
           (rw inv.count c.in_ok-dates_of.ensures) t (omega (arith, inv.count)));
     }

@@ -19,5 +19,6 @@ returns c =
     record {
       form = shown_by net r own most.result h c.args.rows.now c.seen.result c.seen.ensures;
       none = none_shown net r own most.result h c.args.rows.now c.seen.result most.ensures.few c.seen.ensures;
-      enough = enough_show net r own most.result h c.least_datings_repeat.ensures (ranking_is_live net c.args._live.now c.requires.stands) c.args.rows.now c.seen.result most.ensures.few c.seen.ensures;
+      enough = enough_show net r own most.result h c.least_datings_repeat.ensures
+          (ranking_is_live net c.args._live.now c.requires.stands) c.args.rows.now c.seen.result most.ensures.few c.seen.ensures;
     }

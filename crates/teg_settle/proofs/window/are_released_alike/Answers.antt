@@ -22,5 +22,6 @@ pub loop-index-preserved : goal.loop-index-preserved
 loop-index-preserved c =
     let fits : FitsSigned w128 c.step_in-step.result = search rules in
     let alike = simp to_z-of_z at (c.is_released_alike.ensures.0 c.if-not-is_released_alike.false) in
-    below_more (λ t. GoesOnBy (release_by c.args.releases.now.waits.items c.args.net.now t) c.args.after c.args.period (read_step c.args.rows.now c.args.period t)) c.loop-index.index c.loop-index.invariant
+    below_more (λ t. GoesOnBy (release_by c.args.releases.now.waits.items c.args.net.now t) c.args.after c.args.period
+    (read_step c.args.rows.now c.args.period t)) c.loop-index.index c.loop-index.invariant
     (rw c.step_in-step.ensures at alike)

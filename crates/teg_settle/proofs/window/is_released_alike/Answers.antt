@@ -11,7 +11,8 @@ returns-then-not-is_step c = (
   λ e. absurd (false≢true e),
   λ all.
       let fits = c.ranges.step in
-      let moved : c.date-late.result ≡ move c.args.step c.date-early.result = c.date-late.ensures.value ∙ (all c.loop-number.number c.loop-number-test.true ∙ ap (move c.args.step) (sym c.date-early.ensures.value)) in
+      let moved : c.date-late.result ≡ move c.args.step c.date-early.result = c.date-late.ensures.value
+      ∙ (all c.loop-number.number c.loop-number-test.true ∙ ap (move c.args.step) (sym c.date-early.ensures.value)) in
       sym c.if-not-is_step.true ∙ c.is_step.ensures.1 (simp to_z-of_z moved),
 )
 
@@ -37,7 +38,8 @@ returns c =
     let fits = c.ranges.step in
     let over = c.loop-number-test.false in
     let going : GoOn u c.span-span.result.after c.span-span.result.period span.gap = record { at_least_one = span.some; again = span.again } in (
-      λ e. goes_on_again u c.span-span.result.after c.span-span.result.period span.gap c.args.after c.max.result c.args.period c.args.step going (omega (arith, c.max.ensures)) (omega (arith, c.max.ensures))
+      λ e. goes_on_again u c.span-span.result.after c.span-span.result.period span.gap c.args.after c.max.result c.args.period
+          c.args.step going (omega (arith, c.max.ensures)) (omega (arith, c.max.ensures))
           (λ k l m. simp to_z-of_z at (c.loop-number.invariant.alike k (omega arith) m)),
       λ h. refl,
     )

@@ -6,7 +6,9 @@ use Rattle.teg_sizing.proofs.rounds.fresh.Goals as goal
 
 pub loop-cell-preserved : goal.loop-cell-preserved
 loop-cell-preserved c =
-    rw c.in_ok-push.ensures.items (fresh_more c.args.before.now c.loop-cell.cells.items c.loop-cell.cell-index (get_or c.args.before.now c.loop-cell.cell-index no_cell) c.loop-cell.invariant c.loop-cell-test.true (sym (get_or_default c.args.before.now c.loop-cell.cell-index (get_or c.args.before.now c.loop-cell.cell-index no_cell) no_cell c.loop-cell-test.true)))
+    rw c.in_ok-push.ensures.items (fresh_more c.args.before.now c.loop-cell.cells.items c.loop-cell.cell-index
+    (get_or c.args.before.now c.loop-cell.cell-index no_cell) c.loop-cell.invariant c.loop-cell-test.true
+    (sym (get_or_default c.args.before.now c.loop-cell.cell-index (get_or c.args.before.now c.loop-cell.cell-index no_cell) no_cell c.loop-cell-test.true)))
 
 pub returns : goal.returns
 returns c =

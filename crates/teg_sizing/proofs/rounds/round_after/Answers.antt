@@ -22,13 +22,15 @@ loop-index-preserved c =
           let fits : FitsSigned w128 w.in-Some.offered = search rules in
           let is = to_z-of_z w128 w.in-Some.offered fits in
           rw (w.after-is, is)
-          (taken_place net c.args.target c.args.except c.args.before.now c.loop-index.after.items k c.place-item.result w.in-Some.offered w.index.result.now ok c.requires.count c.loop-index.invariant l place
+          (taken_place net c.args.target c.args.except c.args.before.now c.loop-index.after.items k c.place-item.result
+          w.in-Some.offered w.index.result.now ok c.requires.count c.loop-index.invariant l place
           w.in-Some.ensures.some w.index.ensures (rw is at (w.is_more.ensures.more w.if-is_more.true)))
       | in-Some+else-is_more w ↦
           let fits : FitsSigned w128 w.in-Some.offered = search rules in
           let is = to_z-of_z w128 w.in-Some.offered fits in
           rw w.after-is
-          (kept_place net c.args.target c.args.except c.args.before.now c.loop-index.after.items k c.place-item.result w.in-Some.offered w.index.result.now ok c.requires.count c.loop-index.invariant l place
+          (kept_place net c.args.target c.args.except c.args.before.now c.loop-index.after.items k c.place-item.result w.in-Some.offered
+          w.index.result.now ok c.requires.count c.loop-index.invariant l place
           w.in-Some.ensures.some w.index.ensures (rw is at (w.is_more.ensures.no_more w.if-is_more.false)))
       | in_default w ↦
           rw w.after-is (no_place_taken net c.args.target c.args.except c.args.before.now c.loop-index.after.items k c.place-item.result c.loop-index.invariant place w.in_default.ensures.none)
@@ -37,5 +39,6 @@ loop-index-preserved c =
 pub returns-clause-after : goal.returns-clause-after
 returns-clause-after c =
     let net = c.args.net.now in
-    let end : c.loop-index.index ≡ length net.places = (let all = ap (λ (z : List Place). length z) c.places-place-items.ensures.value in omega (arith, c.loop-index-test.false, c.loop-index.auto.index-end)) in
+    let end : c.loop-index.index ≡ length net.places =
+    (let all = ap (λ (z : List Place). length z) c.places-place-items.ensures.value in omega (arith, c.loop-index-test.false, c.loop-index.auto.index-end)) in
     rw c.new.ensures (subst (λ (z : ℕ). IsRoundUpTo net c.args.target c.args.except c.args.before.now z c.loop-index.after.items) end c.loop-index.invariant)

@@ -27,7 +27,9 @@ round_after-requires-clause-small c =
     let long = h.1 in
     let rounds = c.loop-number.rounds.items in
     let few : (length rounds - 1) * greatest_reduced_time ≤ 1000 * greatest_reduced_time = omega (arith, c.loop-number-test.true, c.requires.count) in
-    rw (c.last_cells.ensures, c.deref.ensures.value) (within_more ((length rounds - 1) * greatest_reduced_time) (1000 * greatest_reduced_time) (last_round rounds) few (h.0.within (length rounds - 1) (omega arith)))
+    rw (c.last_cells.ensures, c.deref.ensures.value)
+    (within_more ((length rounds - 1) * greatest_reduced_time) (1000 * greatest_reduced_time) (last_round rounds) few
+    (h.0.within (length rounds - 1) (omega arith)))
 
 pub loop-number-preserved : goal.loop-number-preserved
 loop-number-preserved c =
@@ -57,7 +59,8 @@ returns-then-is_last-clause-all c =
     let here = rw (c.last_cells.ensures, c.deref.ensures.value) at c.in_ok-after.ensures.after in
     let better : NoneIsBetter after = none_by c.better_at.result (rw c.cells.ensures at c.better_at.ensures.none) (search rules) in
     rw c.in_ok-push-2.ensures.items
-    (stopped c.args.net.now c.args.target c.args.except c.args.first c.loop-number.rounds.items after c.args.count c.in_ok-after.ensures.rules c.requires.target h.0 (omega (arith, c.loop-number-test.true, long)) here better)
+    (stopped c.args.net.now c.args.target c.args.except c.args.first c.loop-number.rounds.items after c.args.count
+    c.in_ok-after.ensures.rules c.requires.target h.0 (omega (arith, c.loop-number-test.true, long)) here better)
 
 pub returns-clause-all : goal.returns-clause-all
 returns-clause-all c =

@@ -9,11 +9,15 @@ returns-in-Some c =
     let net = c.args.net.now in
     let r = c.args.target.now in
     let p = c.args.place in
-    never_apart net r p c.in-Some.places.items c.lowest_first.result.places.items (subst (λ o. IfSome o (λ own. IsAboveApart net r p own.items)) c.in-Some.is c.in_ok-apart.ensures.some) c.lowest_first.ensures
+    never_apart net r p c.in-Some.places.items c.lowest_first.result.places.items
+    (subst (λ o. IfSome o (λ own. IsAboveApart net r p own.items)) c.in-Some.is c.in_ok-apart.ensures.some) c.lowest_first.ensures
 
 pub returns-in-None : goal.returns-in-None
 returns-in-None c =
     let net = c.args.net.now in
     let r = c.args.target.now in
-    let p = c.args.place in
-    (refl, enough_alone net r p (subst (λ o. IfNone o (NoneIsAbove net r p)) c.in_default.is c.in_ok-apart.ensures.none) (subst (λ o. IfNone o (NonePasses net p)) c.in-None.is c.in_ok-best.ensures.none))
+    let p = c.args.place in (
+      refl,
+      enough_alone net r p (subst (λ o. IfNone o (NoneIsAbove net r p)) c.in_default.is c.in_ok-apart.ensures.none)
+          (subst (λ o. IfNone o (NonePasses net p)) c.in-None.is c.in_ok-best.ensures.none),
+    )

@@ -24,7 +24,9 @@ pub returns-then-time-eq0 : goal.returns-then-time-eq0
 returns-then-time-eq0 c =
     let v = c.args.best.value in
     let fits : FitsSigned w128 v = search rules in
-    never_by c.args.net.now c.args.target c.args.place v c.args.best.places.items c.lowest_first-circuit.result.places.items c.requires.apart c.requires.best c.lowest_first-circuit.ensures (high_if v _ (to_z-of_z w128 v fits) c.if-best-le0.false) (sym c.time.ensures.value ∙ c.if-time-eq0.true)
+    never_by c.args.net.now c.args.target c.args.place v c.args.best.places.items c.lowest_first-circuit.result.places.items
+    c.requires.apart c.requires.best c.lowest_first-circuit.ensures (high_if v _ (to_z-of_z w128 v fits) c.if-best-le0.false)
+    (sym c.time.ensures.value ∙ c.if-time-eq0.true)
 
 pub returns : goal.returns
 returns c =
@@ -43,8 +45,10 @@ returns c =
     let up = quotient_up m a some one in
     let high : v ≤ℤ pos (a * extra) = subst (λ (z : ℤ). z ≤ℤ pos (a * extra)) (sym number.1) (omega (arith, ints)) in
     let back : extra - 1 ≡ (m - 1) / a = omega arith in
-    let low : v ≤ℤ pos (a * (extra - 1)) → ⊥ = λ l. quotient_low m a some one (down m (a * ((m - 1) / a)) (subst (λ (z : ℕ). pos m ≤ℤ pos (a * z)) back (subst (λ (z : ℤ). z ≤ℤ pos (a * (extra - 1))) number.1 l))) in
+    let low : v ≤ℤ pos (a * (extra - 1)) → ⊥ = λ l. quotient_low m a some one
+    (down m (a * ((m - 1) / a)) (subst (λ (z : ℕ). pos m ≤ℤ pos (a * z)) back (subst (λ (z : ℤ). z ≤ℤ pos (a * (extra - 1))) number.1 l))) in
     rw (abs, c.time-2.ensures.value)
-    (fewest_by net c.args.target c.args.place v c.args.best.places.items c.lowest_first-circuit.result.places.items extra c.requires.apart c.requires.best c.lowest_first-circuit.ensures (omega arith) high low) where
+    (fewest_by net c.args.target c.args.place v c.args.best.places.items c.lowest_first-circuit.result.places.items extra
+    c.requires.apart c.requires.best c.lowest_first-circuit.ensures (omega arith) high low) where
       down : (x y : ℕ) → pos x ≤ℤ pos y → x ≤ y
       down x y l = omega (arith, ints)

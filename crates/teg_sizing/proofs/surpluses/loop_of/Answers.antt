@@ -9,7 +9,8 @@ use Rattle.teg_sizing.proofs.Looping.{IsLongPath, long_path, above_found}
 use Rattle.teg_sizing.proofs.surpluses.loop_of.Goals as goal
 
 -- the path that is traced
-long_of : (net : NetLists) (r : Fraction) (p : PlaceId) (rounds : List (List ValueCell)) (ok : IsNet net) (h : AreRoundsApart net r p rounds) (t : ℕ) (path : List PlaceId) → IsToldMore (last_round rounds) t → path ≡ trace_of net rounds (length rounds) t
+long_of : (net : NetLists) (r : Fraction) (p : PlaceId) (rounds : List (List ValueCell)) (ok : IsNet net)
+    (h : AreRoundsApart net r p rounds) (t : ℕ) (path : List PlaceId) → IsToldMore (last_round rounds) t → path ≡ trace_of net rounds (length rounds) t
     → IsLongPath net r p h.first h.told.all ok h.starts h.told.are h.told.long path t
 long_of net r p rounds ok h t path better is =
     let far = long_path net r p h.first h.told.all ok h.starts h.told.are h.told.long t (subst (λ (z : List ValueCell). IsToldMore z t) h.told.last better) in
@@ -28,12 +29,14 @@ trace-requires-clause-end c =
 
 pub first_loop-requires-clause-path : goal.first_loop-requires-clause-path
 first_loop-requires-clause-path c =
-    let w = long_of c.args.net.now c.args.target c.args.place c.args.all.now c.requires.rules c.requires.apart c.args.end c.deref.result.now c.requires.better (c.deref.ensures.value ∙ c.in_ok-path.ensures) in
+    let w = long_of c.args.net.now c.args.target c.args.place c.args.all.now c.requires.rules c.requires.apart c.args.end
+    c.deref.result.now c.requires.better (c.deref.ensures.value ∙ c.in_ok-path.ensures) in
     (w.from, c.args.end, w.path)
 
 pub first_loop-requires-clause-long : goal.first_loop-requires-clause-long
 first_loop-requires-clause-long c =
-    let w = long_of c.args.net.now c.args.target c.args.place c.args.all.now c.requires.rules c.requires.apart c.args.end c.deref.result.now c.requires.better (c.deref.ensures.value ∙ c.in_ok-path.ensures) in
+    let w = long_of c.args.net.now c.args.target c.args.place c.args.all.now c.requires.rules c.requires.apart c.args.end
+    c.deref.result.now c.requires.better (c.deref.ensures.value ∙ c.in_ok-path.ensures) in
     let size = w.size in
     omega arith
 

@@ -8,10 +8,12 @@ use Rattle.teg_sizing.specs.TracedPaths.{AreOfNet}
 use Rattle.teg_sizing.proofs.Traces.{read_round}
 use Rattle.teg_sizing.proofs.tracing.place_by.Goals as goal
 
-told : (rounds : List (List ValueCell)) (k t : ℕ) (read cells : List ValueCell) → k < length rounds → read ≡ get_or rounds k read → cells ≡ read → (get_or cells t no_cell).by ≡ by_at (round_at rounds k) t
+told : (rounds : List (List ValueCell)) (k t : ℕ) (read cells : List ValueCell) → k < length rounds → read ≡ get_or rounds k read
+    → cells ≡ read → (get_or cells t no_cell).by ≡ by_at (round_at rounds k) t
 told rounds k t read cells l is same = ap (λ (z : List ValueCell). by_at z t) (read_round rounds k read cells l is same)
 
-in_net : (net : NetLists) (rounds : List (List ValueCell)) → AreOfNet net rounds → (k t : ℕ) → k < length rounds → (o : Option PlaceId) → o ≡ by_at (round_at rounds k) t → IfSome o (λ id. id.index < length net.places)
+in_net : (net : NetLists) (rounds : List (List ValueCell)) → AreOfNet net rounds → (k t : ℕ) → k < length rounds → (o : Option PlaceId)
+    → o ≡ by_at (round_at rounds k) t → IfSome o (λ id. id.index < length net.places)
 in_net net rounds h k t l None e = tt
 in_net net rounds h k t l (Some id) e = h.places k t id l (sym e)
 

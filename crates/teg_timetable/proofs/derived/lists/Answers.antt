@@ -7,4 +7,7 @@ use Rattle.teg_timetable.proofs.derived.lists.Goals as goal
 pub loop-index-preserved : goal.loop-index-preserved
 loop-index-preserved c =
     rw c.in_ok-push.ensures.items
-    (built_more (IsDerivedList c.args.period c.args.table.now (length c.args.net.now.transitions)) c.loop-index.index c.loop-index.lists.items c.in_ok-made.made c.loop-index.invariant (subst (λ (ts : List Transition). IsDerivedList c.args.period c.args.table.now (length ts) c.loop-index.index c.in_ok-made.made) c.transitions-count.ensures.value c.in_ok-made.ensures))
+    (built_more (IsDerivedList c.args.period c.args.table.now
+    (length c.args.net.now.transitions)) c.loop-index.index c.loop-index.lists.items c.in_ok-made.made c.loop-index.invariant
+    (subst (λ (ts : List Transition). IsDerivedList c.args.period c.args.table.now
+    (length ts) c.loop-index.index c.in_ok-made.made) c.transitions-count.ensures.value c.in_ok-made.ensures))

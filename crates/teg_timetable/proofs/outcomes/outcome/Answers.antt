@@ -24,7 +24,8 @@ returns-then-most-eq0 c =
     let s = c.args.left.now in
     let tops = c.in_ok-tops.tops.items in
     let built = subst (λ (n : ℕ). AreBuilt (IsTop s) n tops) c.requires.width c.in_ok-tops.ensures in
-    let high = most_is tops c.deref.result.now c.highest-start.result c.index-most.result.now c.deref.ensures.value c.highest-start.ensures.in_range c.index-most.ensures c.highest-start.ensures.greatest in
+    let high = most_is tops c.deref.result.now c.highest-start.result c.index-most.result.now c.deref.ensures.value
+    c.highest-start.ensures.in_range c.index-most.ensures c.highest-start.ensures.greatest in
     recovered c.args.net.now c.args.period c.args.table.now s c.requires.settled tops built (subst (λ (m : ℕ). All (λ t. t ≤ m) tops) c.if-most-eq0.true high) c.last_late.result
     (λ i k l a b. c.last_late.ensures.none i k (omega (arith, l, c.requires.width)) a b)
     (last_as (length s.firsts) (length c.args.net.now.transitions) (delay_left s) c.last_late.result c.requires.width c.last_late.ensures.last)
@@ -41,7 +42,8 @@ circuit_back-requires-clause-back c =
     let t = c.args.table.now in
     let feed = subst (λ (ts : List ℕ). AreFeeders net c.args.period t ts most (length net.places) c.in_ok-feeders.feeders.items) c.deref-2.ensures.value c.in_ok-feeders.ensures in
     rw (c.deref-3.ensures.value, c.deref-4.ensures.value)
-    (feeders_go_back c.args.net.now c.requires.rules c.requires.live c.args.period c.requires.some c.args.table.now c.requires.workable s c.requires.settled tops most late built high c.in_ok-feeders.feeders.items feed)
+    (feeders_go_back c.args.net.now c.requires.rules c.requires.live c.args.period c.requires.some c.args.table.now c.requires.workable
+    s c.requires.settled tops most late built high c.in_ok-feeders.feeders.items feed)
 
 pub returns : goal.returns
 returns c =

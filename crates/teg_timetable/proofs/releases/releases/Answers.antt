@@ -23,7 +23,8 @@ plan_small period index low few =
     let b : period * most_releases ≤ greatest_period * most_releases = mul-le-mul_right most_releases low in
     omega arith
 
-own_is : (period : ℕ) (t : Timetable) (i index first by : ℕ) → first ≡ first_planned t i → by ≡ delay_given t i (index + 1) → first + period * index + by ≡ planned period t i (index + 1) + delay_given t i (index + 1)
+own_is : (period : ℕ) (t : Timetable) (i index first by : ℕ) → first ≡ first_planned t i → by ≡ delay_given t i (index + 1)
+    → first + period * index + by ≡ planned period t i (index + 1) + delay_given t i (index + 1)
 own_is period t i index first by is given =
     let n : index + 1 - 1 ≡ index = omega arith in
     let product : period * (index + 1 - 1) ≡ period * index = ap (λ (z : ℕ). period * z) n in
@@ -33,7 +34,8 @@ pub overflow_add-date-in-loop-index : goal.overflow_add-date-in-loop-index
 overflow_add-date-in-loop-index c =
     let ds = c.args.table.now.delays.items in
     let k = c.loop-index.index in
-    let by = by_given ds c.args.transition k c.args.count c.unwrap_or-by.result c.in_ok-given.given.items c.index.result.now c.in_ok-given.ensures c.loop-index-test.true c.index.ensures c.unwrap_or-by.ensures in
+    let by = by_given ds c.args.transition k c.args.count c.unwrap_or-by.result c.in_ok-given.given.items c.index.result.now
+    c.in_ok-given.ensures c.loop-index-test.true c.index.ensures c.unwrap_or-by.ensures in
     let small = given_small ds c.args.transition (k + 1) c.requires.small in
     let first = get_or_read c.args.table.now.firsts.items c.args.transition c.index-first.result.now c.requires.transition c.index-first.ensures 0 in
     let few = c.requires.few in

@@ -9,4 +9,7 @@ pub invariant_of-result : goal.invariant_of-result
 invariant_of-result c = subst (λ (z : List Date). IsSeries (form_with z 1 (pos 0))) (sym c.in-Ok.ensures) (constant_series c.args.date c.requires)
 
 pub returns-in-Ok : goal.returns-in-Ok
-returns-in-Ok c = (ap (λ (z : List Date). form_with z 1 (pos 0)) c.in-Ok.ensures, subst (λ (z : List Date). IsSeries (form_with z 1 (pos 0))) (sym c.in-Ok.ensures) (constant_series c.args.date c.requires))
+returns-in-Ok c = (
+  ap (λ (z : List Date). form_with z 1 (pos 0)) c.in-Ok.ensures,
+  subst (λ (z : List Date). IsSeries (form_with z 1 (pos 0))) (sym c.in-Ok.ensures) (constant_series c.args.date c.requires),
+)

@@ -11,7 +11,8 @@ pub invariant_of-result : goal.invariant_of-result
 invariant_of-result c =
     let items : c.in_ok-values.values.items ≡ c.self.inside.values.items = c.in_ok-values.ensures ∙ c.as_slice.ensures.value in
     subst (λ (z : List Date). IsSeries (form_with z c.self.inside.period (to_z w128 (of_z w128 c.self.inside.step)))) (sym items)
-    (subst (λ (z : ℤ). IsSeries (form_with c.self.inside.values.items c.self.inside.period z)) (sym (to_z-of_z w128 c.self.inside.step (small_fits c.self.inside.step c.self.invariant.small.step))) c.self.invariant)
+    (subst (λ (z : ℤ). IsSeries (form_with c.self.inside.values.items c.self.inside.period z))
+    (sym (to_z-of_z w128 c.self.inside.step (small_fits c.self.inside.step c.self.invariant.small.step))) c.self.invariant)
 
 pub returns-clause-value : goal.returns-clause-value
 returns-clause-value c =

@@ -4,5 +4,6 @@ use Rattle.series_ops.proofs.Refusing.{gain_refused}
 use Rattle.series_ops.proofs.gains.GainResiduated.meet.Goals as goal
 
 pub returns-in-Err-clause-answer : goal.returns-in-Err-clause-answer
-returns-in-Err-clause-answer c = gain_refused (need_of (least_plan c.args.self.now.series c.args.other.now.series)) (form_least c.args.self.now.series c.args.other.now.series) (gain_meet c.args.self.now c.args.other.now)
+returns-in-Err-clause-answer c = gain_refused (need_of (least_plan c.args.self.now.series c.args.other.now.series))
+    (form_least c.args.self.now.series c.args.other.now.series) (gain_meet c.args.self.now c.args.other.now)
     c.in-Err.why c.refused.result c.in-Err.ensures.model c.refused.ensures

@@ -10,7 +10,8 @@ pub next_row-requires-clause-bounded : goal.next_row-requires-clause-bounded
 next_row-requires-clause-bounded c =
     let net = c.args.net.now in
     rw c.number-number.ensures.value
-    (bounds_stay (system_of net (listed_releases net)) (c.self.inside.last.number + 1) (net_keeps_bounds net c.requires.stands.rules) (omega (arith, c.requires.few, ap (λ a. a.last.number) c.self.view_is)))
+    (bounds_stay (system_of net (listed_releases net)) (c.self.inside.last.number + 1) (net_keeps_bounds net c.requires.stands.rules)
+    (omega (arith, c.requires.few, ap (λ a. a.last.number) c.self.view_is)))
 
 pub returns-clause-stands : goal.returns-clause-stands
 returns-clause-stands c =

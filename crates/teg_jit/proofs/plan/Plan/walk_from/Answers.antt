@@ -9,7 +9,8 @@ use Rattle.teg_jit.proofs.plan.Plan.walk_from.Goals as goal
 use Rattle.teg_jit.proofs.plan.Plan.walk_from.Goals.{in-By, in-Next}
 
 pub loop-step-init : goal.loop-step-init
-loop-step-init c = rw c.new-steps.ensures.items (walk_begins c.args.net.now c.args.self.now c.args.transition.index c.args.number c.requires.transition c.requires.number c.requires.last c.requires.bounded)
+loop-step-init c = rw c.new-steps.ensures.items (walk_begins c.args.net.now c.args.self.now c.args.transition.index c.args.number
+    c.requires.transition c.requires.number c.requires.last c.requires.bounded)
 
 pub overflow_add-count : goal.overflow_add-count
 overflow_add-count c =
@@ -19,9 +20,11 @@ overflow_add-count c =
     let h = c.loop-step.invariant in
     let step : IsFirstStep (latest_at plan c.loop-step.at.index c.loop-step.count) (Some (by_place c.in-By.id)) = rw (c.in-Some.is, c.in-By.is) at c.step.ensures.step in
     let here = step_by (latest_at plan c.loop-step.at.index c.loop-step.count) c.in-By.id step in
-    let on = place_step net plan s.0 c.args.transition.index c.args.number c.loop-step.steps.items c.loop-step.at.index c.loop-step.count c.places-places.ensures.rules c.step.ensures.limits s.1 h here.0 c.in-By.id here.1 in
+    let on = place_step net plan s.0 c.args.transition.index c.args.number c.loop-step.steps.items c.loop-step.at.index
+    c.loop-step.count c.places-places.ensures.rules c.step.ensures.limits s.1 h here.0 c.in-By.id here.1 in
     let range = place_in net plan s.0 c.loop-step.at.index c.loop-step.count here.0 c.in-By.id s.1 h.at_in h.from_one here.1 in
-    let item : c.index-places-id.result ≡ place_at net c.in-By.id = read_place net c.places-places.result.now c.in-By.id.index c.index-places-id.result c.places-places.ensures.value range c.index-places-id.is in
+    let item : c.index-places-id.result ≡ place_at net c.in-By.id =
+    read_place net c.places-places.result.now c.in-By.id.index c.index-places-id.result c.places-places.ensures.value range c.index-places-id.is in
     rw item (omega (arith, on.walked.to_last, c.step.ensures.limits.numbers_in))
 
 pub overflow_add-count-in-Next : goal.overflow_add-count-in-Next
@@ -43,7 +46,8 @@ loop-step-smaller c =
           let here = step_by (latest_at plan at count) w.in-By.id step in
           let on = place_step net plan s.0 c.args.transition.index c.args.number c.loop-step.steps.items at count ok limits s.1 h here.0 w.in-By.id here.1 in
           let range = place_in net plan s.0 at count here.0 w.in-By.id s.1 h.at_in h.from_one here.1 in
-          let item : w.index-places-id.result ≡ place_at net w.in-By.id = read_place net c.places-places.result.now w.in-By.id.index w.index-places-id.result c.places-places.ensures.value range w.index-places-id.is in
+          let item : w.index-places-id.result ≡ place_at net w.in-By.id =
+          read_place net c.places-places.result.now w.in-By.id.index w.index-places-id.result c.places-places.ensures.value range w.index-places-id.is in
           rw (w.count-is, item) on.smaller
       | in-Next w ↦
           let step : IsFirstStep (latest_at plan at count) (Some to_next) = rw (c.in-Some.is, w.in-Next.is) at c.step.ensures.step in
@@ -68,7 +72,8 @@ loop-step-preserved c =
           let here = step_by (latest_at plan at count) w.in-By.id step in
           let on = place_step net plan s.0 c.args.transition.index c.args.number c.loop-step.steps.items at count ok limits s.1 h here.0 w.in-By.id here.1 in
           let range = place_in net plan s.0 at count here.0 w.in-By.id s.1 h.at_in h.from_one here.1 in
-          let item : w.index-places-id.result ≡ place_at net w.in-By.id = read_place net c.places-places.result.now w.in-By.id.index w.index-places-id.result c.places-places.ensures.value range w.index-places-id.is in
+          let item : w.index-places-id.result ≡ place_at net w.in-By.id =
+          read_place net c.places-places.result.now w.in-By.id.index w.index-places-id.result c.places-places.ensures.value range w.index-places-id.is in
           rw (c.in_ok-push.ensures.items, w.in-By.is, w.count-is, item) on.walked
       | in-Next w ↦
           let step : IsFirstStep (latest_at plan at count) (Some to_next) = rw (c.in-Some.is, w.in-Next.is) at c.step.ensures.step in
@@ -80,7 +85,9 @@ loop-step-preserved c =
 pub returns : goal.returns
 returns c = record {
   tight = λ due for.
-      walk_is_tight c.args.net.now c.args.self.now due c.args.transition.index c.args.number c.loop-step.at.index c.loop-step.count (record { start = c.args.transition; number = c.args.number; steps = c.loop-step.steps })
+      walk_is_tight c.args.net.now c.args.self.now due c.args.transition.index c.args.number c.loop-step.at.index c.loop-step.count
+      (record { start = c.args.transition; number = c.args.number; steps = c.loop-step.steps })
       c.places-places.ensures.rules c.step.ensures.limits for c.loop-step.invariant c.requires.transition c.requires.number c.in_default.ensures.step refl refl;
-  follows = follows_to_end c.args.net.now c.args.self.now c.args.transition.index c.args.number c.loop-step.steps.items c.loop-step.at.index c.loop-step.count c.loop-step.invariant c.in_default.ensures.step;
+  follows = follows_to_end c.args.net.now c.args.self.now c.args.transition.index c.args.number c.loop-step.steps.items
+      c.loop-step.at.index c.loop-step.count c.loop-step.invariant c.in_default.ensures.step;
 }

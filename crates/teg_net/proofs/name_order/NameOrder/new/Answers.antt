@@ -23,7 +23,8 @@ loop-index-preserved c =
     let items = c.transitions-transition-items.ensures.value in
     let lt : c.loop-index.index < length ts = rw (sym items) (search rules) in
     let named : c.as_bytes-name.result.now ≡ (get_or ts c.loop-index.index c.transition-item.result).name =
-    c.as_bytes-name.ensures.value ∙ c.as_str.ensures.text ∙ ap (λ (t : Transition). t.name) (c.transition-item.is ∙ ap (λ (xs : List Transition). get_or xs c.loop-index.index c.transition-item.result) items) in
+    c.as_bytes-name.ensures.value ∙ c.as_str.ensures.text
+    ∙ ap (λ (t : Transition). t.name) (c.transition-item.is ∙ ap (λ (xs : List Transition). get_or xs c.loop-index.index c.transition-item.result) items) in
     has_more ts c.loop-index.index c.transition-item.result c.loop-index.ids c.insert.new.self c.as_bytes-name.result.now _ lt c.loop-index.invariant named refl
     (on_ok c.insert.result _ (sym c.is_err.ensures.value ∙ c.if-is_err.false) c.insert.ensures.updates)
 
