@@ -55,11 +55,3 @@ rules_hold ts ps ls few each apart = record {
   one_list = apart.2;
   each_input = λ i d l. input_along ts [] ps [] ls (get_or ls i d) (each.3 i d l);
 }
-
-pub entries_of : (ts : List Transition) (ps : List Place) (ls : List InputList) → IsNet (lists_of ts ps ls) → AreEntries ts ps ls
-entries_of ts ps ls ok = (
-  ok.transition_names,
-  ok.place_names,
-  λ i d l. place_along ts ps [] ls [] (get_or ps i d) (ok.each_place i d l),
-  λ i d l. input_along ts ps [] ls [] (get_or ls i d) (ok.each_input i d l),
-)

@@ -1,14 +1,17 @@
 pub mod Limits
 pub mod Names
 pub mod Nets
+pub mod NetFaults
 pub mod Circuits
 pub mod Paths
 pub mod ReadyDates
 pub mod Inputs
 pub mod Walks
 pub mod NameOrders
+pub mod NameTables
 pub mod Ratios
 pub mod Parts
+pub mod PlaceLists
 pub mod ReducedTimes
 pub mod GreatestRatios
 pub mod PartAnswers

@@ -6,7 +6,7 @@ ghost use Rattle.teg_net.specs.Paths.{IsLowestAt};
 use crate::entries::PlaceId;
 use crate::net::Net;
 
-/// A circuit of the net's own places, as the numbers of its places in order.
+/// A circuit of the net's own places (chapter 2), as the numbers of its places in order.
 /// A reported circuit begins with the place that leaves its lowest numbered transition.
 #[derive(Debug, Drop)]
 pub struct Circuit {
@@ -32,7 +32,7 @@ fn lowest_position(net: &Net, places: &[PlaceId]) -> usize
 
 impl Circuit {
     /// Turns the circuit so that it begins with the place that leaves its lowest numbered
-    /// transition. It takes no memory.
+    /// transition. It takes no memory, and as many steps as it has places.
     pub fn begin_lowest(&mut self, net: &Net)
         requires { IsCircuit net.now self.old.places.items }
         ensures turned { IsTurned self.old.places.items self.new.places.items }

@@ -84,7 +84,8 @@ fn inputs_copy(alloc: Global, inputs: &[InputList]) -> Result<Vec<InputList>, Al
 }
 
 impl Net {
-    /// The same net once more. `OutOfMemory` comes only where no memory is found.
+    /// The same net once more, names and lists copied. `OutOfMemory` comes only where no memory is
+    /// found.
     pub fn copy(&self, alloc: Global) -> Result<Net, OutOfMemory>
         ensures { IfOk result (λ net. net ≡ self.now) }
     {

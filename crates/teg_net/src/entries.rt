@@ -5,7 +5,7 @@ use crate::names::Name;
 use std::alloc::{AllocError, Global};
 use std::marker::Model;
 
-/// What a transition is to the outside.
+/// What a transition is to the outside (chapter 2).
 #[derive(Clone, Copy, Debug, PartialEq, Eq)]
 pub enum Role {
     /// It fires as soon as its places allow.
@@ -16,7 +16,7 @@ pub enum Role {
     Output,
 }
 
-/// The number of a transition, counted from 0 in the order of the file.
+/// The number of a transition, counted from 0 in the order of the net's list.
 #[derive(Clone, Copy, Debug, PartialEq, Eq, PartialOrd, Ord, Hash)]
 pub struct TransitionId {
     pub index: u32,
@@ -38,7 +38,7 @@ impl TransitionId {
     }
 }
 
-/// The number of a place, counted from 0 in the order of the file.
+/// The number of a place, counted from 0 in the order of the net's list.
 #[derive(Clone, Copy, Debug, PartialEq, Eq, PartialOrd, Ord, Hash)]
 pub struct PlaceId {
     pub index: u32,
@@ -88,11 +88,12 @@ pub struct Place {
 pub struct Again {
     /// 1 to 1,000, and at most the length of the list.
     pub every: u32,
-    /// 0 to 10^12.
+    /// In the user's unit: 0 to 10^12.
     pub gap: u64,
 }
 
-/// Dates in order of firing number. Contracts see the list; it costs no memory beside it.
+/// Dates in the user's unit, in order of firing number. Contracts see the list; it costs no memory
+/// beside it.
 #[derive(Debug, Drop)]
 pub struct DateList {
     dates: Vec<u64>,
@@ -115,14 +116,14 @@ impl DateList {
         Ok(DateList { dates })
     }
 
-    /// The dates as a list. It takes no memory.
+    /// The dates, in the user's unit, as a list. It takes no memory.
     pub fn new(dates: Vec<u64>) -> DateList
         ensures { result ≡ dates.items }
     {
         DateList { dates }
     }
 
-    /// The dates. It takes no memory.
+    /// The dates, in the user's unit. It takes no memory.
     pub fn as_slice(&self) -> &[u64]
         ensures { result.now ≡ self.now }
     {
@@ -135,7 +136,8 @@ impl DateList {
 #[derive(Debug, Drop)]
 pub struct InputList {
     pub transition: TransitionId,
-    /// At most 100,000 dates, each 0 to 10^12, which never fall.
+    /// At most 100,000 dates in the user's unit, each 0 to 10^12, which never fall.
     pub dates: DateList,
+    /// How the list goes on; none where it ends.
     pub again: Option<Again>,
 }

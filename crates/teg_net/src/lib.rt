@@ -4,9 +4,12 @@
 //! A [`Net`] is seen by contracts as its three lists (`NetLists`), which keep the rules of `IsNet`.
 //! What speaks of dates of firings stands in crates above it. The crate stands on `number_laws` for
 //! divisors and fractions in lowest terms.
-//! Its examples stand in `library_examples`.
+//! Its examples stand in `library_examples`, in `made_nets.rt` and `held_nets.rt`.
 //!
-//! The checkers (`is_path`, `is_circuit`, `is_walk`) are true exactly by their definitions. What
+//! [`Net::checked`] makes a net of lists that a program made, or tells the first rule that they
+//! break and where ([`NetFault`]). [`Names`] finds transitions and places by name, [`PlacesOf`] the
+//! places that leave or enter a transition; both are made once and borrow nothing. The checkers
+//! (`is_net`, `is_path`, `is_circuit`, `is_walk`) are true exactly by their definitions. What
 //! answers on parts and cycle times mean stands here too.
 #![tactic(auto)]
 
@@ -16,15 +19,18 @@ mod changes;
 mod circuits;
 mod copies;
 mod entries;
+mod faults;
 mod inputs;
 mod labels;
 mod limits;
 mod lookups;
 mod memory;
 mod name_order;
+mod name_tables;
 mod names;
 mod net;
 mod paths;
+mod places_of;
 mod ratios;
 mod ready;
 mod rounds;
@@ -36,13 +42,16 @@ pub use bounded::{FiringNumber, UpTo};
 pub use changes::{holds_keep_circuits, holds_keep_live_nets, holds_keep_places};
 pub use circuits::Circuit;
 pub use entries::{Again, DateList, InputList, Place, PlaceId, Role, Transition, TransitionId};
+pub use faults::{InputFault, NetFault, PlaceFault};
 pub use labels::Label;
 pub use limits::{GREATEST_FIRING_NUMBER, GREATEST_HOLD, GREATEST_INPUT_DATE};
 pub use memory::OutOfMemory;
 pub use name_order::NameOrder;
+pub use name_tables::Names;
 pub use names::{Name, NameRefused};
 pub use net::Net;
 pub use paths::{is_circuit, is_path, time_of, tokens_of};
+pub use places_of::{PlaceEnd, PlacesOf};
 pub use ratios::Ratio;
 pub use rounds::{Choice, Round};
 pub use rules::is_net;

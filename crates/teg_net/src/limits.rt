@@ -3,7 +3,8 @@
 /// The greatest holding time of a place, in the user's unit.
 pub const GREATEST_HOLD: u64 = 1_000_000_000;
 
-/// The greatest input date, gap by which a list goes on, and ready date of a token.
+/// The greatest input date, gap by which a list goes on, and ready date of a token, in the user's
+/// unit.
 pub const GREATEST_INPUT_DATE: u64 = 1_000_000_000_000;
 
 /// The greatest firing number that is asked or walked to.

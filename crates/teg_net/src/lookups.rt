@@ -7,7 +7,8 @@ use crate::entries::{Place, PlaceId, Role, Transition, TransitionId};
 use crate::net::Net;
 
 impl Net {
-    /// The transition of this name; none exactly where no transition has it. It takes no memory.
+    /// The transition of this name; none exactly where no transition has it. It takes no memory, and
+    /// a step a transition; [`crate::Names`] and [`crate::NameOrder`] find faster.
     pub fn find(&self, name: &str) -> Option<TransitionId>
         ensures none { (result ≡ None) ↔ All (λ t. t.name ≢ name.now) self.now.transitions }
         ensures found { IfSome result (λ id. IsSomeAnd (slice_get self.now.transitions id.index)
@@ -23,7 +24,8 @@ impl Net {
         None
     }
 
-    /// The place of this name; none exactly where no place has it. It takes no memory.
+    /// The place of this name; none exactly where no place has it. It takes no memory, and a step a
+    /// place; [`crate::Names`] finds faster.
     pub fn find_place(&self, name: &str) -> Option<PlaceId>
         ensures none { (result ≡ None) ↔ All (λ p. p.name ≢ name.now) self.now.places }
         ensures found { IfSome result (λ id. IsSomeAnd (slice_get self.now.places id.index)
@@ -37,6 +39,22 @@ impl Net {
             }
         }
         None
+    }
+
+    /// How many transitions the net has, 1 to 400: their numbers are those below it. It takes no
+    /// memory.
+    pub fn transition_count(&self) -> u32
+        ensures { result ≡ length self.now.transitions }
+    {
+        self.transitions().len() as u32
+    }
+
+    /// How many places the net has, at most 4,000: their numbers are those below it. It takes no
+    /// memory.
+    pub fn place_count(&self) -> u32
+        ensures { result ≡ length self.now.places }
+    {
+        self.places().len() as u32
     }
 
     /// Whether the net has a transition of this number. It takes no memory.
@@ -69,7 +87,7 @@ impl Net {
         &self.places()[id.index()]
     }
 
-    /// Whether this is the number of an input transition of the net. It takes no memory.
+    /// Whether this is the number of an input transition of the net (chapter 2). It takes no memory.
     pub fn is_input(&self, id: TransitionId) -> bool
         ensures { IsTrue result ↔ IsInput self.now id.index }
     {

@@ -46,6 +46,16 @@ impl fmt::Display for NameRefused {
 
 impl Error for NameRefused {}
 
+impl fmt::Display for Name {
+    ghost use Rattle.std.specs.Prelude.{Some};
+
+    ghost output = { λ name. Some name };
+
+    fn fmt<W: fmt::Write>(&self, f: &mut fmt::Formatter<W>) -> fmt::Result {
+        f.write_str(self.text.as_str())
+    }
+}
+
 // Whether a name may have the byte.
 fn is_name_byte(byte: u8) -> bool
     ensures { result ≡ is_name_byte byte }
@@ -61,7 +71,7 @@ fn has_name_bytes(text: &str) -> bool
 }
 
 // Whether the text can be a name.
-pub(crate) fn is_name(text: &str) -> bool
+fn is_name(text: &str) -> bool
     ensures { result ≡ is_name text.now }
 {
     let size = text.len();

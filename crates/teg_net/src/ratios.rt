@@ -4,6 +4,7 @@ ghost use Rattle.std.specs.Int.{IsGcd};
 ghost use Rattle.teg_net.specs.Ratios.{IsLowestTerms, IsOrderOf, IsRatioOf};
 
 use std::cmp::Ordering;
+use std::fmt;
 use std::marker::Model;
 
 /// A ratio of holding time to tokens in lowest terms; the tokens are at least 1.
@@ -41,7 +42,8 @@ fn common_divisor(first: u64, second: u64) -> u64
 }
 
 impl Ratio {
-    /// The ratio of the time to the tokens. It takes no memory.
+    /// The ratio of the time, in the user's unit, to the tokens. It takes no memory, and as many steps
+    /// as the logarithm of the lesser.
     pub fn of(time: u64, tokens: u64) -> Ratio
         requires { 1 ≤ tokens }
         ensures ratio { IsRatioOf time tokens result }
@@ -55,7 +57,7 @@ impl Ratio {
         }
     }
 
-    /// The time over the tokens, in lowest terms. It takes no memory.
+    /// The time over the tokens, in the user's unit and in lowest terms. It takes no memory.
     pub fn time(&self) -> u64
         ensures value { result ≡ self.now.time }
         ensures terms { IsLowestTerms self.now }
@@ -71,12 +73,18 @@ impl Ratio {
         self.tokens
     }
 
-    /// Which ratio is the greater. It takes no memory.
+    /// Which ratio is the greater, by the exact products of whole numbers. It takes no memory.
     pub fn compare(&self, other: &Ratio) -> Ordering
         ensures { IsOrderOf result self.now other.now }
     {
         let left = u128::from(self.time) * u128::from(other.tokens);
         let right = u128::from(other.time) * u128::from(self.tokens);
         left.cmp(&right)
+    }
+}
+
+impl fmt::Display for Ratio {
+    fn fmt<W: fmt::Write>(&self, f: &mut fmt::Formatter<W>) -> fmt::Result {
+        write!(f, "{}/{}", self.time, self.tokens)
     }
 }

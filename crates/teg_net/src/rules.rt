@@ -1,16 +1,20 @@
-//! Whether lists keep the rules of a net, tested when the program runs.
-ghost use Rattle.std.specs.Prelude.{◌≡◌, ◌≢◌, ◌↔◌, ◌≤◌, ◌⊎◌, IsTrue, All, AllPairs, Any, IfSome, None, length};
+//! Whether lists keep the rules of a net, and which they break, tested when the program runs.
+ghost use Rattle.std.specs.Prelude.{◌≡◌, ◌≢◌, ◌↔◌, ◌<◌, ◌≤◌, ◌⊎◌, List, IsTrue, IsFalse, All, AllPairs, Any, IfSome, IfNone, IfOk, IfErr, IsOk, length};
 ghost use Rattle.std.specs.List.Sorted.{IsNonDecreasing};
+ghost use Rattle.teg_net.specs.declared.entries.InputList.{InputList};
+ghost use Rattle.teg_net.specs.declared.entries.Place.{Place};
+ghost use Rattle.teg_net.specs.declared.entries.Transition.{Transition};
 ghost use Rattle.teg_net.specs.Limits.{greatest_input_date, most_places, most_transitions};
 ghost use Rattle.teg_net.specs.Names.{is_name};
+ghost use Rattle.teg_net.specs.NetFaults.{AreNamedApart, ArePlacesApart, IsAgainFault, IsFirstBreach, IsFirstRepeat, IsInputFault, IsNetFault, IsOfNetSize, IsPlaceFault, StandsBetween};
 ghost use Rattle.teg_net.specs.Nets.{EndsOrGoesOn, IsInput, IsInputOf, IsNet, IsPlaceOf, ListGoesOn, lists_of, transitions_alone};
 
-use crate::entries::{Again, InputList, Place, Role, Transition, TransitionId};
+use crate::entries::{Again, InputList, Place, PlaceId, Role, Transition, TransitionId};
+use crate::faults::{InputFault, NetFault, PlaceFault};
 use crate::limits::{
     GREATEST_EVERY, GREATEST_HOLD, GREATEST_INPUT_DATE, MOST_INPUT_DATES, MOST_PLACE_TOKENS,
     MOST_PLACES, MOST_TRANSITIONS,
 };
-use crate::names::is_name;
 use crate::net::Net;
 
 // Whether the transition of this number is an input.
@@ -23,11 +27,12 @@ fn is_input_among(transitions: &[Transition], id: TransitionId) -> bool
     }
 }
 
-// Whether each date keeps the limit of dates.
-fn are_dates(dates: &[u64]) -> bool
-    ensures { IsTrue result ↔ All (λ d. d ≤ greatest_input_date) dates.now }
+// Whether some date is past the limit of dates.
+fn any_late(dates: &[u64]) -> bool
+    ensures yes { IsTrue result ↔ Any (λ d. greatest_input_date < d) dates.now }
+    ensures no { IsFalse result → All (λ d. d ≤ greatest_input_date) dates.now }
 {
-    dates.iter().all(|date| *date <= GREATEST_INPUT_DATE)
+    dates.iter().any(|date| GREATEST_INPUT_DATE < *date)
 }
 
 // Whether the place has no ready date, or one for each token.
@@ -38,17 +43,44 @@ fn are_all_ready(place: &Place) -> bool
     dates.is_empty() || dates.len() == place.tokens as usize
 }
 
-// Whether the place may stand in a net of these transitions.
-fn is_place_of(transitions: &[Transition], place: &Place) -> bool
-    ensures { IsTrue result ↔ IsPlaceOf (transitions_alone transitions.now) place.now }
+// The first rule of its ends that the place breaks.
+fn ends_fault(transitions: &[Transition], place: &Place) -> Option<PlaceFault>
+    ensures some { IfSome result (IsPlaceFault (transitions_alone transitions.now) place.now) }
+    ensures none { IfNone result (StandsBetween (transitions_alone transitions.now) place.now) }
 {
-    place.from.index() < transitions.len()
-        && place.to.index() < transitions.len()
-        && !is_input_among(transitions, place.to)
-        && place.hold <= GREATEST_HOLD
-        && place.tokens <= MOST_PLACE_TOKENS
-        && are_all_ready(place)
-        && are_dates(place.ready.as_slice())
+    if transitions.len() <= place.from.index() {
+        return Some(PlaceFault::UnknownFrom);
+    }
+    if transitions.len() <= place.to.index() {
+        return Some(PlaceFault::UnknownTo);
+    }
+    if is_input_among(transitions, place.to) {
+        return Some(PlaceFault::EntersInput);
+    }
+    None
+}
+
+// The first rule that the place breaks; none where it may stand in a net of these transitions.
+fn place_fault(transitions: &[Transition], place: &Place) -> Option<PlaceFault>
+    ensures some { IfSome result (IsPlaceFault (transitions_alone transitions.now) place.now) }
+    ensures none { IfNone result (IsPlaceOf (transitions_alone transitions.now) place.now) }
+{
+    if let Some(fault) = ends_fault(transitions, place) {
+        return Some(fault);
+    }
+    if GREATEST_HOLD < place.hold {
+        return Some(PlaceFault::LongHold);
+    }
+    if MOST_PLACE_TOKENS < place.tokens {
+        return Some(PlaceFault::ManyTokens);
+    }
+    if !are_all_ready(place) {
+        return Some(PlaceFault::ReadyCount);
+    }
+    if any_late(place.ready.as_slice()) {
+        return Some(PlaceFault::LateReady);
+    }
+    None
 }
 
 // Whether the dates never fall.
@@ -58,59 +90,51 @@ fn never_fall(dates: &[u64]) -> bool
     dates.is_sorted()
 }
 
-// Whether the list may go on so.
-fn goes_on(dates: &[u64], again: Again) -> bool
-    ensures { IsTrue result ↔ ListGoesOn dates.now again }
+// The first rule that the way breaks in which the list goes on.
+fn again_fault(dates: &[u64], again: Again) -> Option<InputFault>
+    ensures some { IfSome result (IsAgainFault dates.now again) }
+    ensures none { IfNone result (ListGoesOn dates.now again) }
 {
     let every = again.every as usize;
-    if every < 1
-        || GREATEST_EVERY < every
-        || GREATEST_INPUT_DATE < again.gap
-        || dates.len() < every
-    {
-        return false;
+    if every < 1 {
+        return Some(InputFault::EveryZero);
+    }
+    if GREATEST_EVERY < every {
+        return Some(InputFault::GreatEvery);
+    }
+    if GREATEST_INPUT_DATE < again.gap {
+        return Some(InputFault::GreatGap);
+    }
+    if dates.len() < every {
+        return Some(InputFault::FewDates);
     }
     let last = u128::from(dates[dates.len() - 1]);
-    let first = u128::from(dates[dates.len() - every]);
-    last <= first + u128::from(again.gap)
-}
-
-// Whether the list ends, or goes on as it may.
-fn ends_or_goes_on(dates: &[u64], again: Option<Again>) -> bool
-    ensures { IsTrue result ↔ EndsOrGoesOn dates.now again }
-{
-    match again {
-        Some(again) => goes_on(dates, again),
-        None => true,
+    let next = u128::from(dates[dates.len() - every]) + u128::from(again.gap);
+    if next < last {
+        return Some(InputFault::EarlyNext);
     }
+    None
 }
 
-// Whether the list may stand in a net of these transitions.
-fn is_input_of(transitions: &[Transition], list: &InputList) -> bool
-    ensures { IsTrue result ↔ IsInputOf (transitions_alone transitions.now) list.now }
+// The first rule that the list breaks; none where it may stand in a net of these transitions.
+fn input_fault(transitions: &[Transition], list: &InputList) -> Option<InputFault>
+    ensures some { IfSome result (IsInputFault (transitions_alone transitions.now) list.now) }
+    ensures none { IfNone result (IsInputOf (transitions_alone transitions.now) list.now) }
 {
     let dates = list.dates.as_slice();
-    is_input_among(transitions, list.transition)
-        && dates.len() <= MOST_INPUT_DATES
-        && are_dates(dates)
-        && never_fall(dates)
-        && ends_or_goes_on(dates, list.again)
-}
-
-// Whether each transition has a name, each place has one, and each may stand in a net of these
-// transitions, each input list too.
-fn are_entries(transitions: &[Transition], places: &[Place], inputs: &[InputList]) -> bool
-    ensures { IsTrue result ↔ (All (λ t. IsTrue (is_name t.name)) transitions.now
-        × All (λ p. IsTrue (is_name p.name)) places.now
-        × All (IsPlaceOf (transitions_alone transitions.now)) places.now
-        × All (IsInputOf (transitions_alone transitions.now)) inputs.now) }
-{
-    transitions
-        .iter()
-        .all(|transition| is_name(transition.name.as_str()))
-        && places.iter().all(|place| is_name(place.name.as_str()))
-        && places.iter().all(|place| is_place_of(transitions, place))
-        && inputs.iter().all(|list| is_input_of(transitions, list))
+    if !is_input_among(transitions, list.transition) {
+        return Some(InputFault::NoInput);
+    }
+    if MOST_INPUT_DATES < dates.len() {
+        return Some(InputFault::ManyDates);
+    }
+    if any_late(dates) {
+        return Some(InputFault::LateDate);
+    }
+    if !never_fall(dates) {
+        return Some(InputFault::FallingDates);
+    }
+    again_fault(dates, list.again?)
 }
 
 // Whether one of the transitions has the name.
@@ -136,90 +160,174 @@ fn any_list_of(inputs: &[InputList], id: TransitionId) -> bool
     inputs.iter().any(|list| list.transition.index == id.index)
 }
 
-// Whether no two transitions have one name.
-fn are_distinct_transitions(transitions: &[Transition]) -> bool
-    ensures { IsTrue result ↔ AllPairs (λ s t. s.name ≢ t.name) transitions.now }
+// The first transition that has the name of an earlier one.
+fn same_transition(transitions: &[Transition]) -> Option<TransitionId>
+    requires few { length transitions.now ≤ most_transitions }
+    ensures some { IfSome result (λ id. IsFirstRepeat (λ (t : Transition). t.name) transitions.now
+        id.index) }
+    ensures none { IfNone result (AreNamedApart transitions.now) }
 {
     for (index, transition) in transitions.iter().enumerate() {
-        if any_transition_named(&transitions[index + 1..], transition.name.as_str()) {
-            return false;
+        if any_transition_named(&transitions[..index], transition.name.as_str()) {
+            return Some(TransitionId::new(index as u32));
         }
     }
-    true
+    None
 }
 
-// Whether no two places have one name.
-fn are_distinct_places(places: &[Place]) -> bool
-    ensures { IsTrue result ↔ AllPairs (λ p q. p.name ≢ q.name) places.now }
+// The first place that has the name of an earlier one.
+fn same_place(places: &[Place]) -> Option<PlaceId>
+    requires few { length places.now ≤ most_places }
+    ensures some { IfSome result (λ id. IsFirstRepeat (λ (p : Place). p.name) places.now id.index) }
+    ensures none { IfNone result (ArePlacesApart places.now) }
 {
     for (index, place) in places.iter().enumerate() {
-        if any_place_named(&places[index + 1..], place.name.as_str()) {
-            return false;
+        if any_place_named(&places[..index], place.name.as_str()) {
+            return Some(PlaceId::new(index as u32));
         }
     }
-    true
+    None
 }
 
-// Whether no two lists are of one transition.
-fn are_distinct_lists(inputs: &[InputList]) -> bool
-    ensures { IsTrue result ↔ AllPairs (λ l m. l.transition.index ≢ m.transition.index) inputs.now }
+// The position of the first list of a transition that has an earlier list.
+fn same_input(inputs: &[InputList]) -> Option<usize>
+    ensures some { IfSome result (IsFirstRepeat (λ (l : InputList). l.transition.index) inputs.now) }
+    ensures none { IfNone result (AllPairs (λ l m. l.transition.index ≢ m.transition.index) inputs.now) }
 {
     for (index, list) in inputs.iter().enumerate() {
-        if any_list_of(&inputs[index + 1..], list.transition) {
-            return false;
+        if any_list_of(&inputs[..index], list.transition) {
+            return Some(index);
         }
     }
-    true
+    None
 }
 
-// Whether there is a transition, and there are no more transitions and places than a net has.
-fn are_few(transitions: &[Transition], places: &[Place]) -> bool
-    ensures { IsTrue result ↔ ((1 ≤ length transitions.now)
-        × (length transitions.now ≤ most_transitions) × (length places.now ≤ most_places)) }
+// The first place that may not stand in a net of these transitions, and the first rule that it
+// breaks.
+fn bad_place(transitions: &[Transition], places: &[Place]) -> Option<(PlaceId, PlaceFault)>
+    requires few { length places.now ≤ most_places }
+    ensures some { IfSome result (λ bad. IsFirstBreach (IsPlaceOf (transitions_alone transitions.now))
+        (λ p. IsPlaceFault (transitions_alone transitions.now) p bad.1) places.now bad.0.index) }
+    ensures none { IfNone result (All (IsPlaceOf (transitions_alone transitions.now)) places.now) }
 {
-    !transitions.is_empty() && transitions.len() <= MOST_TRANSITIONS && places.len() <= MOST_PLACES
+    for (index, place) in places.iter().enumerate() {
+        if let Some(fault) = place_fault(transitions, place) {
+            return Some((PlaceId::new(index as u32), fault));
+        }
+    }
+    None
 }
 
-// Whether no two transitions have one name, no two places, and no two lists are of one transition.
-fn are_distinct(transitions: &[Transition], places: &[Place], inputs: &[InputList]) -> bool
-    ensures { IsTrue result ↔ (AllPairs (λ s t. s.name ≢ t.name) transitions.now
-        × AllPairs (λ p q. p.name ≢ q.name) places.now
-        × AllPairs (λ l m. l.transition.index ≢ m.transition.index) inputs.now) }
+// The position of the first list that may not stand in a net of these transitions, and the first
+// rule that it breaks.
+fn bad_input(transitions: &[Transition], inputs: &[InputList]) -> Option<(usize, InputFault)>
+    ensures some { IfSome result (λ bad. IsFirstBreach (IsInputOf (transitions_alone transitions.now))
+        (λ l. IsInputFault (transitions_alone transitions.now) l bad.1) inputs.now bad.0) }
+    ensures none { IfNone result (All (IsInputOf (transitions_alone transitions.now)) inputs.now) }
 {
-    are_distinct_transitions(transitions)
-        && are_distinct_places(places)
-        && are_distinct_lists(inputs)
+    for (index, list) in inputs.iter().enumerate() {
+        if let Some(fault) = input_fault(transitions, list) {
+            return Some((index, fault));
+        }
+    }
+    None
 }
 
-/// Whether these lists keep the rules of a net, which [`Net`] tells. It takes no memory, and as many
-/// steps as the square of the number of places.
+// The first rule that the numbers of transitions and places break.
+fn size_fault(transitions: &[Transition], places: &[Place]) -> Option<NetFault>
+    ensures some { IfSome result (λ fault. (ls : List InputList) → IsNetFault (lists_of transitions.now
+        places.now ls) fault) }
+    ensures none { IfNone result ((ls : List InputList) → IsOfNetSize (lists_of transitions.now
+        places.now ls)) }
+{
+    if transitions.is_empty() {
+        return Some(NetFault::NoTransition);
+    }
+    if MOST_TRANSITIONS < transitions.len() {
+        return Some(NetFault::ManyTransitions);
+    }
+    if MOST_PLACES < places.len() {
+        return Some(NetFault::ManyPlaces);
+    }
+    None
+}
+
+// That each transition has a name, as its type says. It does nothing but read them.
+fn transitions_are_named(transitions: &[Transition])
+    ensures { All (λ t. IsTrue (is_name t.name)) transitions.now }
+{
+    for transition in transitions {
+        let _name = transition.name.as_str();
+    }
+}
+
+// That each place has a name, as its type says. It does nothing but read them.
+fn places_are_named(places: &[Place])
+    ensures { All (λ p. IsTrue (is_name p.name)) places.now }
+{
+    for place in places {
+        let _name = place.name.as_str();
+    }
+}
+
+// The first rule of nets that the lists break, and where; none where they keep all of them.
+fn net_fault(transitions: &[Transition], places: &[Place], inputs: &[InputList]) -> Option<NetFault>
+    ensures some { IfSome result (IsNetFault (lists_of transitions.now places.now inputs.now)) }
+    ensures none { IfNone result (IsNet (lists_of transitions.now places.now inputs.now)) }
+{
+    if let Some(fault) = size_fault(transitions, places) {
+        return Some(fault);
+    }
+    if let Some(id) = same_transition(transitions) {
+        return Some(NetFault::SameTransition(id));
+    }
+    if let Some(id) = same_place(places) {
+        return Some(NetFault::SamePlace(id));
+    }
+    if let Some((id, fault)) = bad_place(transitions, places) {
+        return Some(NetFault::BadPlace(id, fault));
+    }
+    if let Some(position) = same_input(inputs) {
+        return Some(NetFault::SameInput(position));
+    }
+    if let Some((position, fault)) = bad_input(transitions, inputs) {
+        return Some(NetFault::BadInput(position, fault));
+    }
+    transitions_are_named(transitions);
+    places_are_named(places);
+    None
+}
+
+/// Whether these lists keep the rules of a net, which [`Net`] tells (chapter 2). It takes no
+/// memory, and as many steps as the square of the number of places.
+#[tactic(auto, using(crate::proofs::NetFaultLaws::fault_breaks))]
 pub fn is_net(transitions: &[Transition], places: &[Place], inputs: &[InputList]) -> bool
     ensures { IsTrue result ↔ IsNet (lists_of transitions.now places.now inputs.now) }
 {
-    if !are_few(transitions, places) {
-        return false;
-    }
-    if !are_entries(transitions, places, inputs) {
-        return false;
-    }
-    are_distinct(transitions, places, inputs)
+    net_fault(transitions, places, inputs).is_none()
 }
 
 impl Net {
-    /// The net of these lists; none exactly where they break a rule of nets. It takes no memory.
+    /// The net of these lists, exactly where they keep the rules of nets (chapter 2).
+    ///
+    /// The refusal is the first rule that they break, in the order of [`NetFault`], at the first
+    /// entry that breaks it. It takes no memory, and as many steps as the square of the number of
+    /// places.
+    #[tactic(auto, using(crate::proofs::NetFaultLaws::fault_breaks))]
     pub fn checked(
         transitions: Vec<Transition>,
         places: Vec<Place>,
         inputs: Vec<InputList>,
-    ) -> Option<Net>
-        ensures none { (result ≡ None) ↔ (IsNet (lists_of transitions.items places.items inputs.items)
-            → ⊥) }
-        ensures net { IfSome result (λ net. net ≡ lists_of transitions.items places.items
+    ) -> Result<Net, NetFault>
+        ensures ok { IsOk result ↔ IsNet (lists_of transitions.items places.items inputs.items) }
+        ensures net { IfOk result (λ net. net ≡ lists_of transitions.items places.items
             inputs.items) }
+        ensures fault { IfErr result (IsNetFault (lists_of transitions.items places.items
+            inputs.items)) }
     {
-        if !is_net(&transitions, &places, &inputs) {
-            return None;
+        match net_fault(&transitions, &places, &inputs) {
+            None => Ok(Net::new(transitions, places, inputs)),
+            Some(fault) => Err(fault),
         }
-        Some(Net::new(transitions, places, inputs))
     }
 }
