@@ -1,5 +1,5 @@
 -- How faults of lists are looked for, and what a fault says against the rules of a net.
-use Rattle.std.proofs.Common.{ℕ, ◌+◌, ◌-◌, ◌<◌, ◌≤◌, ◌≡◌, ◌≢◌, ◌⊎◌, ◌∙◌, List, [], length, get_or, take, sym, ap, subst, refl, arith, ⊎_elim, Option, Some, None, true, false, inl, inr}
+use Rattle.std.proofs.Common.{ℕ, ◌+◌, ◌-◌, ◌<◌, ◌≤◌, ◌≡◌, ◌≢◌, ◌⊎◌, ◌∙◌, List, [], length, get_or, take, sym, ap, subst, arith, ⊎_elim, Option, Some, None, inl, inr}
 use Rattle.std.specs.Prelude.{All, AllPairs, Any, IsSomeAnd, slice_get}
 use Rattle.std.proofs.lemmas.List.{get_or_default, get_or-take, length-take, take_more}
 use Rattle.std.proofs.lemmas.List.Quantifiers.{all_pairs_push}

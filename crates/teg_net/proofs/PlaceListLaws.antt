@@ -10,7 +10,7 @@ use Rattle.teg_net.specs.declared.places_of.PlaceEnd.{PlaceEnd}
 use Rattle.teg_net.specs.declared.places_of.PlaceEnd.TheVariants.{From, To}
 use Rattle.teg_net.specs.Nets.{NetLists, IsPlaceOf}
 use Rattle.teg_net.specs.Circuits.{place_at}
-use Rattle.teg_net.specs.PlaceLists.{place_end, ListsPlacesAt, ArePlacesOf}
+use Rattle.teg_net.specs.PlaceLists.{place_end, ArePlacesOf}
 
 module _ (net : NetLists) (which : PlaceEnd) where
   -- the number of the transition at which the place has this end

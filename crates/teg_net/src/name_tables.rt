@@ -1,5 +1,5 @@
 //! The transitions and places of a net by name, as a table of its own that outlives the net.
-ghost use Rattle.std.specs.Prelude.{◌≡◌, ◌≢◌, ◌↔◌, List, ℕ, All, None, IfOk, IfSome, IsSomeAnd, slice_get};
+ghost use Rattle.std.specs.Prelude.{◌≡◌, ◌≢◌, ◌↔◌, All, None, IfOk, IfSome, IsSomeAnd, slice_get};
 ghost use Rattle.std.specs.BTreeMap.{get_by_text};
 ghost use Rattle.teg_net.specs.declared.entries.Place.{Place};
 ghost use Rattle.teg_net.specs.declared.entries.Transition.{Transition};

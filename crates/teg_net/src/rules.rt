@@ -7,7 +7,7 @@ ghost use Rattle.teg_net.specs.declared.entries.Transition.{Transition};
 ghost use Rattle.teg_net.specs.Limits.{greatest_input_date, most_places, most_transitions};
 ghost use Rattle.teg_net.specs.Names.{is_name};
 ghost use Rattle.teg_net.specs.NetFaults.{AreNamedApart, ArePlacesApart, IsAgainFault, IsFirstBreach, IsFirstRepeat, IsInputFault, IsNetFault, IsOfNetSize, IsPlaceFault, StandsBetween};
-ghost use Rattle.teg_net.specs.Nets.{EndsOrGoesOn, IsInput, IsInputOf, IsNet, IsPlaceOf, ListGoesOn, lists_of, transitions_alone};
+ghost use Rattle.teg_net.specs.Nets.{IsInput, IsInputOf, IsNet, IsPlaceOf, ListGoesOn, lists_of, transitions_alone};
 
 use crate::entries::{Again, InputList, Place, PlaceId, Role, Transition, TransitionId};
 use crate::faults::{InputFault, NetFault, PlaceFault};
