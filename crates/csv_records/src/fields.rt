@@ -19,7 +19,7 @@ pub struct ThreeFields<'r> {
     pub third: &'r [u8],
 }
 
-/// The two fields of a record; none exactly where it has another number of them.
+/// The two fields of a record; none exactly where it has another number of them. It takes no memory.
 pub fn two_fields<'r>(row: &'r ByteRecord) -> Option<TwoFields<'r>>
     ensures some { IfSome result (λ f. fields_of row.now ≡ f.first.now ∷ f.second.now ∷ []) }
     ensures none { IfNone result (length (fields_of row.now) ≢ 2) }
@@ -32,7 +32,8 @@ pub fn two_fields<'r>(row: &'r ByteRecord) -> Option<TwoFields<'r>>
     Some(TwoFields { first, second })
 }
 
-/// The three fields of a record; none exactly where it has another number of them.
+/// The three fields of a record; none exactly where it has another number of them. It takes no
+/// memory.
 pub fn three_fields<'r>(row: &'r ByteRecord) -> Option<ThreeFields<'r>>
     ensures some { IfSome result (λ f. fields_of row.now
         ≡ f.first.now ∷ f.second.now ∷ f.third.now ∷ []) }

@@ -11,7 +11,8 @@ fn has_only_digits(field: &[u8]) -> bool
     field.iter().all(|b| b.is_ascii_digit())
 }
 
-/// Whether the field is one decimal digit or more and nothing else. Leading zeros are allowed.
+/// Whether the field is one decimal digit or more and nothing else. Leading zeros are allowed. It
+/// takes no memory.
 pub fn is_number(field: &[u8]) -> bool
     ensures { result ≡ is_number field.now }
 {
@@ -32,7 +33,7 @@ fn held_at(field: &[u8], past: u64) -> u64
 }
 
 /// The number of a field of digits, of any length; none exactly where it exceeds `most`, which is
-/// at most 10^18.
+/// at most 10^18. It takes no memory.
 pub fn number_up_to(field: &[u8], most: u64) -> Option<u64>
     requires number { is_number field.now ≡ true }
     requires small { most ≤ greatest_field_number }

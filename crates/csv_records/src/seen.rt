@@ -34,7 +34,8 @@ impl Model for Seen {
 }
 
 impl Seen {
-    /// A table of `width` columns, in which nothing was seen.
+    /// A table of `width` columns, in which nothing was seen: 10,001 bytes a column. `OutOfMemory`
+    /// comes only where no memory is found.
     pub fn new(alloc: Global, width: usize) -> Result<Seen, OutOfMemory>
         requires { width ≤ most_columns }
         ensures width { IfOk result (λ s. s.width ≡ width) }
