@@ -1,3 +1,4 @@
+pub mod DueOnce
 pub mod DueRules
 pub mod NamedOnce
 pub use Rattle.csv_records.proofs.csv_proofs as csv_proofs

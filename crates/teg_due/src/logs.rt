@@ -11,7 +11,7 @@ use std::alloc::Global;
 use teg_net::{NameOrder, Net};
 
 // The greatest date of a recorded firing.
-const GREATEST_LOG_DATE: u64 = 1_000_000_000_000_000_000;
+pub(crate) const GREATEST_LOG_DATE: u64 = 1_000_000_000_000_000_000;
 
 // A log, which is read against a net.
 #[derive(Drop)]

@@ -12,8 +12,8 @@ pub fn transition_named(net: &Net, names: &NameOrder<'_>, name: &[u8]) -> Option
     ensures named { option_map (λ id. id.index) result ≡ number_named net.now name.now }
     ensures in_range { IfSome result (λ id. id.index < length net.now.transitions) }
 {
-    // (the rules of the net: its names are distinct)
-    net.transitions();
+    // (its names are distinct)
+    net.rules();
     names.find(name)
 }
 

@@ -11,7 +11,7 @@ there : (c : goal.After-find) → IfSome c.find.result (λ id. IsThere c.args.ne
 there c = some_as _ _ c.find.result (λ id h. found_there c.args.net.now.transitions c.args.name.now id.index h) (rw c.requires at c.find.ensures.found)
 
 pub returns-clause-named : goal.returns-clause-named
-returns-clause-named c = named_number c.args.net.now c.args.name.now c.find.result c.transitions.ensures.rules.distinct_transitions (there c) (rw c.requires at c.find.ensures.none).0
+returns-clause-named c = named_number c.args.net.now c.args.name.now c.find.result c.rules.ensures.distinct_transitions (there c) (rw c.requires at c.find.ensures.none).0
 
 pub returns-clause-in_range : goal.returns-clause-in_range
 returns-clause-in_range c = some_as _ _ c.find.result (λ id h. h.within) (there c)
