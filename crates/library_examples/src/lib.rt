@@ -3,7 +3,7 @@
 //! answers at once, the usage by the table of commands, words of texts, records of files, matrices
 //! of flags and of dates through the bounds, answers that were worked out by hand, a settled form
 //! by rows of one's own, the advice of a small crate on the library, nets that are held, changed
-//! and asked again, checkers of what answers show, and the chapters of docs/LIBRARY.md. The crate
+//! and asked again, nets that are made from lists, checkers of what answers show, and the chapters of docs/LIBRARY.md. The crate
 //! has tests alone: they show what no contract says, that memory is found, also at the limits. It
 //! stands on `teg_report`, `pace_example`, `teg_replay` and `series_ops`, and on what these stand
 //! on.
@@ -21,6 +21,8 @@ mod chapters_plans;
 mod chapters_series;
 #[cfg(test)]
 mod held_nets;
+#[cfg(test)]
+mod made_nets;
 #[cfg(test)]
 mod matrices;
 #[cfg(test)]
