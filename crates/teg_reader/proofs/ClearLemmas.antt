@@ -153,13 +153,13 @@ distinct top good =
 none_failing : (p : Field → Bool) (fields : List Field) → first_failing p fields ≡ None → list_all p fields ≡ true
 none_failing p [] h = refl
 none_failing p (f ∷ fields) h = step (p f) (first_failing p fields) (list_all p fields) h (none_failing p fields) where
-  step : (b : Bool) (rest : Option Key) (all : Bool) → (if b then rest else Some f.key) ≡ None → (rest ≡ None → all ≡ true) → (b && all) ≡ true
+  step : (b : Bool) (rest : Option Key) (all : Bool) → (if b then rest else Some f.0) ≡ None → (rest ≡ None → all ≡ true) → (b && all) ≡ true
   step true rest all h more = more h
   step false rest all h more = cc
 
-fields_in_range : (section : Section) (n : ℕ) (d : Data) → out_of_range (spot_at section n) d ≡ None → list_all (λ f. in_range section d f.key) (fields_of section) ≡ true
+fields_in_range : (section : Section) (n : ℕ) (d : Data) → out_of_range (spot_at section n) d ≡ None → list_all (λ f. in_range section d f.0) (fields_of section) ≡ true
 unfolding out_of_range
-fields_in_range section n d h = none_failing (λ f. in_range section d f.key) (fields_of section) (unmapped _ _ h)
+fields_in_range section n d h = none_failing (λ f. in_range section d f.0) (fields_of section) (unmapped _ _ h)
 
 -- the numbers of entries are those of a net
 pub record AreFew (top : Data) : Type 0 where

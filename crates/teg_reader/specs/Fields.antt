@@ -10,7 +10,7 @@ use Rattle.teg_reader.specs.declared.fields.Field.{Field}
 
 -- what may stand at one key
 abbrev field : Key → Kind → Bool → Field
-field key kind needed = record { key = key; kind = kind; needed = needed }
+field key kind needed = record { 0 = key; 1 = kind; 2 = needed }
 
 -- the keys of a section's tables in the second version, in the order in which they are looked at
 unfoldable pub fields_of : Section → List Field

@@ -14,7 +14,7 @@ use Rattle.teg_reader.specs.PassWalks.{Look}
 
 -- the field is not needed, or something stands at its key
 unfoldable pub has_needed : Data → Field → Bool
-has_needed d f = not f.needed || is_there f.key d
+has_needed d f = not f.2 || is_there f.0 d
 
 -- the one of `every` and `gap` that is absent where the other stands
 unfoldable pub lone_key : Data → Option Key

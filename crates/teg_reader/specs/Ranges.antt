@@ -47,4 +47,4 @@ in_range _ _ _ = true
 
 -- the first key whose value is out of its range
 unfoldable pub out_of_range : Look
-out_of_range spot d = option_map (λ k. refusal.OutOfRange spot k) (first_failing (λ f. in_range spot.section d f.key) (fields_of spot.section))
+out_of_range spot d = option_map (λ k. refusal.OutOfRange spot k) (first_failing (λ f. in_range spot.section d f.0) (fields_of spot.section))

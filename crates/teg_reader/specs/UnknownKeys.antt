@@ -15,7 +15,7 @@ use Rattle.teg_reader.specs.PassWalks.{Look}
 
 -- the text is the key of one of the fields
 unfoldable pub is_field : List Field → List ℕ → Bool
-is_field fields text = list_any (λ f. bytes_eq text (key_text f.key)) fields
+is_field fields text = list_any (λ f. bytes_eq text (key_text f.0)) fields
 
 -- byte by byte, the first text does not come after the second
 abbrev pub is_at_most : List ℕ → List ℕ → Bool

@@ -26,12 +26,12 @@ is_kind Tables d = is_array_of is_table d
 
 -- what stands at the field's key, if anything, is of the field's kind
 unfoldable pub has_kind : Data → Field → Bool
-has_kind d f = option_map_or (is_kind f.kind) (data_at f.key d) true
+has_kind d f = option_map_or (is_kind f.1) (data_at f.0 d) true
 
 -- the key of the first field that fails the test
 abbrev pub first_failing : (Field → Bool) → List Field → Option Key
 first_failing passes [] = None
-first_failing passes (f ∷ fields) = if passes f then first_failing passes fields else Some f.key
+first_failing passes (f ∷ fields) = if passes f then first_failing passes fields else Some f.0
 
 -- the first key at which another kind stands
 unfoldable pub wrong_kind : Look

@@ -18,11 +18,7 @@ pub(crate) enum Kind {
 
 // A key, what may stand there, and whether it must.
 #[derive(Clone, Copy)]
-pub(crate) struct Field {
-    pub(crate) key: Key,
-    pub(crate) kind: Kind,
-    pub(crate) needed: bool,
-}
+pub(crate) struct Field(pub(crate) Key, pub(crate) Kind, pub(crate) bool);
 
 // The keys of a section's tables in the second version, in the order in which they are looked at.
 #[tactic(auto, unfolding(crate::specs::Fields::fields_of))]
@@ -31,97 +27,29 @@ pub(crate) fn fields_of(section: Section) -> &'static [Field]
 {
     match section {
         Section::Top => &[
-            Field {
-                key: Key::Version,
-                kind: Kind::Integer,
-                needed: false,
-            },
-            Field {
-                key: Key::Transition,
-                kind: Kind::Tables,
-                needed: false,
-            },
-            Field {
-                key: Key::Place,
-                kind: Kind::Tables,
-                needed: false,
-            },
-            Field {
-                key: Key::Input,
-                kind: Kind::Tables,
-                needed: false,
-            },
+            Field(Key::Version, Kind::Integer, false),
+            Field(Key::Transition, Kind::Tables, false),
+            Field(Key::Place, Kind::Tables, false),
+            Field(Key::Input, Kind::Tables, false),
         ],
         Section::Transition => &[
-            Field {
-                key: Key::Name,
-                kind: Kind::Text,
-                needed: true,
-            },
-            Field {
-                key: Key::Role,
-                kind: Kind::Text,
-                needed: false,
-            },
-            Field {
-                key: Key::Duration,
-                kind: Kind::Integer,
-                needed: false,
-            },
+            Field(Key::Name, Kind::Text, true),
+            Field(Key::Role, Kind::Text, false),
+            Field(Key::Duration, Kind::Integer, false),
         ],
         Section::Place => &[
-            Field {
-                key: Key::Name,
-                kind: Kind::Text,
-                needed: true,
-            },
-            Field {
-                key: Key::From,
-                kind: Kind::Texts,
-                needed: true,
-            },
-            Field {
-                key: Key::To,
-                kind: Kind::Texts,
-                needed: true,
-            },
-            Field {
-                key: Key::Hold,
-                kind: Kind::Integer,
-                needed: false,
-            },
-            Field {
-                key: Key::Tokens,
-                kind: Kind::Integer,
-                needed: false,
-            },
-            Field {
-                key: Key::Ready,
-                kind: Kind::Integers,
-                needed: false,
-            },
+            Field(Key::Name, Kind::Text, true),
+            Field(Key::From, Kind::Texts, true),
+            Field(Key::To, Kind::Texts, true),
+            Field(Key::Hold, Kind::Integer, false),
+            Field(Key::Tokens, Kind::Integer, false),
+            Field(Key::Ready, Kind::Integers, false),
         ],
         Section::Input => &[
-            Field {
-                key: Key::Transition,
-                kind: Kind::Text,
-                needed: true,
-            },
-            Field {
-                key: Key::Dates,
-                kind: Kind::Integers,
-                needed: true,
-            },
-            Field {
-                key: Key::Every,
-                kind: Kind::Integer,
-                needed: false,
-            },
-            Field {
-                key: Key::Gap,
-                kind: Kind::Integer,
-                needed: false,
-            },
+            Field(Key::Transition, Kind::Text, true),
+            Field(Key::Dates, Kind::Integers, true),
+            Field(Key::Every, Kind::Integer, false),
+            Field(Key::Gap, Kind::Integer, false),
         ],
     }
 }
@@ -137,16 +65,8 @@ pub(crate) fn listed_fields(second: bool, section: Section) -> &'static [Field]
     }
     match section {
         Section::Transition => &[
-            Field {
-                key: Key::Name,
-                kind: Kind::Text,
-                needed: true,
-            },
-            Field {
-                key: Key::Role,
-                kind: Kind::Text,
-                needed: false,
-            },
+            Field(Key::Name, Kind::Text, true),
+            Field(Key::Role, Kind::Text, false),
         ],
         _ => fields_of(section),
     }

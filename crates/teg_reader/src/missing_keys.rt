@@ -17,7 +17,7 @@ use toml::Value;
 fn has_needed(entry: &Value, field: Field) -> bool
     ensures { result ≡ has_needed (view entry.now) field }
 {
-    !field.needed || is_there(entry, field.key)
+    !field.2 || is_there(entry, field.0)
 }
 
 // The key of the first field that is needed and absent.
@@ -26,7 +26,7 @@ fn absent_key(entry: &Value, fields: &[Field]) -> Option<Key>
 {
     for field in fields {
         if !has_needed(entry, *field) {
-            return Some(field.key);
+            return Some(field.0);
         }
     }
     None

@@ -108,11 +108,11 @@ fn in_range(section: Section, entry: &Value, key: Key) -> bool
 
 // The first key whose value is out of its range.
 fn excess_key(section: Section, entry: &Value, fields: &[Field]) -> Option<Key>
-    ensures { result ≡ first_failing (λ f. in_range section (view entry.now) f.key) fields.now }
+    ensures { result ≡ first_failing (λ f. in_range section (view entry.now) f.0) fields.now }
 {
     for field in fields {
-        if !in_range(section, entry, field.key) {
-            return Some(field.key);
+        if !in_range(section, entry, field.0) {
+            return Some(field.0);
         }
     }
     None

@@ -21,7 +21,7 @@ use toml::{Table, Value};
 fn is_field(text: &str, fields: &[Field]) -> bool
     ensures { result ≡ is_field fields.now text.now }
 {
-    fields.iter().any(|field| text == field.key.text())
+    fields.iter().any(|field| text == field.0.text())
 }
 
 // The first key of the table that is none of the fields.

@@ -80,8 +80,8 @@ fn is_kind(kind: Kind, value: &Value) -> bool
 fn has_kind(entry: &Value, field: Field) -> bool
     ensures { result ≡ has_kind (view entry.now) field }
 {
-    match value_at(entry, field.key) {
-        Some(value) => is_kind(field.kind, value),
+    match value_at(entry, field.0) {
+        Some(value) => is_kind(field.1, value),
         None => true,
     }
 }
@@ -92,7 +92,7 @@ fn wrong_key(entry: &Value, fields: &[Field]) -> Option<Key>
 {
     for field in fields {
         if !has_kind(entry, *field) {
-            return Some(field.key);
+            return Some(field.0);
         }
     }
     None

@@ -5,4 +5,4 @@ use Rattle.teg_reader.specs.Ranges.{in_range}
 use Rattle.teg_reader.proofs.ranges.excess_key.Given as goal
 
 abbrev pub invariant-loop-field : goal.invariant-loop-field
-invariant-loop-field l = first_failing (λ f. in_range l.section (view l.entry) f.key) (drop l.field-index l.fields) ≡ first_failing (λ f. in_range l.section (view l.entry) f.key) l.fields
+invariant-loop-field l = first_failing (λ f. in_range l.section (view l.entry) f.0) (drop l.field-index l.fields) ≡ first_failing (λ f. in_range l.section (view l.entry) f.0) l.fields
