@@ -19,7 +19,8 @@ pub struct ThreeFields<'r> {
     pub third: &'r [u8],
 }
 
-/// The two fields of a record; none exactly where it has another number of them. It takes no memory.
+/// The two fields of a record; none exactly where it has another number of them. It takes no
+/// memory.
 pub fn two_fields<'r>(row: &'r ByteRecord) -> Option<TwoFields<'r>>
     ensures some { IfSome result (λ f. fields_of row.now ≡ f.first.now ∷ f.second.now ∷ []) }
     ensures none { IfNone result (length (fields_of row.now) ≢ 2) }

@@ -7,7 +7,7 @@ use crate::entries::{Place, PlaceId, Role, Transition, TransitionId};
 use crate::net::Net;
 
 impl Net {
-    /// The transition of this name; none exactly where no transition has it. It takes no memory, and
+    /// The transition of this name; none exactly where no transition has it. It takes no memory and
     /// a step a transition; [`crate::Names`] and [`crate::NameOrder`] find faster.
     pub fn find(&self, name: &str) -> Option<TransitionId>
         ensures none { (result ≡ None) ↔ All (λ t. t.name ≢ name.now) self.now.transitions }
@@ -87,7 +87,8 @@ impl Net {
         &self.places()[id.index()]
     }
 
-    /// Whether this is the number of an input transition of the net (chapter 2). It takes no memory.
+    /// Whether this is the number of an input transition of the net (chapter 2). It takes no
+    /// memory.
     pub fn is_input(&self, id: TransitionId) -> bool
         ensures { IsTrue result ↔ IsInput self.now id.index }
     {

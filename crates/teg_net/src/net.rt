@@ -32,8 +32,8 @@ impl Net {
     ghost use Rattle.teg_net.specs.Limits.{greatest_hold};
     ghost use Rattle.teg_net.specs.Nets.{IsNet, lists_of};
 
-    /// The net of these lists, which keep the rules of a net; [`Net::checked`] tests whether they do.
-    /// It takes no memory.
+    /// The net of these lists, which keep the rules of a net; [`Net::checked`] tests whether they
+    /// do. It takes no memory.
     pub fn new(transitions: Vec<Transition>, places: Vec<Place>, inputs: Vec<InputList>) -> Net
         requires { IsNet (lists_of transitions.items places.items inputs.items) }
         ensures { result ≡ lists_of transitions.items places.items inputs.items }

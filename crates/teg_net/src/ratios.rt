@@ -42,8 +42,8 @@ fn common_divisor(first: u64, second: u64) -> u64
 }
 
 impl Ratio {
-    /// The ratio of the time, in the user's unit, to the tokens. It takes no memory, and as many steps
-    /// as the logarithm of the lesser.
+    /// The ratio of the time, in the user's unit, to the tokens. It takes no memory, and as many
+    /// steps as the logarithm of the lesser.
     pub fn of(time: u64, tokens: u64) -> Ratio
         requires { 1 ≤ tokens }
         ensures ratio { IsRatioOf time tokens result }

@@ -26,4 +26,5 @@ loop-index-preserved c =
 pub returns : goal.returns
 returns c =
     let xs = c.args.net.now.transitions in
-    subst (λ first. LooksUp (λ (x : Transition). x.name) xs first (λ name. get_by_text c.loop-index.ids name)) (take_all c.loop-index.index xs (rw (sym c.transitions-transition-items.ensures.value) c.loop-index-test.false)) c.loop-index.invariant
+    subst (λ first. LooksUp (λ (x : Transition). x.name) xs first (λ name. get_by_text c.loop-index.ids name))
+    (take_all c.loop-index.index xs (rw (sym c.transitions-transition-items.ensures.value) c.loop-index-test.false)) c.loop-index.invariant

@@ -6,14 +6,18 @@ use Rattle.teg_net.proofs.NameTableLaws.{told_none, told_found}
 use Rattle.teg_net.proofs.name_tables.Names.place.Goals as goal
 
 pub returns-in-None-clause-none : goal.returns-in-None-clause-none
-returns-in-None-clause-none c net are = told_none (λ (x : Place). x.name) (λ (id : PlaceId). id.index) net.places (λ name. get_by_text c.args.self.now.places name) c.args.name.now None are.places (rw c.in-None.is at c.get.ensures.value)
+returns-in-None-clause-none c net are =
+    told_none (λ (x : Place). x.name) (λ (id : PlaceId). id.index) net.places (λ name. get_by_text c.args.self.now.places name) c.args.name.now
+    None are.places (rw c.in-None.is at c.get.ensures.value)
 
 pub returns-in-Some-clause-none : goal.returns-in-Some-clause-none
 returns-in-Some-clause-none c net are =
-    told_none (λ (x : Place). x.name) (λ (id : PlaceId). id.index) net.places (λ name. get_by_text c.args.self.now.places name) c.args.name.now (Some (record { index = c.in-Some.index.now })) are.places
+    told_none (λ (x : Place). x.name) (λ (id : PlaceId). id.index) net.places (λ name. get_by_text c.args.self.now.places name) c.args.name.now
+    (Some (record { index = c.in-Some.index.now })) are.places
     (rw c.in-Some.is at c.get.ensures.value)
 
 pub returns-in-Some-clause-found : goal.returns-in-Some-clause-found
 returns-in-Some-clause-found c net are =
-    told_found (λ (x : Place). x.name) (λ (id : PlaceId). id.index) net.places (λ name. get_by_text c.args.self.now.places name) c.args.name.now (Some (record { index = c.in-Some.index.now })) are.places
+    told_found (λ (x : Place). x.name) (λ (id : PlaceId). id.index) net.places (λ name. get_by_text c.args.self.now.places name) c.args.name.now
+    (Some (record { index = c.in-Some.index.now })) are.places
     (rw c.in-Some.is at c.get.ensures.value)
