@@ -9,12 +9,12 @@ pub returns-then-any_same_firing : goal.returns-then-any_same_firing
 returns-then-any_same_firing c =
     let twice = c.any_same_firing.ensures.0 c.if-any_same_firing.true in (
       λ (e : false ≡ true). cc,
-      λ once. absurd (firing_twice c.args.rows.now c.loop-index.index c.index-rows-index.result c.loop-index-test.true c.index-rows-index.is twice once),
+      λ once. absurd (firing_twice c.args.rows.now c.loop-index.index c.loop-index-test.true twice once),
     )
 
 pub loop-index-preserved : goal.loop-index-preserved
 loop-index-preserved c =
-    other_firing c.args.rows.now c.loop-index.index c.index-rows-index.result c.loop-index-test.true c.index-rows-index.is
+    other_firing c.args.rows.now c.loop-index.index c.loop-index-test.true
     (λ any. not_both c.any_same_firing.result c.if-any_same_firing.false (c.any_same_firing.ensures.1 any)) c.loop-index.invariant
 
 pub returns : goal.returns
