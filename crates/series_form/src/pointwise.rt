@@ -17,7 +17,8 @@ use dioid::Date;
 use series_laws::{NeedPlan, Slopes};
 use std::alloc::{AllocError, Global};
 
-/// The greater of the two shifts from which the series repeat.
+/// The greater of the two shifts from which the series repeat. Takes no memory. For the operations
+/// of `series_ops`.
 pub fn common_start(first: &Series, second: &Series) -> usize
     ensures value { result ≡ later_start first.now second.now }
     ensures bound { result < 20000 }
@@ -58,7 +59,8 @@ fn shifts_behind(first: &Series, second: &Series) -> u128
 }
 
 /// From where the sum repeats: with equal slopes past both starts by the common period, else past
-/// the crossing by the period of the greater slope.
+/// the crossing by the period of the greater slope. Its need is `from + turn`, in shifts. Takes no
+/// memory, and time of the order of the two periods. For the operations of `series_ops`.
 pub fn plan_of_sum(first: &Series, second: &Series) -> NeedPlan
     ensures value { result ≡ sum_plan first.now second.now }
     ensures bound { result.from ≤ greatest_reach }
@@ -104,7 +106,7 @@ fn plan_of_least(first: &Series, second: &Series) -> NeedPlan
     }
 }
 
-/// The greater value at a shift.
+/// The greater value at a shift. Takes no memory. For the operations of `series_ops`.
 pub fn later_at(first: &Series, second: &Series, shift: usize) -> Date
     requires { shift ≤ 20000 }
     ensures { result ≡ sum_at (value_at first.now) (value_at second.now) shift }
@@ -120,7 +122,8 @@ fn earlier_at(first: &Series, second: &Series, shift: usize) -> Date
     first.at(shift as u64).earlier(second.at(shift as u64))
 }
 
-/// The first values of the sum.
+/// The first values of the sum, at the shifts 0, 1, .. Refuses for want of memory alone. For the
+/// operations of `series_ops`.
 pub fn sum_values(
     alloc: Global,
     first: &Series,
