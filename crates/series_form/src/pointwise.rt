@@ -163,7 +163,8 @@ fn least_values(
 /// with equal slopes the later start and the common period; with the first slope greater and both
 /// tails numbers the crossing and the first period; else the later start and the period of the
 /// greater slope. Where not, TooGreat exactly where a number of the result has a magnitude above
-/// 10^18. `OutOfMemory` comes only where no memory is found.
+/// 10^18. `OutOfMemory` comes only where no memory is found. It takes time of the order of the need
+/// and of the two periods.
 pub fn sum(alloc: Global, first: &Series, second: &Series) -> Result<Series, SeriesRefused>
     ensures answer { AnswersOf (λ r. HasValues r (sum_at (value_at first.now)
         (value_at second.now))) (need_of (sum_plan first.now second.now))
@@ -186,7 +187,8 @@ pub fn sum(alloc: Global, first: &Series, second: &Series) -> Result<Series, Ser
 
 /// The pointwise lesser of two series (chapter 5). TooLong exactly where its need exceeds 20,000:
 /// as for the sum, with the period of the lesser slope. Where not, TooGreat exactly where a number
-/// of the result has a magnitude above 10^18. `OutOfMemory` comes only where no memory is found.
+/// of the result has a magnitude above 10^18. `OutOfMemory` comes only where no memory is found. It
+/// takes time of the order of the need and of the two periods.
 pub fn least(alloc: Global, first: &Series, second: &Series) -> Result<Series, SeriesRefused>
     ensures answer { AnswersOf (λ r. HasValues r (least_at (value_at first.now)
         (value_at second.now))) (need_of (least_plan first.now second.now))
