@@ -4,7 +4,7 @@ ghost use Rattle.series_laws.specs.SeriesForms.{table, monomial_at};
 ghost use Rattle.series_form.specs.SeriesLimits.{greatest_value};
 
 use crate::shorten::{finish, shortest};
-use crate::values::{same_parts, value_of};
+use crate::values::{same_values, value_of};
 use dioid::Date;
 use std::alloc::{AllocError, Global};
 use std::marker::Model;
@@ -173,14 +173,22 @@ impl Series {
         ensures left { IsSeries self.now }
         ensures right { IsSeries other.now }
     {
-        same_parts(
-            self.values.as_slice(),
-            self.period,
-            self.step,
-            other.values.as_slice(),
-            other.period,
-            other.step,
-        )
+        self.has_form_of(other)
+    }
+
+    // Whether the two forms are the same.
+    fn has_form_of(&self, other: &Series) -> bool
+        ensures same { IsTrue result ↔ (self.now ≡ other.now) }
+        ensures left { IsSeries self.now }
+        ensures right { IsSeries other.now }
+    {
+        if self.period != other.period {
+            return false;
+        }
+        if self.step != other.step {
+            return false;
+        }
+        same_values(self.values.as_slice(), other.values.as_slice())
     }
 }
 

@@ -5,7 +5,9 @@
 //! on `series_laws` for the definitions and their laws, on `dioid` for dates, and on `thiserror`.
 //! Its examples stand in `series_examples`.
 //!
-//! A [`Series`] has at most 20,000 values, and numbers of a magnitude up to 10^18.
+//! A [`Series`] has at most 20,000 values, and numbers of a magnitude up to 10^18. Two of the free
+//! calls are for every user, [`sum`] and [`least`]; the others are for the operations of
+//! `series_ops`, and say so.
 #![tactic(auto)]
 
 mod forms;

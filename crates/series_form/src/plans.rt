@@ -41,7 +41,8 @@ fn common_multiple(first: usize, second: usize) -> usize
     turns_between(first, second) * first
 }
 
-/// The least common multiple of the two periods.
+/// The least common multiple of the two periods, in shifts. Takes no memory, and time of the order
+/// of the second period. For the operations of `series_ops`.
 pub fn common_period(first: &Series, second: &Series) -> usize
     ensures value { result ≡ period_with first.now second.now }
     ensures bound { result ≤ most_common_shifts }
@@ -52,7 +53,8 @@ pub fn common_period(first: &Series, second: &Series) -> usize
     common_multiple(first.period(), second.period())
 }
 
-/// The shift from which the list repeats.
+/// The shift from which the list repeats: its length less the period. Takes no memory. For the
+/// operations of `series_ops`.
 pub fn start(series: &Series) -> usize
     ensures value { result ≡ repeat_start series.now }
     ensures bound { result < 20000 }
@@ -61,7 +63,8 @@ pub fn start(series: &Series) -> usize
     series.values().len() - series.period()
 }
 
-/// The value at which the list begins to repeat.
+/// The value at which the list begins to repeat: a number, or what the series is from there on
+/// everywhere. Takes no memory. For the operations of `series_ops`.
 pub fn tail(series: &Series) -> Date
     ensures value { result ≡ tail_of series.now }
     ensures series { IsSeries series.now }
@@ -69,7 +72,8 @@ pub fn tail(series: &Series) -> Date
     series.at(start(series) as u64)
 }
 
-/// What a series gains over a number of its periods, given in shifts.
+/// What a series gains over a number of its periods, given in shifts: as many steps. Takes no
+/// memory. For the operations of `series_ops`.
 pub fn gain_over(series: &Series, shifts: usize) -> i128
     requires { shifts ≤ most_common_shifts }
     ensures value { result ≡ times (shifts / series.now.period) series.now.step }
@@ -93,7 +97,8 @@ fn sign_of(difference: i128) -> Slopes
     }
 }
 
-/// What the first series gains on the second over the common period.
+/// What the first series gains on the second over the common period, below 0 where it loses. Takes
+/// no memory, and time of the order of the second period. For the operations of `series_ops`.
 pub fn lead_gain(first: &Series, second: &Series) -> i128
     ensures value { result ≡ rise_of first.now second.now -ℤ fall_of first.now second.now }
     ensures bound { unsigned_abs result ≤ greatest_gain_gap }
@@ -105,7 +110,8 @@ pub fn lead_gain(first: &Series, second: &Series) -> i128
 }
 
 /// Which series has the greater slope. A tail of Never has a slope above every number, and the
-/// series that is Early everywhere one below every number.
+/// series that is Early everywhere one below every number. Takes no memory, and time of the order
+/// of the second period. For the operations of `series_ops`. (Chapter 5.)
 pub fn compare_slopes(first: &Series, second: &Series) -> Slopes
     ensures value { result ≡ slopes_of first.now second.now }
     ensures left { IsSeries first.now }
@@ -120,7 +126,8 @@ pub fn compare_slopes(first: &Series, second: &Series) -> Slopes
     }
 }
 
-/// The least number of gains that cover a lead, 0 for a lead below 0.
+/// The least number of gains, each above 0, that cover a lead; 0 for a lead below 0. Takes no
+/// memory. For the operations of `series_ops`.
 pub fn gains_for(lead: i128, gain: i128) -> u128
     requires gain { pos 0 <ℤ gain }
     requires lead_bound { unsigned_abs lead ≤ greatest_reach }

@@ -17,7 +17,8 @@ use dioid::Date;
 use series_laws::{NeedPlan, Slopes};
 use std::alloc::{AllocError, Global};
 
-/// The greater of the two shifts from which the series repeat.
+/// The greater of the two shifts from which the series repeat. Takes no memory. For the operations
+/// of `series_ops`.
 pub fn common_start(first: &Series, second: &Series) -> usize
     ensures value { result ≡ later_start first.now second.now }
     ensures bound { result < 20000 }
@@ -58,7 +59,8 @@ fn shifts_behind(first: &Series, second: &Series) -> u128
 }
 
 /// From where the sum repeats: with equal slopes past both starts by the common period, else past
-/// the crossing by the period of the greater slope.
+/// the crossing by the period of the greater slope. Its need is `from + turn`, in shifts. Takes no
+/// memory, and time of the order of the two periods. For the operations of `series_ops`.
 pub fn plan_of_sum(first: &Series, second: &Series) -> NeedPlan
     ensures value { result ≡ sum_plan first.now second.now }
     ensures bound { result.from ≤ greatest_reach }
@@ -104,7 +106,7 @@ fn plan_of_least(first: &Series, second: &Series) -> NeedPlan
     }
 }
 
-/// The greater value at a shift.
+/// The greater value at a shift. Takes no memory. For the operations of `series_ops`.
 pub fn later_at(first: &Series, second: &Series, shift: usize) -> Date
     requires { shift ≤ 20000 }
     ensures { result ≡ sum_at (value_at first.now) (value_at second.now) shift }
@@ -120,7 +122,8 @@ fn earlier_at(first: &Series, second: &Series, shift: usize) -> Date
     first.at(shift as u64).earlier(second.at(shift as u64))
 }
 
-/// The first values of the sum.
+/// The first values of the sum, at the shifts 0, 1, .. Refuses for want of memory alone. For the
+/// operations of `series_ops`.
 pub fn sum_values(
     alloc: Global,
     first: &Series,
@@ -160,7 +163,8 @@ fn least_values(
 /// with equal slopes the later start and the common period; with the first slope greater and both
 /// tails numbers the crossing and the first period; else the later start and the period of the
 /// greater slope. Where not, TooGreat exactly where a number of the result has a magnitude above
-/// 10^18. `OutOfMemory` comes only where no memory is found.
+/// 10^18. `OutOfMemory` comes only where no memory is found. It takes time of the order of the need
+/// and of the two periods.
 pub fn sum(alloc: Global, first: &Series, second: &Series) -> Result<Series, SeriesRefused>
     ensures answer { AnswersOf (λ r. HasValues r (sum_at (value_at first.now)
         (value_at second.now))) (need_of (sum_plan first.now second.now))
@@ -183,7 +187,8 @@ pub fn sum(alloc: Global, first: &Series, second: &Series) -> Result<Series, Ser
 
 /// The pointwise lesser of two series (chapter 5). TooLong exactly where its need exceeds 20,000:
 /// as for the sum, with the period of the lesser slope. Where not, TooGreat exactly where a number
-/// of the result has a magnitude above 10^18. `OutOfMemory` comes only where no memory is found.
+/// of the result has a magnitude above 10^18. `OutOfMemory` comes only where no memory is found. It
+/// takes time of the order of the need and of the two periods.
 pub fn least(alloc: Global, first: &Series, second: &Series) -> Result<Series, SeriesRefused>
     ensures answer { AnswersOf (λ r. HasValues r (least_at (value_at first.now)
         (value_at second.now))) (need_of (least_plan first.now second.now))

@@ -2,143 +2,203 @@
 ghost use Rattle.std.specs.Prelude.{◌≡◌, ◌≤◌, ◌<◌, ◌+◌, ◌-◌, ◌-ℤ◌, length, FitsSigned, MatchBool, MatchResult};
 ghost use Rattle.std.specs.Int.{w128};
 ghost use Rattle.std.specs.Int.RustNames.{unsigned_abs};
-ghost use Rattle.series_laws.specs.SeriesForms.{value_at, form_with, gap, moves, repeats_test, least_period_of, least_start_of};
+ghost use Rattle.series_laws.specs.SeriesForms.{value_at, form_with, size_of, repeat_start, gap, moves, repeats_test, least_period_of, least_start_of};
 ghost use Rattle.series_form.specs.NumberBounds.{IsModerate, IsModerateDate};
 ghost use Rattle.series_laws.specs.Periodic.{Rising};
 ghost use Rattle.series_form.specs.SeriesAnswers.{IsNumberCheck, IsBeginning, IsShortestSeries, form_before};
+ghost use Rattle.series_form.specs.PeriodicLists.{IsPeriodicList};
 ghost use Rattle.series_form.specs.Shapes.{IsPart, IsCanonicalPart, IsShape, IsTooGreat};
 ghost use Rattle.series_form.specs.SeriesLimits.{greatest_value};
 
 use crate::forms::{Series, SeriesRefused};
 use crate::values::{gap_of, is_moved};
 use dioid::Date;
+use std::marker::Model;
 
 // The greatest magnitude of a value and of the step of a series.
 const GREATEST_VALUE: i128 = 1_000_000_000_000_000_000;
 
-// Whether `turn` shifts move the value at a shift of the list by `jump`. A value past the list is
-// one of the list, moved by the step, so that two values of the list are compared.
-fn moves_at(
-    values: &[Date],
-    period: usize,
-    step: i128,
-    turn: usize,
-    jump: i128,
-    shift: usize,
-) -> bool
-    requires positive { 0 < period }
-    requires fits { period ≤ length values.now }
-    requires short { length values.now ≤ 20000 }
-    requires turn { turn ≤ period }
-    requires shift { shift < length values.now }
-    requires rest { FitsSigned w128 (step -ℤ jump) }
-    ensures { result ≡ moves (value_at (form_with values.now period step)) turn jump shift }
-{
-    let there = shift + turn;
-    if there < values.len() {
-        return is_moved(values[shift], values[there], jump);
-    }
-    is_moved(values[there - period], values[shift], step - jump)
+/// How much of a list is the canonical form of its function, with the period and the step.
+#[derive(Clone, Copy)]
+pub struct Shape {
+    /// How many of the first values of the list there are.
+    pub size: usize,
+    /// The least period, in shifts.
+    pub period: usize,
+    /// What a period adds to a value past the list.
+    pub step: i128,
 }
 
-// Whether `turn` shifts move the values at `from` and the next ones by `jump`.
-pub(crate) fn repeats(
-    values: &[Date],
+// A list of which the last `period` values go on by `step`. Contracts see its form.
+#[derive(Drop)]
+pub(crate) struct PeriodicList<'a> {
+    values: &'a [Date],
     period: usize,
     step: i128,
-    turn: usize,
-    jump: i128,
-    from: usize,
-    count: usize,
-) -> bool
-    requires positive { 0 < period }
-    requires fits { period ≤ length values.now }
-    requires short { length values.now ≤ 20000 }
-    requires turn { turn ≤ period }
-    requires rest { FitsSigned w128 (step -ℤ jump) }
-    requires listed { from + count ≤ length values.now }
-    ensures { result ≡ repeats_test (value_at (form_with values.now period step)) turn jump from
-        count }
-{
-    for index in 0..count {
-        if !moves_at(values, period, step, turn, jump, from + index) {
-            return false;
+}
+
+impl<'a> Model for PeriodicList<'a> {
+    ghost use Rattle.series_laws.specs.SeriesForms.{Form, form_with};
+    ghost use Rattle.series_form.specs.PeriodicLists.{IsPeriodicList};
+
+    ghost Value = { Form };
+
+    ghost view = { λ l. form_with l.values.now l.period l.step };
+
+    ghost invariant = { λ l. IsPeriodicList (form_with l.values.now l.period l.step) };
+}
+
+impl<'a> PeriodicList<'a> {
+    // The list with this period and step.
+    pub(crate) fn new(values: &'a [Date], period: usize, step: i128) -> PeriodicList<'a>
+        requires { IsPeriodicList (form_with values.now period step) }
+        ensures { result ≡ form_with values.now period step }
+    {
+        PeriodicList {
+            values,
+            period,
+            step,
         }
     }
-    true
-}
 
-// What the function gains over up to a period from where the list repeats; 0 for Never and Early.
-fn gain_of(values: &[Date], period: usize, step: i128, turn: usize) -> i128
-    requires positive { 0 < period }
-    requires fits { period ≤ length values.now }
-    requires short { length values.now ≤ 20000 }
-    requires rising { Rising (value_at (form_with values.now period step)) }
-    requires turn { turn ≤ period }
-    ensures gain { let f = value_at (form_with values.now period step) in result
-        ≡ gap (f (length values.now - period)) (f (length values.now - period + turn)) }
-    ensures rest { FitsSigned w128 (step -ℤ result) }
-{
-    let start = values.len() - period;
-    if turn < period {
-        return gap_of(values[start], values[start + turn]);
+    // The period.
+    fn period(&self) -> usize
+        ensures value { result ≡ self.now.period }
+        ensures list { IsPeriodicList self.now }
+    {
+        self.period
     }
-    match values[start] {
-        Date::At(_) => step,
-        _ => 0,
-    }
-}
 
-// The least period of the form's function. It divides every other, so only divisors of the period
-// are tried.
-pub(crate) fn least_period(values: &[Date], period: usize, step: i128, from: usize) -> usize
-    requires positive { 0 < period }
-    requires fits { period ≤ length values.now }
-    requires short { length values.now ≤ 20000 }
-    requires rising { Rising (value_at (form_with values.now period step)) }
-    requires from { from ≡ length values.now - period }
-    ensures value { result ≡ least_period_of (value_at (form_with values.now period step)) from
-        period }
-    ensures positive { 0 < result }
-    ensures within { result ≤ period }
-{
-    for turn in 1..period {
-        if period % turn == 0 {
-            let jump = gain_of(values, period, step, turn);
-            if repeats(values, period, step, turn, jump, from, period) {
-                return turn;
+    // The shift from which the list repeats.
+    fn start(&self) -> usize
+        ensures value { result ≡ repeat_start self.now }
+        ensures list { IsPeriodicList self.now }
+    {
+        self.values.len() - self.period
+    }
+
+    // Whether `turn` shifts move the value at a shift of the list by `jump`. A value past the list
+    // is one of the list, moved by the step, so that two values of the list are compared.
+    fn moves_at(&self, turn: usize, jump: i128, shift: usize) -> bool
+        requires turn { turn ≤ self.now.period }
+        requires shift { shift < size_of self.now }
+        requires rest { FitsSigned w128 (self.now.step -ℤ jump) }
+        ensures { result ≡ moves (value_at self.now) turn jump shift }
+    {
+        let size = self.values.len();
+        let there = shift + turn;
+        if there < size {
+            return is_moved(self.values[shift], self.values[there], jump);
+        }
+        let before = there - self.period;
+        is_moved(self.values[before], self.values[shift], self.step - jump)
+    }
+
+    // Whether `turn` shifts move the values at `from` and the next ones by `jump`.
+    fn repeats(&self, turn: usize, jump: i128, from: usize, count: usize) -> bool
+        requires turn { turn ≤ self.now.period }
+        requires rest { FitsSigned w128 (self.now.step -ℤ jump) }
+        requires short { size_of self.now ≤ 20000 }
+        requires listed { from + count ≤ size_of self.now }
+        ensures { result ≡ repeats_test (value_at self.now) turn jump from count }
+    {
+        for index in 0..count {
+            if !self.moves_at(turn, jump, from + index) {
+                return false;
             }
         }
+        true
     }
-    period
-}
 
-// The first shift from which the function repeats by `turn` shifts and `jump`, looked for from
-// `from` backwards.
-pub(crate) fn least_start(
-    values: &[Date],
-    period: usize,
-    step: i128,
-    from: usize,
-    turn: usize,
-    jump: i128,
-) -> usize
-    requires positive { 0 < period }
-    requires fits { period ≤ length values.now }
-    requires short { length values.now ≤ 20000 }
-    requires from { from ≤ length values.now }
-    requires turn { turn ≤ period }
-    requires rest { FitsSigned w128 (step -ℤ jump) }
-    ensures value { result ≡ least_start_of (value_at (form_with values.now period step)) from turn
-        jump }
-    ensures within { result ≤ from }
-{
-    for back in 0..from {
-        if !moves_at(values, period, step, turn, jump, from - (back + 1)) {
-            return from - back;
+    // What the function gains over up to a period from where the list repeats; 0 for Never and
+    // Early.
+    fn gain_of(&self, turn: usize) -> i128
+        requires rising { Rising (value_at self.now) }
+        requires turn { turn ≤ self.now.period }
+        ensures gain { let f = value_at self.now in result
+            ≡ gap (f (repeat_start self.now)) (f (repeat_start self.now + turn)) }
+        ensures rest { FitsSigned w128 (self.now.step -ℤ result) }
+    {
+        let start = self.values.len() - self.period;
+        if turn < self.period {
+            return gap_of(self.values[start], self.values[start + turn]);
+        }
+        match self.values[start] {
+            Date::At(_) => self.step,
+            _ => 0,
         }
     }
-    0
+
+    // The least period of the form's function. It divides every other, so only divisors of the
+    // period are tried.
+    fn least_period(&self) -> usize
+        requires { Rising (value_at self.now) }
+        ensures value { result ≡ least_period_of (value_at self.now) (repeat_start self.now)
+            self.now.period }
+        ensures positive { 0 < result }
+        ensures within { result ≤ self.now.period }
+        ensures list { IsPeriodicList self.now }
+    {
+        let period = self.period();
+        let from = self.start();
+        for turn in 1..period {
+            if period % turn == 0 {
+                let jump = self.gain_of(turn);
+                if self.repeats(turn, jump, from, period) {
+                    return turn;
+                }
+            }
+        }
+        period
+    }
+
+    // The first shift from which the function repeats by `turn` shifts and `jump`, looked for
+    // backwards from where the list repeats.
+    fn least_start(&self, turn: usize, jump: i128) -> usize
+        requires turn { turn ≤ self.now.period }
+        requires rest { FitsSigned w128 (self.now.step -ℤ jump) }
+        ensures value { result ≡ least_start_of (value_at self.now) (repeat_start self.now) turn
+            jump }
+        ensures within { result ≤ repeat_start self.now }
+    {
+        let from = self.start();
+        for back in 0..from {
+            if !self.moves_at(turn, jump, from - (back + 1)) {
+                return from - back;
+            }
+        }
+        0
+    }
+
+    // The canonical form of the function: its list is the first part of the list.
+    fn shape(&self) -> Shape
+        requires { Rising (value_at self.now) }
+        ensures { IsPart self.now.values self.now.period self.now.step result }
+    {
+        let period = self.least_period();
+        let jump = self.gain_of(period);
+        Shape {
+            size: self.least_start(period, jump) + period,
+            period,
+            step: jump,
+        }
+    }
+
+    // The same, or the first number that is too great.
+    fn shorten(&self) -> Result<Shape, i128>
+        requires { Rising (value_at self.now) }
+        ensures { MatchResult result (IsShape self.now.values self.now.period self.now.step)
+            (IsTooGreat self.now.values self.now.period self.now.step) }
+    {
+        let shape = self.shape();
+        if let Some(value) = first_great(self.values, shape.size) {
+            return Err(value);
+        }
+        if is_great(shape.step) {
+            return Err(shape.step);
+        }
+        Ok(shape)
+    }
 }
 
 // The first of the values that is too great.
@@ -164,57 +224,14 @@ fn is_great(number: i128) -> bool
     number > GREATEST_VALUE || number < -GREATEST_VALUE
 }
 
-/// How much of a list is the canonical form of its function, with the period and the step.
-#[derive(Clone, Copy)]
-pub struct Shape {
-    pub size: usize,
-    pub period: usize,
-    pub step: i128,
-}
-
-// The canonical form of the function of a form: its list is the first part of the list.
-fn shape_of(values: &[Date], turn: usize, step: i128) -> Shape
-    requires positive { 0 < turn }
-    requires fits { turn ≤ length values.now }
-    requires short { length values.now ≤ 20000 }
-    requires rising { Rising (value_at (form_with values.now turn step)) }
-    ensures { IsPart values.now turn step result }
-{
-    let start = values.len() - turn;
-    let period = least_period(values, turn, step, start);
-    let jump = gain_of(values, turn, step, period);
-    Shape {
-        size: least_start(values, turn, step, start, period, jump) + period,
-        period,
-        step: jump,
-    }
-}
-
-// The canonical form of the function of a form, or its first number that is too great.
-fn shorten(values: &[Date], turn: usize, step: i128) -> Result<Shape, i128>
-    requires positive { 0 < turn }
-    requires fits { turn ≤ length values.now }
-    requires short { length values.now ≤ 20000 }
-    requires rising { Rising (value_at (form_with values.now turn step)) }
-    ensures { MatchResult result (IsShape values.now turn step) (IsTooGreat values.now turn step) }
-{
-    let shape = shape_of(values, turn, step);
-    if let Some(value) = first_great(values, shape.size) {
-        return Err(value);
-    }
-    if is_great(shape.step) {
-        return Err(shape.step);
-    }
-    Ok(shape)
-}
-
-/// The canonical form of a function that is known as in `shortest`, with numbers of any size. For
-/// the star, which needs the form on the way.
+/// The canonical form of a function that is known as in `shortest`, with numbers of any size. Takes
+/// no memory. For the star of `series_ops`, which needs the form on the way.
 pub fn canonical_part(values: &[Date], turn: usize, next: Date) -> Shape
     requires { IsBeginning values.now turn next }
     ensures { IsCanonicalPart values.now turn next result }
 {
-    shape_of(values, turn, step_before(values, turn, next))
+    let step = step_before(values, turn, next);
+    PeriodicList::new(values, turn, step).shape()
 }
 
 // The series of the function of a form with numbers of any size.
@@ -223,13 +240,12 @@ pub(crate) fn finish(
     turn: usize,
     step: i128,
 ) -> Result<Series, SeriesRefused>
-    requires positive { 0 < turn }
-    requires fits { turn ≤ length values.items }
-    requires short { length values.items ≤ 20000 }
+    requires list { IsPeriodicList (form_with values.items turn step) }
     requires rising { Rising (value_at (form_with values.items turn step)) }
     ensures { IsShortestSeries (value_at (form_with values.items turn step)) result }
 {
-    match shorten(values.as_slice(), turn, step) {
+    let shorter = PeriodicList::new(values.as_slice(), turn, step).shorten();
+    match shorter {
         Ok(shape) => {
             values.truncate(shape.size);
             Ok(Series {
@@ -244,8 +260,9 @@ pub(crate) fn finish(
 
 /// The series of a function that is known by its first values, of which the last `turn` are a
 /// period, and by `next`, the value after them: the canonical form, or TooGreat with its first
-/// number of a magnitude above 10^18, values in order of shift and the step last. For the
-/// operations of the crates above.
+/// number of a magnitude above 10^18, values in order of shift and the step last. Takes no memory
+/// of its own. The work is the length times the number of the period's divisors at most. For the
+/// operations of `series_ops`.
 pub fn shortest(values: Vec<Date>, turn: usize, next: Date) -> Result<Series, SeriesRefused>
     requires { IsBeginning values.items turn next }
     ensures { IsShortestSeries (value_at (form_before values.items turn next)) result }

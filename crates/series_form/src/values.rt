@@ -11,29 +11,8 @@ ghost use Rattle.series_form.specs.SeriesLimits.{greatest_value, greatest_modera
 
 use dioid::Date;
 
-// Whether two forms are the same.
-pub(crate) fn same_parts(
-    values: &[Date],
-    period: usize,
-    step: i128,
-    other_values: &[Date],
-    other_period: usize,
-    other_step: i128,
-) -> bool
-    ensures { IsTrue result ↔ (form_with values.now period step
-        ≡ form_with other_values.now other_period other_step) }
-{
-    if period != other_period {
-        return false;
-    }
-    if step != other_step {
-        return false;
-    }
-    same_values(values, other_values)
-}
-
 // Whether two lists of dates are equal.
-fn same_values(values: &[Date], other: &[Date]) -> bool
+pub(crate) fn same_values(values: &[Date], other: &[Date]) -> bool
     ensures { IsTrue result ↔ (values.now ≡ other.now) }
 {
     if values.len() != other.len() {

@@ -1,4 +1,4 @@
-use Rattle.std.proofs.Common.{◌≡◌, ap, ◌∙◌, sym, subst, List, to_z, of_z}
+use Rattle.std.proofs.Common.{◌≡◌, ap, ◌∙◌, sym, subst, ℤ, List, FitsSigned, to_z, of_z}
 use Rattle.std.specs.Int.{w128}
 use Rattle.std.proofs.lemmas.Int.{to_z-of_z}
 use Rattle.dioid.specs.declared.dates.Date.{Date}
@@ -6,6 +6,15 @@ use Rattle.series_laws.specs.SeriesForms.{Form, form_with, value_at}
 use Rattle.series_laws.specs.Periodic.{Rising}
 use Rattle.series_form.specs.SeriesAnswers.{form_before, IsShortestSeries}
 use Rattle.series_form.proofs.shorten.shortest.Goals as goal
+
+pub finish-requires-clause-list : goal.finish-requires-clause-list
+finish-requires-clause-list c = record {
+  positive = c.requires.positive;
+  fits = c.requires.fits;
+  short = c.requires.short;
+  step_fits = subst (λ (z : ℤ). FitsSigned w128 z) (sym (to_z-of_z w128 c.step_before-step.result (record { sfits = c.step_before-step.type_inv })))
+      (record { sfits = c.step_before-step.type_inv });
+}
 
 pub finish-requires-clause-rising : goal.finish-requires-clause-rising
 finish-requires-clause-rising c =

@@ -1,10 +1,11 @@
-use Rattle.std.proofs.Common.{◌≡◌, ap, ◌∙◌, subst, ℕ, List, length, Result, Ok, Err, ◌≤◌, to_z, of_z}
+use Rattle.std.proofs.Common.{◌≡◌, ap, sym, ◌∙◌, subst, ℕ, List, length, Result, Ok, Err, ◌≤◌, to_z, of_z}
 use Rattle.std.specs.Int.{w128}
 use Rattle.std.proofs.lemmas.Int.{to_z-of_z}
 use Rattle.dioid.specs.declared.dates.Date.{Date}
 use Rattle.series_form.specs.declared.forms.SeriesRefused.{SeriesRefused}
 use Rattle.series_form.specs.declared.forms.SeriesRefused.TheVariants.{TooLong, TooGreat, OutOfMemory}
 use Rattle.series_laws.specs.SeriesForms.{Form, form_with, value_at, HasValues}
+use Rattle.series_form.specs.PeriodicLists.{IsPeriodicList}
 use Rattle.series_form.specs.SeriesAnswers.{AnswersOf, IsShortestSeries}
 use Rattle.series_form.proofs.forms.Series.from_list.Goals as goal
 
@@ -13,6 +14,14 @@ answered s n (Ok f) short h = (h.0, h.1, short)
 answered s n (Err (TooLong m)) short h = absurd h
 answered s n (Err (TooGreat v)) short h = (short, h)
 answered s n (Err OutOfMemory) short h = absurd h
+
+pub finish-requires-clause-list : goal.finish-requires-clause-list
+finish-requires-clause-list c =
+    let same : form_with c.in-Ok.list.items c.args.period (to_z w128 (of_z w128 c.args.step)) ≡ form_with c.args.values.now c.args.period c.args.step =
+    ap (λ (z : List Date). form_with z c.args.period (to_z w128 (of_z w128 c.args.step))) c.in-Ok.ensures
+    ∙ ap (form_with c.args.values.now c.args.period) (to_z-of_z w128 c.args.step c.ranges.step) in
+    subst (λ (z : Form). IsPeriodicList z) (sym same)
+    (record { positive = c.requires.positive; fits = c.requires.fits; short = c.if-values-gt20000.false; step_fits = c.ranges.step })
 
 pub returns-in-Ok : goal.returns-in-Ok
 returns-in-Ok c =
