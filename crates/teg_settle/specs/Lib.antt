@@ -10,6 +10,7 @@ pub mod Copies
 pub mod Transfers
 pub mod Alone
 pub mod Reached
+pub mod Spans
 pub mod Spread
 pub mod Endless
 pub mod Steps

@@ -6,6 +6,7 @@ ghost use Rattle.teg_settle.specs.Endless.{HasFormBy};
 ghost use Rattle.teg_settle.specs.InitialReleases.{AreWaits, wait_of};
 ghost use Rattle.teg_settle.specs.ShortestForms.{IsFound};
 ghost use Rattle.teg_settle.specs.SlopesOfNets.{HasSlopes};
+ghost use Rattle.teg_settle.specs.Spans.{AreSpans};
 ghost use Rattle.teg_settle.specs.ComparedRows.{IsReady};
 
 use crate::releases::{Releases, Tokens};
@@ -59,6 +60,7 @@ fn found(alloc: Global, net: &Net, live: &Live, releases: &Releases) -> Result<F
     requires stands { IsRanking net.now live.now }
     requires tokens { releases.now.tokens ≡ Tokens.Ready }
     requires waits { AreWaits net.now (wait_of net.now) releases.now.waits.items }
+    requires spans { AreSpans net.now releases.now.spans.items }
     ensures found { IfOk result (IsFound net.now releases.now) }
 {
     least_datings_repeat();

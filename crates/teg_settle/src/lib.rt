@@ -23,6 +23,7 @@
 mod endless;
 mod laws;
 mod limited;
+mod lists;
 mod reached;
 mod refusals;
 mod releases;

@@ -9,6 +9,7 @@ ghost use Rattle.teg_settle.specs.LimitRefusals.{IsRightSettleRefusal, greatest_
 ghost use Rattle.teg_settle.specs.InitialReleases.{OnlyInputsWait};
 ghost use Rattle.teg_settle.specs.ShortestForms.{IsFound};
 ghost use Rattle.teg_settle.specs.SlopesOfNets.{HasSlopes};
+ghost use Rattle.teg_settle.specs.Spans.{AreSpans};
 ghost use Rattle.teg_settle.specs.Transfers.{IsTransferOf, TransferSettlesPast};
 ghost use Rattle.teg_settle.specs.ComparedRows.{IsLeastForm, IsReady, LeastSettlesPast};
 
@@ -65,6 +66,7 @@ fn within(
 ) -> Result<Settled, SettleRefusal>
     requires stands { IsRanking net.now live.now }
     requires waits { OnlyInputsWait net.now releases.now.waits.items }
+    requires spans { AreSpans net.now releases.now.spans.items }
     requires few { limit ≤ greatest_limit }
     ensures form { IfOk result (IsLeastForm net.now releases.now) }
     ensures within { IfOk result (λ form. settled_length form ≤ limit) }
@@ -87,6 +89,7 @@ fn dates_within(
 ) -> Result<SettledDates, SettleRefusal>
     requires stands { IsRanking net.now live.now }
     requires waits { OnlyInputsWait net.now releases.now.waits.items }
+    requires spans { AreSpans net.now releases.now.spans.items }
     requires few { limit ≤ greatest_limit }
     ensures form { IfOk result (IsLeastForm net.now releases.now) }
     ensures within { IfOk result (λ form. settled_length form ≤ limit) }

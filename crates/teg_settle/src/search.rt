@@ -6,6 +6,7 @@ ghost use Rattle.periodic_laws.specs.settled_laws.SettledForms.{settled_length};
 ghost use Rattle.teg_dates.specs.PlaceOrder.{OrdersPlaces};
 ghost use Rattle.teg_settle.specs.InitialReleases.{OnlyInputsWait};
 ghost use Rattle.teg_settle.specs.ShortestForms.{IsFound};
+ghost use Rattle.teg_settle.specs.Spans.{AreSpans};
 ghost use Rattle.teg_settle.specs.ComparedRows.{AreRowsOf, IsLeastForm, IsReady, IsRefuted, IsSeen, IsSeenFrom, IsTrial, most_window};
 
 use crate::releases::{Releases, Repetition};
@@ -139,6 +140,7 @@ fn most_tokens(net: &Net) -> u64
 pub(crate) fn ready_tokens(net: &Net, _live: &Live, releases: &Releases) -> u64
     requires stands { IsRanking net.now _live.now }
     requires waits { OnlyInputsWait net.now releases.now.waits.items }
+    requires spans { AreSpans net.now releases.now.spans.items }
     ensures ready { IsReady net.now releases.now result }
     ensures few { result ≤ 1000 }
 {
