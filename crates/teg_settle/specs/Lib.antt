@@ -12,6 +12,7 @@ pub mod Alone
 pub mod Reached
 pub mod Spans
 pub mod Spread
+pub mod LeastDates
 pub mod Endless
 pub mod Steps
 pub mod SlopesOfNets

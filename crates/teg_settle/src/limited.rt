@@ -45,12 +45,14 @@ fn found_within(
         limit) }
 {
     let last = 2 * u64::from(limit) + most;
-    match search(alloc, net, live, releases, most, last)? {
-        Some(found) => {
-            if found.form.after + found.form.period > u64::from(limit) {
+    let searched = search(alloc, net, live, releases, most, last)?;
+    match searched.form {
+        Some(form) => {
+            if form.after + form.period > u64::from(limit) {
                 return Err(SettleRefusal::TooLong { limit });
             }
-            Ok(found)
+            let rows = searched.rows;
+            Ok(Found { rows, form })
         }
         None => Err(SettleRefusal::TooLong { limit }),
     }
