@@ -110,7 +110,7 @@ fn dates_within(
 /// where the settling length exceeds it. `OutOfMemory` comes only where no memory is found. For a
 /// settling length l, or a limit l below it, it makes rows of order l for all transitions, each in
 /// time of order `n + p` for n transitions and p places, and keeps them, eight bytes a date where
-/// dates are below 2^64 - 2. Of order l periods are tried: most are refuted by what refuted one
+/// dates are below 2^63 - 1. Of order l periods are tried: most are refuted by what refuted one
 /// before, and each other one takes time of at most the order of all these dates and of those of
 /// the input lists.
 pub fn settle_within(
@@ -131,7 +131,7 @@ pub fn settle_within(
 }
 
 /// The form of [`settle_within`], for callers that ask for some of its dates: it keeps the rows of
-/// the search, eight bytes a date where dates are below 2^64 - 2, and makes no other table of them.
+/// the search, eight bytes a date where dates are below 2^63 - 1, and makes no other table of them.
 pub fn settle_dates_within(
     alloc: Global,
     net: &Net,
