@@ -51,9 +51,6 @@ bounds_stay s k b few = (b.0, b.1, omega (arith, b.1.grows k greatest_firing_num
 pub short_bounds_stay : (s : System) (k : ℕ) → KeepsShortBounds s → k ≤ most_in_cells → StaysWithin (2 ^ 62) k s
 short_bounds_stay s k b few = (b.0, b.1, omega (arith, b.1.grows k most_in_cells few, b.3))
 
-pub short_keeps_bounds : (s : System) → KeepsShortBounds s → KeepsBounds s
-short_keeps_bounds s b = (b.0, b.1, b.2)
-
 -- the net's own ready dates and lists keep the bounds
 pub net_keeps_bounds : (net : NetLists) → IsNet net → KeepsBounds (system_of net (listed_releases net))
 net_keeps_bounds net ok = (first_bound, net_is_bounded net (listed_releases net) first_bound ok (listed_within net ok), omega arith)

@@ -1,6 +1,5 @@
 -- One date of the least dating, by rows or by the form that they show.
-use Rattle.std.proofs.Common.{ℕ, ◌≤◌, ◌<◌, ◌≡◌, Some, length}
-use Rattle.dioid.specs.declared.dates.Date.{Date}
+use Rattle.std.proofs.Common.{ℕ, ◌≤◌, ◌<◌, ◌≡◌, length}
 use Rattle.teg_net.specs.Nets.{NetLists}
 use Rattle.periodic_laws.specs.settled_laws.SettledForms.{SettledForm, settled_date}
 use Rattle.periodic_laws.proofs.settled_laws_proofs.Telling.{form_tells}

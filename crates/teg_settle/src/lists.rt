@@ -1,8 +1,7 @@
 //! The dates that the input lists of a net give, and from where on they go on evenly.
-ghost use Rattle.std.specs.Prelude.{◌≡◌, ◌+◌, ◌<◌, ◌≤◌, ◌^◌, IfOk, IsTrue, length, ℕ};
+ghost use Rattle.std.specs.Prelude.{◌≡◌, ◌+◌, ◌<◌, ◌≤◌, ◌^◌, IfOk, IsTrue, ℕ};
 ghost use Rattle.dioid.specs.Dates.{delayed};
-ghost use Rattle.teg_net.specs.Limits.{greatest_every, greatest_firing_number, greatest_input_date, most_input_dates};
-ghost use Rattle.teg_net.specs.Nets.{IsNet};
+ghost use Rattle.teg_net.specs.Limits.{greatest_every, greatest_firing_number, most_input_dates};
 ghost use Rattle.periodic_laws.specs.teg_model.DateBounds.{IsDateWithin};
 ghost use Rattle.teg_settle.specs.InitialReleases.{date_of_list, list_number};
 ghost use Rattle.teg_settle.specs.Spans.{AreSpans, IsSpan};

@@ -1,5 +1,5 @@
 //! The growing search for the shortest form: rows are made until they show one.
-ghost use Rattle.std.specs.Prelude.{◌≡◌, ◌+◌, ◌-◌, ◌<◌, ◌≤◌, All, IfOk, IfSome, MatchOption, MatchResult, ℕ};
+ghost use Rattle.std.specs.Prelude.{◌≡◌, ◌+◌, ◌-◌, ◌<◌, ◌≤◌, All, IfOk, MatchOption, MatchResult, ℕ};
 ghost use Rattle.teg_net.specs.Nets.{IsNet};
 ghost use Rattle.teg_check.specs.Ranks.{IsRanking};
 ghost use Rattle.periodic_laws.specs.settled_laws.SettledForms.{settled_length};

@@ -1,6 +1,5 @@
-use Rattle.std.proofs.Common.{◌≤◌, ◌*◌, refl, arith}
+use Rattle.std.proofs.Common.{◌*◌, refl, arith}
 use Rattle.std.specs.Prelude.{◌/◌}
-use Rattle.std.proofs.Math.Nat.{div-le_of_le-mul}
 use Rattle.teg_settle.specs.InitialReleases.{date_of_list}
 use Rattle.teg_settle.proofs.Releasing.{span_again, shorter_gap}
 use Rattle.teg_settle.proofs.lists.with_least_every.Goals as goal

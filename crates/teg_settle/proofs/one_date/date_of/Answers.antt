@@ -1,4 +1,4 @@
-use Rattle.std.proofs.Common.{◌<◌, length, arith, subst, sym}
+use Rattle.std.proofs.Common.{arith, subst, sym}
 use Rattle.teg_settle.specs.LeastDates.{IsLeastDate}
 use Rattle.teg_settle.proofs.Owning.{own_waits}
 use Rattle.teg_settle.proofs.OneDate.{told_date, row_date}
