@@ -30,6 +30,8 @@ mod net_files;
 #[cfg(test)]
 mod nets;
 #[cfg(test)]
+mod one_dates;
+#[cfg(test)]
 mod own_rows;
 #[cfg(test)]
 mod plans;

@@ -9,7 +9,7 @@ use crate::nets::LOOP;
 use std::alloc::Global;
 use std::test::Fail;
 use teg_check::check;
-use teg_dates::{NetInputs, PlaceOrder, Rows, nets_keep_bounds};
+use teg_dates::{NetInputs, PlaceOrder, Rows, nets_keep_bounds, nets_keep_short_bounds};
 use teg_net::{Net, OutOfMemory};
 use teg_reader::read_net;
 use teg_settle::{Repetition, own_releases, shown_form};
@@ -28,6 +28,20 @@ fn with_next(net: &Net, order: &PlaceOrder, rows: Rows) -> Result<Rows, OutOfMem
     rows.with_next(net, order, &NetInputs)
 }
 
+// The same in cells of eight bytes.
+fn with_next_in_cells(net: &Net, order: &PlaceOrder, rows: Rows) -> Result<Rows, OutOfMemory>
+    requires order { OrdersPlaces net.now order.now }
+    requires few { rows.count < most_rows }
+    requires rows { AreLeastRows net.now (system_of net.now (listed_releases net.now)) rows }
+    ensures count { IfOk result (λ more. more.count ≡ rows.count + 1) }
+    ensures rows { IfOk result
+        (AreLeastRows net.now (system_of net.now (listed_releases net.now))) }
+{
+    net.rules();
+    nets_keep_short_bounds();
+    rows.with_next_in_cells(net, order, &NetInputs)
+}
+
 // The form that the first rows of a net show.
 fn form_of(alloc: Global, net: &Net) -> Result<Option<Repetition>, Fail> {
     let live = check(alloc, net)?;
@@ -35,7 +49,7 @@ fn form_of(alloc: Global, net: &Net) -> Result<Option<Repetition>, Fail> {
     let releases = own_releases(alloc, net)?;
     let one = with_next(net, &order, Rows::new(alloc, net))?;
     let two = with_next(net, &order, one)?;
-    let three = with_next(net, &order, two)?;
+    let three = with_next_in_cells(net, &order, two)?;
     Ok(shown_form(net, &live, &releases, &three))
 }
 

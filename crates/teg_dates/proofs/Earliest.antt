@@ -17,7 +17,7 @@ use Rattle.teg_model.proofs.DateFunctions.{Dating, InitialDates}
 use Rattle.teg_dates.specs.DateTables.{most_numbers, TableDates, HasDatesOf, HasDatesOfWalks}
 use Rattle.teg_dates.specs.declared.order.OrderedPlace.{OrderedPlace}
 use Rattle.teg_dates.specs.PlaceOrder.{OrdersPlaces}
-use Rattle.teg_dates.specs.KeptRows.{KeepsBounds, StaysWithin}
+use Rattle.teg_dates.specs.KeptRows.{KeepsBounds, KeepsShortBounds, StaysWithin, most_in_cells}
 use Rattle.teg_dates.specs.Streams.{HasLeast}
 use Rattle.teg_dates.proofs.Ranking.{rank_of, ranks_of}
 
@@ -47,9 +47,16 @@ earliest_within net init rel ranks most n ok r b t k o few =
 pub bounds_stay : (s : System) (k : ℕ) → KeepsBounds s → k ≤ greatest_firing_number → StaysWithin (2 ^ 126) k s
 bounds_stay s k b few = (b.0, b.1, omega (arith, b.1.grows k greatest_firing_number few, b.2))
 
+-- and dates of eight bytes what keeps the short ones, at the first numbers
+pub short_bounds_stay : (s : System) (k : ℕ) → KeepsShortBounds s → k ≤ most_in_cells → StaysWithin (2 ^ 62) k s
+short_bounds_stay s k b few = (b.0, b.1, omega (arith, b.1.grows k most_in_cells few, b.3))
+
 -- the net's own ready dates and lists keep the bounds
 pub net_keeps_bounds : (net : NetLists) → IsNet net → KeepsBounds (system_of net (listed_releases net))
 net_keeps_bounds net ok = (first_bound, net_is_bounded net (listed_releases net) first_bound ok (listed_within net ok), omega arith)
+
+pub net_keeps_short_bounds : (net : NetLists) → IsNet net → KeepsShortBounds (system_of net (listed_releases net))
+net_keeps_short_bounds net ok = (first_bound, net_is_bounded net (listed_releases net) first_bound ok (listed_within net ok), omega arith, omega arith)
 
 -- and its first numbers need eight bytes
 pub net_stays : (net : NetLists) (k : ℕ) → IsNet net → k ≤ most_numbers → StaysWithin (2 ^ 62) k (system_of net (listed_releases net))

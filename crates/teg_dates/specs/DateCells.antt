@@ -1,5 +1,6 @@
 -- Dates in eight bytes each.
-use Rattle.std.specs.Prelude.{ℕ, pos, nat_eq, if◌then◌else◌}
+use Rattle.std.specs.Prelude.{ℕ, ℤ, pos, nat_eq, int_lt, if◌then◌else◌}
+use Rattle.std.specs.Ordering.{int_eq}
 use Rattle.dioid.specs.declared.dates.Date.{Date}
 use Rattle.dioid.specs.declared.dates.Date.TheVariants.{Early, At, Never}
 
@@ -11,10 +12,10 @@ no_number = 18446744073709551615
 abbrev pub date_of_cell : ℕ → Date
 date_of_cell c = if nat_eq c no_number then Never else At (pos c)
 
--- the number of eight bytes that stands for a date before all others, where a cell may hold that too
-abbrev pub early_number : ℕ
-early_number = 18446744073709551614
+-- the greatest signed number of eight bytes
+abbrev pub no_signed_number : ℤ
+no_signed_number = pos 9223372036854775807
 
--- the date of such a number: itself, but for the two greatest
-abbrev pub date_of_early_cell : ℕ → Date
-date_of_early_cell c = if nat_eq c no_number then Never else (if nat_eq c early_number then Early else At (pos c))
+-- the date of such a number: itself from 0 on, but for the greatest; one below 0 stands for a date before all others
+abbrev pub date_of_signed_cell : ℤ → Date
+date_of_signed_cell c = if int_lt c (pos 0) then Early else (if int_eq c no_signed_number then Never else At c)

@@ -1,11 +1,12 @@
 -- Rows of dates, all of them kept, and when they are those of the least dating of a system.
-use Rattle.std.specs.Prelude.{ℕ, ◌+◌, ◌*◌, ◌<◌, ◌≤◌, ◌≡◌, ◌^◌, List, length}
+use Rattle.std.specs.Prelude.{ℕ, ℤ, ◌+◌, ◌*◌, ◌<◌, ◌≤◌, ◌≡◌, ◌^◌, List, length, map}
 use Rattle.dioid.specs.declared.dates.Date.{Date}
 use Rattle.teg_net.specs.Limits.{most_transitions, greatest_hold, greatest_firing_number, most_rows}
 use Rattle.teg_net.specs.Nets.{NetLists, IsNet}
 use Rattle.teg_model.specs.Systems.{System, IsLeastIn}
 use Rattle.teg_model.specs.Datings.{listed_releases, system_of}
 use Rattle.teg_model.specs.DateBounds.{IsBoundedBy}
+use Rattle.teg_dates.specs.DateCells.{date_of_signed_cell}
 use Rattle.teg_dates.specs.DateTables.{TableDates, HasDatesOf, date_in_list}
 
 -- a bound of initial dates and of releases that leaves room for all holds up to the greatest number
@@ -22,9 +23,22 @@ pub record IsRows (rows : TableDates) : Type 0 where
 abbrev pub KeepsBounds : System → Type 0
 KeepsBounds s = (first : ℕ → ℕ) × IsBoundedBy s greatest_hold first × (first greatest_firing_number ≤ greatest_first)
 
+-- numbers of rows that can be made in cells of eight bytes
+abbrev pub most_in_cells : ℕ
+most_in_cells = 1000000
+
+-- beside that, those up to there leave room for all holds in eight bytes
+abbrev pub KeepsShortBounds : System → Type 0
+KeepsShortBounds s =
+    (first : ℕ → ℕ) × IsBoundedBy s greatest_hold first × (first greatest_firing_number ≤ greatest_first) × (first most_in_cells ≤ 2 ^ 61)
+
 -- the ready dates and the input lists of a net are so
 abbrev pub NetsKeepBounds : Type 0
 NetsKeepBounds = (net : NetLists) → IsNet net → KeepsBounds (system_of net (listed_releases net))
+
+-- and those of the first numbers
+abbrev pub NetsKeepShortBounds : Type 0
+NetsKeepShortBounds = (net : NetLists) → IsNet net → KeepsShortBounds (system_of net (listed_releases net))
 
 -- with the initial dates and the releases of numbers up to k, all holds up to there come to at most so much
 abbrev pub StaysWithin : ℕ → ℕ → System → Type 0
@@ -48,3 +62,8 @@ pub record AreFirst (net : NetLists) (x : ℕ → ℕ → Date) (count : ℕ) (d
 -- the dates of numbers 1 to count in each least dating of the system, and nothing else
 abbrev pub AreFirstLeast : NetLists → System → ℕ → List Date → Type 0
 AreFirstLeast net s count dates = (x : ℕ → ℕ → Date) → IsLeastIn s x → AreFirst net x count dates
+
+-- cells of the net's width hold these dates
+pub record AreCellsOf (net : NetLists) (s : System) (width count : ℕ) (cells : List ℤ) : Type 0 where
+  pub width_is : width ≡ length net.transitions
+  pub least : AreFirstLeast net s count (map date_of_signed_cell cells)

@@ -108,6 +108,49 @@ impl DateCell for u64 {
     }
 }
 
+/// A number from 0 on in eight bytes, of which the greatest stands for `Never`, or one below 0, which
+/// stands for `Early`.
+impl DateCell for i64 {
+    ghost use Rattle.std.specs.Prelude.{◌^◌, ⊤};
+    ghost use Rattle.teg_dates.specs.DateCells.{date_of_signed_cell};
+
+    ghost held = { date_of_signed_cell };
+
+    ghost early = { ⊤ };
+
+    ghost most = { 2 ^ 62 };
+
+    fn of(date: Date) -> i64 {
+        match date {
+            Date::Early => -1,
+            Date::At(date) => date as i64,
+            Date::Never => i64::MAX,
+        }
+    }
+
+    fn date(self) -> Date {
+        if self < 0 {
+            Date::Early
+        } else if self == i64::MAX {
+            Date::Never
+        } else {
+            Date::At(self as i128)
+        }
+    }
+
+    fn later(self, other: i64) -> i64 {
+        if self < other { other } else { self }
+    }
+
+    fn delayed(self, hold: u64) -> i64 {
+        if self < 0 || self == i64::MAX {
+            self
+        } else {
+            self + hold as i64
+        }
+    }
+}
+
 // The later of a cell and a date.
 pub(crate) fn later_date<C: DateCell>(cell: C, date: Date) -> C
     requires { IsDateWithin C.most date }

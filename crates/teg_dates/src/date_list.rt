@@ -1,44 +1,26 @@
 //! Dates one after another, in eight bytes each as long as they fit.
-ghost use Rattle.std.specs.Prelude.{◌≡◌, ◌<◌, ◌++◌, ◌∷◌, [], length, slice_index_or, IfOk, IfSome};
+ghost use Rattle.std.specs.Prelude.{◌≡◌, ◌<◌, ◌++◌, ◌∷◌, [], length, slice_index_or, IfOk, IfSome, map};
 ghost use Rattle.dioid.specs.declared.dates.Date.TheVariants.{Early};
-ghost use Rattle.teg_dates.specs.DateCells.{date_of_early_cell};
+ghost use Rattle.teg_dates.specs.DateCells.{date_of_signed_cell};
 
+use crate::date_cell::DateCell;
 use dioid::Date;
 use std::alloc::{AllocError, Global};
 use std::marker::Model;
 
-// The number of eight bytes that stands for `Never`.
-const NEVER: u64 = u64::MAX;
-
-// The number of eight bytes that stands for `Early`.
-const EARLY: u64 = u64::MAX - 1;
-
 // The date in eight bytes, if it fits.
-fn shortened(date: Date) -> Option<u64>
-    ensures { IfSome result (λ cell. date_of_early_cell cell ≡ date) }
+fn shortened(date: Date) -> Option<i64>
+    ensures { IfSome result (λ cell. date_of_signed_cell cell ≡ date) }
 {
     match date {
-        Date::Early => Some(EARLY),
-        Date::Never => Some(NEVER),
+        Date::Early => Some(-1),
+        Date::Never => Some(i64::MAX),
         Date::At(number) => {
-            if number < 0 || number >= EARLY as i128 {
+            if number < 0 || number >= i64::MAX as i128 {
                 return None;
             }
-            Some(number as u64)
+            Some(number as i64)
         }
-    }
-}
-
-// The date that a number of eight bytes stands for.
-fn long_date(cell: u64) -> Date
-    ensures { result ≡ date_of_early_cell cell }
-{
-    if cell == NEVER {
-        Date::Never
-    } else if cell == EARLY {
-        Date::Early
-    } else {
-        Date::At(cell as i128)
     }
 }
 
@@ -46,18 +28,18 @@ fn long_date(cell: u64) -> Date
 // are. Contracts see the list of them.
 #[derive(Debug, Drop)]
 pub(crate) struct PackedDates {
-    short: Vec<u64>,
+    short: Vec<i64>,
     rest: Vec<Date>,
 }
 
 impl Model for PackedDates {
     ghost use Rattle.std.specs.Prelude.{List, map, ◌++◌};
     ghost use Rattle.dioid.specs.declared.dates.Date.{Date};
-    ghost use Rattle.teg_dates.specs.DateCells.{date_of_early_cell};
+    ghost use Rattle.teg_dates.specs.DateCells.{date_of_signed_cell};
 
     ghost Value = { List Date };
 
-    ghost view = { λ a. map date_of_early_cell a.short.items ++ a.rest.items };
+    ghost view = { λ a. map date_of_signed_cell a.short.items ++ a.rest.items };
 }
 
 impl PackedDates {
@@ -89,6 +71,19 @@ impl PackedDates {
         Ok(())
     }
 
+    // Adds a date in eight bytes behind the others.
+    #[tactic(auto, using(crate::proofs::Shortening::short_more, crate::proofs::Shortening::rest_more))]
+    fn push_cell(&mut self, cell: i64) -> Result<(), AllocError>
+        ensures { IfOk result (λ _. self.new ≡ self.old ++ date_of_signed_cell cell ∷ []) }
+    {
+        if self.rest.is_empty() {
+            self.short.push(cell)?;
+        } else {
+            self.rest.push(cell.date())?;
+        }
+        Ok(())
+    }
+
     // Adds dates behind the others.
     #[tactic(auto, using(crate::proofs::Shortening::extended_more))]
     pub(crate) fn extend(&mut self, dates: &[Date]) -> Result<(), AllocError>
@@ -96,6 +91,28 @@ impl PackedDates {
     {
         for index in 0..dates.len() {
             self.push(dates[index])?;
+        }
+        Ok(())
+    }
+
+    // All of them in eight bytes each, where they fit.
+    pub(crate) fn cells(&self) -> Option<&[i64]>
+        ensures { IfSome result (λ cells. map date_of_signed_cell cells.now ≡ self.now) }
+    {
+        if self.rest.is_empty() {
+            Some(&self.short)
+        } else {
+            None
+        }
+    }
+
+    // Adds dates in eight bytes each behind the others.
+    #[tactic(auto, using(crate::proofs::Shortening::cells_more))]
+    pub(crate) fn extend_cells(&mut self, cells: &[i64]) -> Result<(), AllocError>
+        ensures { IfOk result (λ _. self.new ≡ self.old ++ map date_of_signed_cell cells.now) }
+    {
+        for index in 0..cells.len() {
+            self.push_cell(cells[index])?;
         }
         Ok(())
     }
@@ -108,7 +125,7 @@ impl PackedDates {
     {
         let count = self.short.len();
         if index < count {
-            long_date(self.short[index])
+            self.short[index].date()
         } else {
             self.rest[index - count]
         }

@@ -28,7 +28,7 @@ pub fn first_dates(alloc: Global, net: &Net, live: &Live, count: u32) -> Result<
     let order = PlaceOrder::new(alloc, net, live)?;
     let mut rows = Rows::new(alloc, net);
     for _number in 0..count {
-        rows = rows.with_next(net, &order, &NetInputs)?;
+        rows = rows.with_next_in_cells(net, &order, &NetInputs)?;
     }
     Ok(Table::new(rows))
 }

@@ -31,7 +31,7 @@ mod window;
 pub use date_cell::DateCell;
 pub use first::first_dates;
 pub use first_rows::FirstRows;
-pub use laws::nets_keep_bounds;
+pub use laws::{nets_keep_bounds, nets_keep_short_bounds};
 pub use order::PlaceOrder;
 pub use rows::Rows;
 pub use sources::{NetInputs, Source};

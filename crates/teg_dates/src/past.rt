@@ -35,7 +35,36 @@ pub(crate) fn cell_of(width: usize, transition: TransitionId, number: u64) -> us
     (number as usize - 1) * width + transition.index as usize
 }
 
-// All rows up to number `count`, one after another.
+// All rows up to number `count`, one after another, in eight bytes a date.
+#[derive(Drop)]
+pub(crate) struct AllCells<'a> {
+    pub(crate) width: usize,
+    pub(crate) count: u64,
+    pub(crate) cells: &'a [i64],
+    ghost width_in: { width ≤ most_transitions },
+    ghost count_in: { count ≤ most_rows },
+    ghost full: { length cells.now ≡ count * width },
+}
+
+impl Past<i64> for AllCells<'_> {
+    ghost use Rattle.std.specs.Prelude.{◌+◌, ◌-◌, map};
+    ghost use Rattle.teg_dates.specs.DateCells.{date_of_signed_cell};
+    ghost use Rattle.teg_dates.specs.DateTables.{date_in_list};
+
+    ghost rows = { λ p. record {
+      width = p.width;
+      reach = p.count;
+      number = p.count;
+      kept = p.count;
+      back = λ t b. date_in_list p.width (map date_of_signed_cell p.cells.now) t (p.count + 1 - b);
+    } };
+
+    fn back(&self, transition: TransitionId, behind: u64) -> i64 {
+        self.cells[cell_of(self.width, transition, self.count + 1 - behind)]
+    }
+}
+
+// The same rows, in as many bytes a date as it takes.
 #[derive(Drop)]
 pub(crate) struct AllRows<'a> {
     pub(crate) width: usize,

@@ -1,21 +1,25 @@
 //! The rows of the least dating of a system, as many as a caller asks for.
-ghost use Rattle.std.specs.Prelude.{◌≡◌, ◌+◌, ◌-◌, ◌*◌, ◌<◌, ◌≤◌, ◌++◌, length, [], IfOk};
+ghost use Rattle.std.specs.Prelude.{◌≡◌, ◌+◌, ◌-◌, ◌*◌, ◌<◌, ◌≤◌, ◌++◌, length, map, [], IfOk};
 ghost use Rattle.teg_net.specs.Nets.{IsNet};
 ghost use Rattle.teg_net.specs.Limits.{most_rows};
 ghost use Rattle.teg_dates.specs.DateTables.{date_at};
 ghost use Rattle.teg_dates.specs.PlaceOrder.{OrdersPlaces};
 ghost use Rattle.teg_dates.specs.Sources.{system_by};
-ghost use Rattle.teg_dates.specs.KeptRows.{KeepsBounds, AreFirstLeast, AreLeastRows, HasLeastDating};
+ghost use Rattle.teg_dates.specs.DateCells.{date_of_signed_cell};
+ghost use Rattle.teg_dates.specs.KeptRows.{AreCellsOf, KeepsBounds, KeepsShortBounds, AreFirstLeast, AreLeastRows, HasLeastDating, most_in_cells};
 
 use crate::date_list::PackedDates;
 use crate::order::{OrderedPlace, PlaceOrder};
 use crate::passes::fill_row;
-use crate::past::{AllRows, cell_of};
+use crate::past::{AllCells, AllRows, cell_of};
 use crate::sources::Source;
 use dioid::Date;
 use std::alloc::Global;
 use std::marker::Model;
 use teg_net::{Net, OutOfMemory, TransitionId};
+
+// The numbers of rows that can be made in cells of eight bytes.
+const MOST_IN_CELLS: u64 = 1_000_000;
 
 // Writes the row of the number behind the dates of the numbers before it.
 fn fill_next<S: Source>(
@@ -47,15 +51,42 @@ fn fill_next<S: Source>(
     fill_row(net, order, source, &past, row, number);
 }
 
+// Writes the row of the next number in cells.
+fn fill_next_cells<S: Source>(
+    net: &Net,
+    order: &[OrderedPlace],
+    source: &S,
+    past: &AllCells<'_>,
+    row: &mut [i64],
+)
+    requires order { OrdersPlaces net.now order.now }
+    requires bounded { KeepsShortBounds (system_by S.Source source.now net.now) }
+    requires few { past.now.count < most_in_cells }
+    requires full { length row.old ≡ length net.now.transitions }
+    requires before { AreCellsOf net.now (system_by S.Source source.now net.now) past.now.width
+        past.now.count past.now.cells.now }
+    ensures full { length row.new ≡ length net.now.transitions }
+    ensures least { AreFirstLeast net.now (system_by S.Source source.now net.now)
+        (past.now.count + 1) (map date_of_signed_cell past.now.cells.now ++ map date_of_signed_cell
+        row.new) }
+    ensures exists { HasLeastDating (system_by S.Source source.now net.now) }
+{
+    // The net keeps its rules.
+    net.rules();
+    let number = past.count + 1;
+    fill_row(net, order, source, past, row, number);
+}
+
 /// The dates of the first firings of each transition, number by number: one row a number, at most
 /// 10^15 of them, which is more than any memory holds. A date takes eight bytes, as long as each is
-/// below 2^64 - 2. Contracts see them as those of a table.
+/// below 2^63 - 1. Contracts see them as those of a table.
 #[derive(Debug, Drop)]
 pub struct Rows {
     width: usize,
     count: u64,
     dates: PackedDates,
     next: Vec<Date>,
+    next_cells: Vec<i64>,
 }
 
 impl Model for Rows {
@@ -85,6 +116,7 @@ impl Rows {
             count: 0,
             dates: PackedDates::new(alloc),
             next: Vec::new(alloc),
+            next_cells: Vec::new(alloc),
         }
     }
 
@@ -120,6 +152,45 @@ impl Rows {
         );
         rows.dates.extend(&rows.next)?;
         rows.count = number;
+        Ok(rows)
+    }
+
+    /// The rows of [`with_next`](Rows::with_next), of a system whose dates up to number 1,000,000
+    /// fit into eight bytes: those rows are made in eight bytes a date, so that they take a third of
+    /// the time and less.
+    pub fn with_next_in_cells<S: Source>(
+        self,
+        net: &Net,
+        order: &PlaceOrder,
+        source: &S,
+    ) -> Result<Rows, OutOfMemory>
+        requires order { OrdersPlaces net.now order.now }
+        requires bounded { KeepsShortBounds (system_by S.Source source.now net.now) }
+        requires few { self.count < most_rows }
+        requires rows { AreLeastRows net.now (system_by S.Source source.now net.now) self }
+        ensures count { IfOk result (λ rows. rows.count ≡ self.count + 1) }
+        ensures limits { IfOk result IsRows }
+        ensures rows { IfOk result (AreLeastRows net.now (system_by S.Source source.now net.now)) }
+        ensures exists { IfOk result (λ _. HasLeastDating (system_by S.Source source.now net.now)) }
+    {
+        if self.count >= MOST_IN_CELLS {
+            return self.with_next(net, order, source);
+        }
+        let mut rows = self;
+        rows.next_cells.resize(rows.width, 0)?;
+        match rows.dates.cells() {
+            None => return rows.with_next(net, order, source),
+            Some(cells) => {
+                let past = AllCells {
+                    width: rows.width,
+                    count: rows.count,
+                    cells,
+                };
+                fill_next_cells(net, order.turns(), source, &past, &mut rows.next_cells);
+            }
+        }
+        rows.dates.extend_cells(&rows.next_cells)?;
+        rows.count += 1;
         Ok(rows)
     }
 

@@ -21,7 +21,7 @@ use Rattle.periodic_laws.proofs.teg_model_proofs.Tokens.{implicit_gives}
 use Rattle.periodic_laws.proofs.teg_model_proofs.Within.{within_more, least_in_within, net_is_bounded}
 use Rattle.periodic_laws.proofs.teg_model_proofs.ListDates.{first_bound, listed_within}
 use Rattle.periodic_laws.proofs.teg_model_proofs.DateFunctions.{Dating}
-use Rattle.teg_dates.specs.KeptRows.{KeepsBounds}
+use Rattle.teg_dates.specs.KeptRows.{KeepsShortBounds}
 use Rattle.teg_dates.proofs.Ranking.{rank_of, ranks_of}
 use Rattle.periodic_laws.proofs.settled_laws_proofs.Everywhere.{Climbing}
 use Rattle.periodic_laws.proofs.settled_laws_proofs.Settling.{HasNoRelease, FollowsRelease}
@@ -132,8 +132,8 @@ bounded net r ok = record {
   release = λ t k o. release_as_within net (wait_in r.waits.items t) k ok;
 }
 
-pub keeps_bounds : (net : NetLists) (r : Releases) → IsNet net → KeepsBounds (system_for r net)
-keeps_bounds net r ok = (first_bound, bounded net r ok, omega arith)
+pub keeps_bounds : (net : NetLists) (r : Releases) → IsNet net → KeepsShortBounds (system_for r net)
+keeps_bounds net r ok = (first_bound, bounded net r ok, omega arith, omega arith)
 
 pub dates_on : (net : NetLists) (r : Releases) (most : ℕ) (h : IsReady net r most) (x : Dating) → IsLeastIn (system_for r net) x
     → (t k : ℕ) → 1 ≤ k → k ≤ greatest_firing_number → IsDateWithin greatest_least_date (x t k)

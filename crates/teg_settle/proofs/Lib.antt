@@ -5,6 +5,7 @@ pub mod Tested
 pub mod Copying
 pub mod Owning
 pub mod Limiting
+mod OneDate
 pub mod OwnForms
 pub mod Reaching
 pub mod Transferring

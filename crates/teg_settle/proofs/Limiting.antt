@@ -13,6 +13,7 @@ use Rattle.teg_settle.specs.declared.refusals.SettleRefusal.{SettleRefusal}
 use Rattle.teg_settle.specs.declared.refusals.SettleRefusal.TheVariants.{TooLong, OutOfMemory}
 use Rattle.teg_settle.specs.LimitRefusals.{IsRightSettleRefusal}
 use Rattle.teg_settle.specs.InitialReleases.{OnlyInputsWait}
+use Rattle.teg_settle.specs.Spans.{AreSpans}
 use Rattle.teg_settle.specs.declared.search.Found.{Found}
 use Rattle.teg_settle.specs.Copies.{IsFormOf}
 use Rattle.teg_settle.specs.ShortestForms.{IsFound}
@@ -21,8 +22,8 @@ use Rattle.teg_settle.proofs.Leasts.{least, least_is, dates_on}
 use Rattle.teg_settle.proofs.Tested.{window_of}
 
 pub ready : (net : NetLists) (r : Releases) (ranks : List ℕ) (most : ℕ) → IsNet net → IsRanking net ranks
-    → OnlyInputsWait net r.waits.items → 1 ≤ most → All (λ p. p.tokens ≤ most) net.places → IsReady net r most
-ready net r ranks most ok ranking waits some tokens = record { is_net = ok; ranks = ranks; ranking = ranking; waits = waits; some = some; tokens = tokens }
+    → OnlyInputsWait net r.waits.items → AreSpans net r.spans.items → 1 ≤ most → All (λ p. p.tokens ≤ most) net.places → IsReady net r most
+ready net r ranks most ok ranking waits spans some tokens = record { is_net = ok; ranks = ranks; ranking = ranking; waits = waits; spans = spans; some = some; tokens = tokens }
 
 -- no form is seen in rows that show each form within the limit
 pub past_unseen : (net : NetLists) (r : Releases) (most limit last : ℕ) → IsReady net r most → last ≡ 2 * limit + most

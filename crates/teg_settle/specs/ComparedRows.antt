@@ -17,6 +17,7 @@ use Rattle.teg_dates.specs.KeptRows.{IsRows, AreLeastRows}
 use Rattle.teg_settle.specs.declared.releases.Releases.{Releases}
 use Rattle.teg_settle.specs.declared.releases.Repetition.{Repetition}
 use Rattle.teg_settle.specs.InitialReleases.{OnlyInputsWait, release_by, system_for}
+use Rattle.teg_settle.specs.Spans.{AreSpans}
 
 -- rows that a window may have, and a period, at most
 abbrev pub most_window : ℕ
@@ -57,12 +58,13 @@ abbrev pub AreReleasedAlike : NetLists → Releases → TableDates → ℕ → �
 AreReleasedAlike net r rows period after =
     (t : ℕ) → t < length net.transitions → GoesOnBy (release_by r.waits.items net t) after period (read_step rows period t)
 
--- a live net, releases of its inputs, and a number that no place's tokens exceed
+-- a live net, releases of its inputs with from where on they go on evenly, and a number that no place's tokens exceed
 pub record IsReady (net : NetLists) (r : Releases) (most : ℕ) : Type 0 where
   pub is_net : IsNet net
   pub ranks : List ℕ
   pub ranking : IsRanking net ranks
   pub waits : OnlyInputsWait net r.waits.items
+  pub spans : AreSpans net r.spans.items
   pub some : 1 ≤ most
   pub tokens : All (λ p. p.tokens ≤ most) net.places
 

@@ -2,11 +2,10 @@
 -- input lists, or one input alone. The ghost members of `Releases` are `initial_by` and `release_by`, and the contract
 -- of `own_releases` rests on `AreWaits` and `wait_of`; no other of them stands below the contract of a public call, but
 -- those that these name.
-use Rattle.std.specs.Prelude.{ℕ, ◌+◌, ◌<◌, ◌≤◌, ◌≡◌, ◌==◌, if◌then◌else◌, List, Option, Some, None, length, slice_get, slice_index_or}
+use Rattle.std.specs.Prelude.{ℕ, ◌<◌, ◌≡◌, ◌==◌, if◌then◌else◌, List, Option, Some, None, length, slice_get, slice_index_or}
 use Rattle.std.specs.List.{position_or_len}
 use Rattle.dioid.specs.declared.dates.Date.{Date}
 use Rattle.dioid.specs.declared.dates.Date.TheVariants.{Early}
-use Rattle.dioid.specs.Dates.{delayed}
 use Rattle.teg_net.specs.declared.entries.Role.{Role}
 use Rattle.teg_net.specs.declared.entries.Role.TheVariants.{Internal, Input, Output}
 use Rattle.teg_net.specs.declared.entries.Transition.{Transition}
@@ -79,9 +78,3 @@ wait_from net input t = if input == t then Dates (length net.inputs) else Nothin
 pub record OnlyInputsWait (net : NetLists) (waits : List Wait) : Type 0 where
   pub count : length waits ≡ length net.transitions
   pub inputs : (t list : ℕ) → wait_in waits t ≡ Dates list → IsInput net t
-
--- past `long` the dates u go on by the same delay in each `every` numbers
-pub record HasSpan (u : ℕ → Date) (long every : ℕ) : Type 0 where
-  pub some : 1 ≤ every
-  pub gap : ℕ
-  pub again : (k : ℕ) → long < k → u (k + every) ≡ delayed gap (u k)

@@ -10,7 +10,9 @@ pub mod Copies
 pub mod Transfers
 pub mod Alone
 pub mod Reached
+pub mod Spans
 pub mod Spread
+pub mod LeastDates
 pub mod Endless
 pub mod Steps
 pub mod SlopesOfNets

@@ -11,12 +11,14 @@ use Rattle.teg_settle.specs.declared.releases.Tokens.TheVariants.{Ready}
 use Rattle.teg_settle.specs.declared.releases.Releases.{Releases}
 use Rattle.teg_settle.specs.declared.releases.Repetition.{Repetition}
 use Rattle.teg_settle.specs.InitialReleases.{AreWaits, wait_of}
+use Rattle.teg_settle.specs.Spans.{AreSpans}
 use Rattle.teg_settle.specs.ComparedRows.{read_step}
 
--- the releases are the ready dates and the input lists of the net
+-- the releases are the ready dates and the input lists of the net, with from where on these go on evenly
 pub record AreOwnReleases (net : NetLists) (r : Releases) : Type 0 where
   pub tokens : r.tokens ≡ Ready
   pub waits : AreWaits net (wait_of net) r.waits.items
+  pub spans : AreSpans net r.spans.items
 
 -- past this number the least dating goes on in this period by the steps of the rows, and no smaller number and no smaller period will do
 pub record ShowsForm (net : NetLists) (rows : TableDates) (f : Repetition) : Type 0 where

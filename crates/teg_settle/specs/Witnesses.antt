@@ -5,6 +5,7 @@ use Rattle.teg_dates.specs.DateTables.{TableDates}
 use Rattle.teg_settle.specs.declared.releases.Releases.{Releases}
 use Rattle.teg_settle.specs.declared.witness.Witness.{Witness}
 use Rattle.teg_settle.specs.declared.witness.Witness.TheVariants.{Fall, Firing, Release}
+use Rattle.teg_settle.specs.Spans.{AreSpans}
 use Rattle.teg_settle.specs.ComparedRows.{IsRisingPlace, IsMovedPast, AreReleasedAlike, AreComparedRows}
 
 -- a period that is tested on rows of dates and on releases, past a number
@@ -19,10 +20,11 @@ pub record TestedPeriod : Type 0 where
 abbrev pub tested_period : NetLists → Releases → TableDates → ℕ → ℕ → TestedPeriod
 tested_period net r rows period after = record { net = net; releases = r; rows = rows; period = period; after = after }
 
--- the rows have room for the period, past the number too
-pub record IsTestable (net : NetLists) (rows : TableDates) (period after : ℕ) : Type 0 where
+-- the rows have room for the period, past the number too, and the releases tell from where on lists go on evenly
+pub record IsTestable (net : NetLists) (r : Releases) (rows : TableDates) (period after : ℕ) : Type 0 where
   pub window : AreComparedRows net rows period
   pub room : after + period ≤ rows.count
+  pub spans : AreSpans net r.spans.items
 
 -- the step falls along some place
 abbrev pub HasFall : TestedPeriod → Type 0

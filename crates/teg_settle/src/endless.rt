@@ -6,10 +6,11 @@ ghost use Rattle.teg_settle.specs.Endless.{HasFormBy};
 ghost use Rattle.teg_settle.specs.InitialReleases.{AreWaits, wait_of};
 ghost use Rattle.teg_settle.specs.ShortestForms.{IsFound};
 ghost use Rattle.teg_settle.specs.SlopesOfNets.{HasSlopes};
+ghost use Rattle.teg_settle.specs.Spans.{AreSpans};
 ghost use Rattle.teg_settle.specs.ComparedRows.{IsReady};
 
 use crate::releases::{Releases, Tokens};
-use crate::search::{Found, dates_of, form_of, grow, ready_tokens, seen};
+use crate::search::{Found, MOST_ROWS, dates_of, form_of, grow, ready_tokens, seen};
 use crate::settled::Settled;
 use crate::shown::SettledDates;
 use periodic_laws::least_datings_repeat;
@@ -17,10 +18,6 @@ use std::alloc::Global;
 use teg_check::Live;
 use teg_dates::{PlaceOrder, Rows};
 use teg_net::{Net, OutOfMemory};
-
-// Where more rows than this show no form, no further ones are made: the dates of so many fill more
-// than 47 bits of addresses tell apart.
-const MOST_ROWS: u64 = 20_000_000_000_000;
 
 // Rows that show the shortest form, where a form is known to be: they are doubled until they show
 // one.
@@ -59,6 +56,7 @@ fn found(alloc: Global, net: &Net, live: &Live, releases: &Releases) -> Result<F
     requires stands { IsRanking net.now live.now }
     requires tokens { releases.now.tokens ≡ Tokens.Ready }
     requires waits { AreWaits net.now (wait_of net.now) releases.now.waits.items }
+    requires spans { AreSpans net.now releases.now.spans.items }
     ensures found { IfOk result (IsFound net.now releases.now) }
 {
     least_datings_repeat();

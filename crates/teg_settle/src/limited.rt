@@ -9,6 +9,7 @@ ghost use Rattle.teg_settle.specs.LimitRefusals.{IsRightSettleRefusal, greatest_
 ghost use Rattle.teg_settle.specs.InitialReleases.{OnlyInputsWait};
 ghost use Rattle.teg_settle.specs.ShortestForms.{IsFound};
 ghost use Rattle.teg_settle.specs.SlopesOfNets.{HasSlopes};
+ghost use Rattle.teg_settle.specs.Spans.{AreSpans};
 ghost use Rattle.teg_settle.specs.Transfers.{IsTransferOf, TransferSettlesPast};
 ghost use Rattle.teg_settle.specs.ComparedRows.{IsLeastForm, IsReady, LeastSettlesPast};
 
@@ -44,12 +45,14 @@ fn found_within(
         limit) }
 {
     let last = 2 * u64::from(limit) + most;
-    match search(alloc, net, live, releases, most, last)? {
-        Some(found) => {
-            if found.form.after + found.form.period > u64::from(limit) {
+    let searched = search(alloc, net, live, releases, most, last)?;
+    match searched.form {
+        Some(form) => {
+            if form.after + form.period > u64::from(limit) {
                 return Err(SettleRefusal::TooLong { limit });
             }
-            Ok(found)
+            let rows = searched.rows;
+            Ok(Found { rows, form })
         }
         None => Err(SettleRefusal::TooLong { limit }),
     }
@@ -65,6 +68,7 @@ fn within(
 ) -> Result<Settled, SettleRefusal>
     requires stands { IsRanking net.now live.now }
     requires waits { OnlyInputsWait net.now releases.now.waits.items }
+    requires spans { AreSpans net.now releases.now.spans.items }
     requires few { limit ≤ greatest_limit }
     ensures form { IfOk result (IsLeastForm net.now releases.now) }
     ensures within { IfOk result (λ form. settled_length form ≤ limit) }
@@ -87,6 +91,7 @@ fn dates_within(
 ) -> Result<SettledDates, SettleRefusal>
     requires stands { IsRanking net.now live.now }
     requires waits { OnlyInputsWait net.now releases.now.waits.items }
+    requires spans { AreSpans net.now releases.now.spans.items }
     requires few { limit ≤ greatest_limit }
     ensures form { IfOk result (IsLeastForm net.now releases.now) }
     ensures within { IfOk result (λ form. settled_length form ≤ limit) }
@@ -105,7 +110,7 @@ fn dates_within(
 /// where the settling length exceeds it. `OutOfMemory` comes only where no memory is found. For a
 /// settling length l, or a limit l below it, it makes rows of order l for all transitions, each in
 /// time of order `n + p` for n transitions and p places, and keeps them, eight bytes a date where
-/// dates are below 2^64 - 2. Of order l periods are tried: most are refuted by what refuted one
+/// dates are below 2^63 - 1. Of order l periods are tried: most are refuted by what refuted one
 /// before, and each other one takes time of at most the order of all these dates and of those of
 /// the input lists.
 pub fn settle_within(
@@ -126,7 +131,7 @@ pub fn settle_within(
 }
 
 /// The form of [`settle_within`], for callers that ask for some of its dates: it keeps the rows of
-/// the search, eight bytes a date where dates are below 2^64 - 2, and makes no other table of them.
+/// the search, eight bytes a date where dates are below 2^63 - 1, and makes no other table of them.
 pub fn settle_dates_within(
     alloc: Global,
     net: &Net,

@@ -1,11 +1,13 @@
 //! What firings wait for beside the tokens of earlier firings: the net's own initial tokens and
 //! input lists, or one input alone.
-ghost use Rattle.std.specs.Prelude.{◌≡◌, ◌<◌, ◌≤◌, ◌^◌, IfOk};
-ghost use Rattle.teg_net.specs.Limits.{greatest_firing_number, most_input_dates, greatest_every};
+ghost use Rattle.std.specs.Prelude.{◌≡◌, ◌≤◌, ◌^◌, IfOk};
+ghost use Rattle.teg_net.specs.Limits.{greatest_firing_number};
 ghost use Rattle.teg_net.specs.Nets.{IsNet};
 ghost use Rattle.periodic_laws.specs.teg_model.DateBounds.{IsDateWithin};
-ghost use Rattle.teg_settle.specs.InitialReleases.{AreWaits, HasSpan, date_of_list, list_number, release_by, wait_by_role, wait_from, wait_in, wait_of};
+ghost use Rattle.teg_settle.specs.InitialReleases.{AreWaits, list_number, release_by, wait_by_role, wait_from, wait_in, wait_of};
+ghost use Rattle.teg_settle.specs.Spans.{AreSpans, IsSpan};
 
+use crate::lists::{Span, date_of_list, list_number, spans_of};
 use dioid::Date;
 use std::alloc::{AllocError, Global};
 use teg_dates::Source;
@@ -39,28 +41,13 @@ pub struct Repetition {
 }
 
 /// The ready dates and the input lists of a net, or one input alone. With the places of a net they
-/// make a system: each list is found once, and not for each firing. Contracts see them by
-/// `AreOwnReleases`.
+/// make a system: each list is found once, and not for each firing, and so is from where on its
+/// dates go on evenly. Contracts see them by `AreOwnReleases`.
 #[derive(Debug, Drop)]
 pub struct Releases {
     tokens: Tokens,
     waits: Vec<Wait>,
-}
-
-// The date that the list of this number gives the firing, and 0 where the net has no such list.
-fn date_of_list(net: &Net, list: usize, number: u64) -> Date
-    requires first { 1 ≤ number }
-    requires last { number ≤ greatest_firing_number }
-    ensures value { result ≡ date_of_list net.now list number }
-    ensures within { IsDateWithin (2 ^ 126) result }
-{
-    match net.inputs().get(list) {
-        None => Date::At(0),
-        Some(list) => match list.date(number) {
-            Some(date) => Date::At(date as i128),
-            None => Date::Never,
-        },
-    }
+    spans: Vec<Span>,
 }
 
 // What a transition of this role waits for.
@@ -73,25 +60,12 @@ fn wait_of(net: &Net, transition: TransitionId, role: Role) -> Wait
     }
 }
 
-// The number of the transition's list, or of no list.
-fn list_number(net: &Net, transition: TransitionId) -> usize
-    ensures { result ≡ list_number net.now transition.index }
-{
-    let lists = net.inputs();
-    match lists
-        .iter()
-        .position(|list| list.transition.index == transition.index)
-    {
-        Some(number) => number,
-        None => lists.len(),
-    }
-}
-
 impl Releases {
     // Each initial token from its ready date on, and each input by its list.
     pub(crate) fn of_net(alloc: Global, net: &Net) -> Result<Releases, AllocError>
         ensures tokens { IfOk result (λ r. r.tokens ≡ Tokens.Ready) }
         ensures waits { IfOk result (λ r. AreWaits net.now (wait_of net.now) r.waits.items) }
+        ensures spans { IfOk result (λ r. AreSpans net.now r.spans.items) }
         ensures rules { IsNet net.now }
     {
         let mut waits = Vec::new(alloc);
@@ -101,9 +75,12 @@ impl Releases {
             };
             waits.push(wait_of(net, id, transition.role))?;
         }
+        let spans = spans_of(alloc, net)?;
+        let tokens = Tokens::Ready;
         Ok(Releases {
-            tokens: Tokens::Ready,
+            tokens,
             waits,
+            spans,
         })
     }
 
@@ -116,6 +93,7 @@ impl Releases {
         ensures tokens { IfOk result (λ r. r.tokens ≡ Tokens.Absent) }
         ensures waits { IfOk result (λ r. AreWaits net.now (wait_from net.now input.index)
             r.waits.items) }
+        ensures spans { IfOk result (λ r. AreSpans net.now r.spans.items) }
         ensures rules { IsNet net.now }
     {
         let none = net.inputs().len();
@@ -128,9 +106,12 @@ impl Releases {
             };
             waits.push(wait)?;
         }
+        let tokens = Tokens::Absent;
+        let spans = spans_of(alloc, net)?;
         Ok(Releases {
-            tokens: Tokens::Absent,
+            tokens,
             waits,
+            spans,
         })
     }
 
@@ -159,42 +140,19 @@ impl Releases {
         }
     }
 
-    // From where on, and in how many numbers, these dates go on evenly.
-    pub(crate) fn span(&self, net: &Net, transition: TransitionId) -> Repetition
-        ensures evenly { HasSpan (release_by self.now.waits.items net.now transition.index)
-            result.after result.period }
-        ensures few { result.after ≤ most_input_dates }
-        ensures short { result.period ≤ greatest_every }
+    // From where on, and by which gap in how many numbers, these dates go on evenly.
+    pub(crate) fn span(&self, net: &Net, transition: TransitionId) -> Span
+        requires { AreSpans net.now self.now.spans.items }
+        ensures { IsSpan (release_by self.now.waits.items net.now transition.index) result }
     {
         match self.wait(transition) {
-            Wait::Nothing => Repetition {
-                after: 0,
-                period: 1,
-            },
-            Wait::Dates(list) => span_of_list(net, list),
-        }
-    }
-}
-
-// From where on, and in how many numbers, the dates of the list of this number go on evenly.
-fn span_of_list(net: &Net, list: usize) -> Repetition
-    ensures evenly { HasSpan (date_of_list net.now list) result.after result.period }
-    ensures few { result.after ≤ most_input_dates }
-    ensures short { result.period ≤ greatest_every }
-{
-    match net.inputs().get(list) {
-        None => Repetition {
-            after: 0,
-            period: 1,
-        },
-        Some(list) => {
-            let after = list.dates.as_slice().len() as u64;
-            match list.again {
-                None => Repetition { after, period: 1 },
-                Some(again) => Repetition {
-                    after,
-                    period: again.every as u64,
-                },
+            Wait::Nothing => Span::from_start(),
+            Wait::Dates(list) => {
+                if list < self.spans.len() {
+                    self.spans[list]
+                } else {
+                    Span::from_start()
+                }
             }
         }
     }

@@ -1,11 +1,12 @@
 //! The growing search for the shortest form: rows are made until they show one.
-ghost use Rattle.std.specs.Prelude.{◌≡◌, ◌+◌, ◌-◌, ◌<◌, ◌≤◌, All, IfOk, IfSome, MatchOption, MatchResult, ℕ};
+ghost use Rattle.std.specs.Prelude.{◌≡◌, ◌+◌, ◌-◌, ◌<◌, ◌≤◌, All, IfOk, MatchOption, MatchResult, ℕ};
 ghost use Rattle.teg_net.specs.Nets.{IsNet};
 ghost use Rattle.teg_check.specs.Ranks.{IsRanking};
 ghost use Rattle.periodic_laws.specs.settled_laws.SettledForms.{settled_length};
 ghost use Rattle.teg_dates.specs.PlaceOrder.{OrdersPlaces};
 ghost use Rattle.teg_settle.specs.InitialReleases.{OnlyInputsWait};
-ghost use Rattle.teg_settle.specs.ShortestForms.{IsFound};
+ghost use Rattle.teg_settle.specs.ShortestForms.{IsFound, IsSearched};
+ghost use Rattle.teg_settle.specs.Spans.{AreSpans};
 ghost use Rattle.teg_settle.specs.ComparedRows.{AreRowsOf, IsLeastForm, IsReady, IsRefuted, IsSeen, IsSeenFrom, IsTrial, most_window};
 
 use crate::releases::{Releases, Repetition};
@@ -18,11 +19,22 @@ use teg_check::Live;
 use teg_dates::{PlaceOrder, Rows};
 use teg_net::{Net, OutOfMemory};
 
+// Where more rows than this show no form, no further ones are made: the dates of so many fill more
+// than 47 bits of addresses tell apart.
+pub(crate) const MOST_ROWS: u64 = 20_000_000_000_000;
+
 // Rows of dates, and past which of their numbers they go on in each period.
 #[derive(Debug, Drop)]
 pub(crate) struct Found {
     pub(crate) rows: Rows,
     pub(crate) form: Repetition,
+}
+
+// Rows of dates, and past which of their numbers they go on in each period, if they show it.
+#[derive(Debug, Drop)]
+pub(crate) struct Searched {
+    pub(crate) rows: Rows,
+    pub(crate) form: Option<Repetition>,
 }
 
 // The least number past which the dates go on in this period, if the rows are enough to see it.
@@ -116,7 +128,7 @@ pub(crate) fn grow(
 {
     let mut rows = rows;
     for _number in rows.count()..count {
-        rows = rows.with_next(net, order, releases)?;
+        rows = rows.with_next_in_cells(net, order, releases)?;
     }
     Ok(rows)
 }
@@ -139,14 +151,15 @@ fn most_tokens(net: &Net) -> u64
 pub(crate) fn ready_tokens(net: &Net, _live: &Live, releases: &Releases) -> u64
     requires stands { IsRanking net.now _live.now }
     requires waits { OnlyInputsWait net.now releases.now.waits.items }
+    requires spans { AreSpans net.now releases.now.spans.items }
     ensures ready { IsReady net.now releases.now result }
     ensures few { result ≤ 1000 }
 {
     most_tokens(net)
 }
 
-// The shortest form that at most `last` rows show: the rows are doubled until they show one, so
-// that it takes few more rows than the form needs.
+// Rows that show the shortest form, or `last` rows that show none: the rows are doubled until they
+// show one, so that it takes few more rows than the form needs.
 pub(crate) fn search(
     alloc: Global,
     net: &Net,
@@ -154,13 +167,12 @@ pub(crate) fn search(
     releases: &Releases,
     most: u64,
     last: u64,
-) -> Result<Option<Found>, OutOfMemory>
+) -> Result<Searched, OutOfMemory>
     requires stands { IsRanking net.now live.now }
     requires ready { IsReady net.now releases.now most }
     requires tokens { most ≤ 1000 }
     requires few { last ≤ most_window }
-    ensures { IfOk result (λ found. MatchOption found ((period : ℕ)
-        → IsRefuted net.now releases.now most last period) (IsFound net.now releases.now)) }
+    ensures { IfOk result (IsSearched net.now releases.now most last) }
 {
     let order = PlaceOrder::new(alloc, net, live)?;
     let mut rows = Rows::new(alloc, net);
@@ -168,12 +180,15 @@ pub(crate) fn search(
     while rows.count() < last {
         rows = grow(net, releases, &order, rows, stage)?;
         match seen(net, releases, &rows, most) {
-            Some(form) => return Ok(Some(Found { rows, form })),
+            Some(form) => {
+                let form = Some(form);
+                return Ok(Searched { rows, form });
+            }
             None => {}
         }
         stage = (2 * stage).min(last);
     }
-    Ok(None)
+    Ok(Searched { rows, form: None })
 }
 
 // The form that the rows show.

@@ -5,8 +5,9 @@ ghost use Rattle.periodic_laws.specs.settled_laws.DateDifferences.{between};
 ghost use Rattle.periodic_laws.specs.teg_model.DateBounds.{IsDateWithin};
 ghost use Rattle.teg_settle.specs.InitialReleases.{release_by};
 ghost use Rattle.teg_settle.specs.ComparedRows.{AreReleasedAlike, GoesOnBy, IsMovedAt, IsMovedPast, IsRisingPlace, AreComparedRows, most_window, read_step};
+ghost use Rattle.teg_settle.specs.Spans.{AreSpans};
 
-use crate::releases::Releases;
+use crate::releases::{Releases, Repetition};
 use dioid::Date;
 use teg_dates::Rows;
 use teg_net::{Net, Place, TransitionId};
@@ -117,26 +118,26 @@ pub(crate) fn moved_past(net: &Net, rows: &Rows, period: u64, least: u64) -> u64
     least
 }
 
-// Whether past `after` the releases of the transition go on by the step in each period: tested from
-// the end of its list, where the dates go on evenly.
+// Whether past the number the releases of the transition go on by the step in each period: tested
+// from where on they go on evenly.
 fn is_released_alike(
     net: &Net,
     releases: &Releases,
     transition: TransitionId,
-    period: u64,
-    after: u64,
+    from: Repetition,
     step: i128,
 ) -> bool
-    requires after { after ≤ most_window }
-    requires period { period ≤ most_window }
+    requires after { from.after ≤ most_window }
+    requires period { from.period ≤ most_window }
+    requires spans { AreSpans net.now releases.now.spans.items }
     ensures { Decides result (GoesOnBy (release_by releases.now.waits.items net.now
-        transition.index) after period step) }
+        transition.index) from.after from.period step) }
 {
     let span = releases.span(net, transition);
-    let mut number = after.max(span.after) + span.period;
-    while number > after {
+    let mut number = from.after.max(span.after) + span.every;
+    while number > from.after {
         let early = releases.date(net, transition, number);
-        let late = releases.date(net, transition, number + period);
+        let late = releases.date(net, transition, number + from.period);
         if !is_step(early, late, step) {
             return false;
         }
@@ -155,6 +156,7 @@ pub(crate) fn are_released_alike(
 ) -> bool
     requires window { AreComparedRows net.now rows.now period }
     requires after { after ≤ most_window }
+    requires spans { AreSpans net.now releases.now.spans.items }
     ensures { Decides result (AreReleasedAlike net.now releases.now rows.now period after) }
 {
     for index in 0..net.transitions().len() {
@@ -162,7 +164,7 @@ pub(crate) fn are_released_alike(
             index: index as u32,
         };
         let step = step_in(net, rows, period, id);
-        if !is_released_alike(net, releases, id, period, after, step) {
+        if !is_released_alike(net, releases, id, Repetition { after, period }, step) {
             return false;
         }
     }

@@ -50,7 +50,7 @@ impl<'a> Model for PeriodTest<'a> {
 
     ghost view = { λ t. tested_period t.net.now t.releases.now t.rows.now t.period t.after };
 
-    ghost invariant = { λ t. IsTestable t.net.now t.rows.now t.period t.after };
+    ghost invariant = { λ t. IsTestable t.net.now t.releases.now t.rows.now t.period t.after };
 }
 
 impl<'a> PeriodTest<'a> {
@@ -62,7 +62,7 @@ impl<'a> PeriodTest<'a> {
         period: u64,
         after: u64,
     ) -> PeriodTest<'a>
-        requires { IsTestable net.now rows.now period after }
+        requires { IsTestable net.now releases.now rows.now period after }
         ensures { result ≡ tested_period net.now releases.now rows.now period after }
     {
         PeriodTest {
@@ -215,7 +215,7 @@ impl<'a> PeriodTest<'a> {
         ensures { IfSome result (λ _. HasReleasesApart self.now) }
     {
         let span = self.releases.span(self.net, transition);
-        let end = self.after.max(span.after) + span.period;
+        let end = self.after.max(span.after) + span.every;
         for back in 0..end - self.after {
             if self.is_release_apart(transition, end - back) {
                 return Some(end - back);

@@ -1,11 +1,11 @@
 use Rattle.std.proofs.Common.{arith}
 use Rattle.teg_net.specs.Nets.{IsNet}
 use Rattle.teg_model.specs.Datings.{listed_releases, system_of}
-use Rattle.teg_dates.proofs.Earliest.{earliest, earliest_is_least, earliest_of_net, net_keeps_bounds, walks_of_table}
+use Rattle.teg_dates.proofs.Earliest.{earliest, earliest_is_least, earliest_of_net, net_keeps_short_bounds, walks_of_table}
 use Rattle.teg_dates.proofs.first.first_dates.Goals as goal
 
-pub with_next-requires-clause-bounded : goal.with_next-requires-clause-bounded
-with_next-requires-clause-bounded c = net_keeps_bounds c.args.net.now c.new-rows.ensures.rules
+pub with_next_in_cells-requires-clause-bounded : goal.with_next_in_cells-requires-clause-bounded
+with_next_in_cells-requires-clause-bounded c = net_keeps_short_bounds c.args.net.now c.new-rows.ensures.rules
 
 pub new-requires-2 : goal.new-requires-2
 new-requires-2 c =

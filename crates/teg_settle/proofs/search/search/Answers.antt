@@ -2,4 +2,14 @@ use Rattle.std.proofs.Common.{arith}
 use Rattle.teg_settle.proofs.search.search.Goals as goal
 
 pub returns : goal.returns
-returns c = λ period x h after step rep fits. c.loop-order.invariant.refuted period x h after step rep (omega (arith, c.loop-order-test.false, c.loop-order.invariant.within))
+returns c =
+    let all = c.loop-order-test.false in
+    let h = c.loop-order.invariant in
+    record {
+      ready = c.requires.ready;
+      rows = h.rows;
+      shown = record {
+        all = omega (arith, h.within);
+        refuted = λ period x is after step rep fits. h.refuted period x is after step rep (omega (arith, h.within));
+      };
+    }

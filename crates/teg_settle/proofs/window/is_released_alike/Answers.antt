@@ -34,11 +34,11 @@ loop-number-preserved c =
 pub returns : goal.returns
 returns c =
     let u = release_by c.args.releases.now.waits.items c.args.net.now c.args.transition.index in
-    let span = c.span-span.ensures.evenly in
+    let span = c.span-span.ensures in
     let fits = c.ranges.step in
     let over = c.loop-number-test.false in
-    let going : GoOn u c.span-span.result.after c.span-span.result.period span.gap = record { at_least_one = span.some; again = span.again } in (
-      λ e. goes_on_again u c.span-span.result.after c.span-span.result.period span.gap c.args.after c.max.result c.args.period
+    let going : GoOn u c.span-span.result.after c.span-span.result.every c.span-span.result.gap = record { at_least_one = span.some; again = span.again } in (
+      λ e. goes_on_again u c.span-span.result.after c.span-span.result.every c.span-span.result.gap c.args.from.after c.max.result c.args.from.period
           c.args.step going (omega (arith, c.max.ensures)) (omega (arith, c.max.ensures))
           (λ k l m. simp to_z-of_z at (c.loop-number.invariant.alike k (omega arith) m)),
       λ h. refl,

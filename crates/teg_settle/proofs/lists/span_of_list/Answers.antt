@@ -2,13 +2,13 @@ use Rattle.std.proofs.Common.{◌≡◌, Some, sym, subst}
 use Rattle.std.specs.Prelude.{slice_get}
 use Rattle.teg_net.specs.Nets.{IsInputOf}
 use Rattle.teg_settle.proofs.Releasing.{got, span_list}
-use Rattle.teg_settle.proofs.releases.span_of_list.Goals as goal
+use Rattle.teg_settle.proofs.lists.span_of_list.Goals as goal
 
-pub returns-in-Some-again-clause-evenly : goal.returns-in-Some-again-clause-evenly
-returns-in-Some-again-clause-evenly c =
+pub returns-in-Some-again : goal.returns-in-Some-again
+returns-in-Some-again c =
     let net = c.args.net.now in
     let l = c.in-Some.list.now in
     let read = rw c.inputs.ensures.value at c.in-Some.ensures.lookup in
     let at : slice_get net.inputs c.args.list ≡ Some l = got net.inputs c.args.list l read.3.0 read.3.1 in
     let rules : IsInputOf net l = subst (IsInputOf net) (sym (read.3.1 l)) (c.inputs.ensures.rules.each_input c.args.list l read.3.0) in
-    rw c.as_slice.ensures (span_list net c.args.list l (Some c.in-Some-again.again) at rules.again c.in-Some-again.is)
+    rw c.as_slice.ensures (span_list net c.args.list l (Some c.in-Some-again.again) at rules.few rules.again c.in-Some-again.is)

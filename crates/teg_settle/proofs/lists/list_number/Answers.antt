@@ -2,7 +2,7 @@ use Rattle.std.proofs.Common.{◌∙◌, eqb, sym, rules, tests}
 use Rattle.std.proofs.lemmas.Iterator.{YieldsList-from_slice}
 use Rattle.std.proofs.lemmas.Iterator.Search.{position_from_yields_List}
 use Rattle.teg_settle.proofs.Releasing.{place_found, place_none}
-use Rattle.teg_settle.proofs.releases.list_number.Goals as goal
+use Rattle.teg_settle.proofs.lists.list_number.Goals as goal
 
 pub returns-in-Some : goal.returns-in-Some
 returns-in-Some c =
