@@ -36,6 +36,8 @@ mod records;
 #[cfg(test)]
 mod refusal_lines;
 #[cfg(test)]
+mod slack_witnesses;
+#[cfg(test)]
 mod streams;
 #[cfg(test)]
 mod texts;

@@ -1,15 +1,12 @@
 -- What the loops of the check decide.
-use Rattle.std.proofs.Common.{ℕ, zero, suc, ◌+◌, ◌-◌, ◌<◌, ◌≤◌, ◌≡◌, ◌≢◌, List, [], ◌∷◌, true, false, eqb, length, get_or, refl, sym, subst, arith, ⊎_elim}
-use Rattle.std.specs.Prelude.{ℤ, pos, All}
+use Rattle.std.proofs.Common.{ℕ, zero, suc, ◌+◌, ◌-◌, ◌<◌, ◌≤◌, ◌≡◌, ◌≢◌, List, [], ◌∷◌, true, false, eqb, length, get_or, refl, subst, arith, ⊎_elim}
+use Rattle.std.specs.Prelude.{ℤ, pos}
 use Rattle.std.proofs.lemmas.Bool.{cases_lt, eq-eqb, ne_eqb}
 use Rattle.std.proofs.lemmas.List.{get_or_default}
 use Rattle.std.proofs.lemmas.Int.{ints, to_z-of_z}
 use mir.Val.{SFits, to_z, of_z}
 use mir.Syntax.{w128}
-use Rattle.teg_net.specs.declared.entries.Place.{Place}
 use Rattle.teg_net.specs.declared.answers.Potential.{Potential}
-use Rattle.teg_net.specs.Nets.{NetLists}
-use Rattle.teg_net.specs.Circuits.{no_place, place_at}
 use Rattle.teg_net.specs.Limits.{greatest_checked_potential}
 use Rattle.teg_net.specs.ReducedTimes.{IsMagnitudeWithin}
 use Rattle.teg_net.specs.Certificates.{potential_at}
@@ -26,9 +23,6 @@ next_more P xs i none within h here k d l =
     (λ (q : k < i). h k d q)
     (λ (q : i ≤ k). let e : i ≡ k = omega arith in subst (λ z. P (get_or xs z d)) e (subst P (get_or_default xs i none d within) here))
     (cases_lt k i)
-
-pub each_place_of : (P : Place → Type 0) (net : NetLists) (n : ℕ) → length net.places ≤ n → ((k : ℕ) → k < n → P (place_at net (record { index = k }))) → All P net.places
-each_place_of P net n l h i d m = subst P (sym (get_or_default net.places i d no_place m)) (h i (omega arith))
 
 -- where each potential is of a later transition than the one before, those before i stand in order, and the next comes later
 pub order_more : (vs : List Potential) (i : ℕ) → 1 ≤ i → i < length vs

@@ -1,15 +1,13 @@
 //! Whether an answer is a certificate: a short check of the answer and the net alone.
-ghost use Rattle.std.specs.Prelude.{◌≡◌, ◌↔◌, ◌<◌, ◌≤◌, ◌*◌, All, IsTrue, length, slice_index};
+ghost use Rattle.std.specs.Prelude.{◌≡◌, ◌↔◌, ◌<◌, ◌≤◌, All, IsTrue, length, slice_index};
 ghost use Rattle.teg_net.specs.Ratios.{IsLowestTerms, IsRatioWithin};
-ghost use Rattle.teg_net.specs.Circuits.{IsCircuit, time_of, tokens_of};
 ghost use Rattle.teg_net.specs.Certificates.{IsPartCertificate, IsCertificate};
-ghost use Rattle.teg_net.specs.Limits.{greatest_circuit_time, most_circuit_tokens};
 ghost use Rattle.teg_certificates.specs.Checks.{AreNumbersOf, HasRatio, FitsBest, ArePartCertificates, FitsLists};
 
 use crate::first_best::is_first_best;
 use crate::inner_places::{all_inner, has_no_place};
 use crate::potentials::potentials_fit;
-use crate::sums::{CircuitSums, circuit_sums};
+use crate::sums::attains;
 use teg_net::{CycleAnswer, Net, PartAnswer, Place, PlaceId, Potential, Ratio, is_circuit};
 
 // The greatest time and the most tokens of a ratio in an answer that is checked.
@@ -33,17 +31,12 @@ fn rises_along(part_of: &[u32], place: &Place) -> bool
 }
 
 // Whether the numbers never fall along a place.
-fn never_fall(net: &Net, part_of: &[u32]) -> bool
+pub(crate) fn never_fall(net: &Net, part_of: &[u32]) -> bool
     requires { length part_of.now ≡ length net.now.transitions }
     ensures { IsTrue result ↔ All (λ p. slice_index part_of.now p.from.index ≤ slice_index
         part_of.now p.to.index) net.now.places }
 {
-    for place in net.places() {
-        if !rises_along(part_of, place) {
-            return false;
-        }
-    }
-    true
+    net.places().iter().all(|place| rises_along(part_of, place))
 }
 
 // Whether the numbers of transitions are those of parts, and never fall along a place.
@@ -63,30 +56,9 @@ pub(crate) fn is_within(ratio: Ratio) -> bool
     ratio.time() <= GREATEST_CHECKED_RATIO && ratio.tokens() <= GREATEST_CHECKED_RATIO
 }
 
-// Whether the sums have the ratio.
-fn is_ratio_of(ratio: Ratio, sums: CircuitSums) -> bool
-    requires limits { IsRatioWithin ratio }
-    requires time { sums.time ≤ greatest_circuit_time }
-    requires tokens { sums.tokens ≤ most_circuit_tokens }
-    ensures { IsTrue result ↔ (sums.time * ratio.tokens ≡ ratio.time * sums.tokens) }
-{
-    sums.time * u128::from(ratio.tokens()) == u128::from(ratio.time()) * sums.tokens
-}
-
-// Whether the circuit has the ratio.
-fn attains(net: &Net, ratio: Ratio, places: &[PlaceId]) -> bool
-    requires limits { IsRatioWithin ratio }
-    requires circuit { IsCircuit net.now places.now }
-    ensures { IsTrue result ↔ (time_of net.now places.now * ratio.tokens
-        ≡ ratio.time * tokens_of net.now places.now) }
-{
-    is_ratio_of(ratio, circuit_sums(net, places))
-}
-
 // Whether the places are a circuit in the part that has the ratio.
 fn has_ratio(net: &Net, part_of: &[u32], part: usize, ratio: Ratio, places: &[PlaceId]) -> bool
-    requires count { length part_of.now ≡ length net.now.transitions }
-    requires limits { IsRatioWithin ratio }
+    requires { length part_of.now ≡ length net.now.transitions }
     ensures { IsTrue result ↔ HasRatio net.now part_of.now part ratio places.now }
 {
     is_circuit(net, places) && all_inner(net, part_of, part, places) && attains(net, ratio, places)

@@ -14,7 +14,7 @@ use crate::sums::{CircuitSums, circuit_sums};
 use teg_net::{Net, Place, PlaceId, Ratio, is_circuit};
 
 // Whether the place is one of these.
-fn contains(places: &[PlaceId], place: PlaceId) -> bool
+pub(crate) fn contains(places: &[PlaceId], place: PlaceId) -> bool
     ensures { IsTrue result ↔ Contains places.now place }
 {
     places.iter().any(|id| id.index == place.index)
@@ -72,7 +72,7 @@ pub fn shows_never_enough(net: &Net, target: &Ratio, place: PlaceId, circuit: &[
 }
 
 // Whether the potentials keep their limit.
-fn all_within(potentials: &[i128]) -> bool
+pub(crate) fn all_within(potentials: &[i128]) -> bool
     ensures { IsTrue result ↔ All (IsMagnitudeWithin greatest_checked_potential) potentials.now }
 {
     potentials.iter().all(|value| {
