@@ -19,5 +19,7 @@ mod searches;
 mod slacks;
 
 pub use each_place::critical;
-pub use laws::{gaps_tell_slacks, slacks_are_of_the_net, slacks_are_one};
+pub use laws::{
+    gaps_tell_slacks, slacks_are_of_the_net, slacks_are_one, witnesses_tell_slacks,
+};
 pub use slacks::{Slack, Slacks};
