@@ -19,7 +19,5 @@ mod searches;
 mod slacks;
 
 pub use each_place::critical;
-pub use laws::{
-    gaps_tell_slacks, slacks_are_of_the_net, slacks_are_one, witnesses_tell_slacks,
-};
+pub use laws::{gaps_tell_slacks, slacks_are_of_the_net, slacks_are_one, witnesses_tell_slacks};
 pub use slacks::{Slack, Slacks};
