@@ -20,6 +20,8 @@ mod chapters_plans;
 #[cfg(test)]
 mod chapters_series;
 #[cfg(test)]
+mod conditions;
+#[cfg(test)]
 mod held_nets;
 #[cfg(test)]
 mod matrices;

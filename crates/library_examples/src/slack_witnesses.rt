@@ -1,9 +1,7 @@
 //! Slacks, checked by circuits, potentials and numbers alone; what is off by one shows nothing.
 use std::alloc::Global;
 use std::test::Fail;
-use teg_certificates::{
-    RiseWitness, check_cycle, shows_critical, shows_no_circuit, shows_rise,
-};
+use teg_certificates::{RiseWitness, check_cycle, shows_critical, shows_no_circuit, shows_rise};
 use teg_check::LiveNet;
 use teg_cycle::cycle;
 use teg_net::{Circuit, CycleAnswer, OutOfMemory, PlaceId};
@@ -12,7 +10,8 @@ use teg_reader::read_net;
 
 // Parts are cut, drilled and painted; the drill waits until the paint shop takes the part before,
 // so that the line has a cycle time of 8, and each painted part is shipped.
-const LINE: &[u8] = b"transition = [{name = 'cut'}, {name = 'drill'}, {name = 'paint'}, {name = 'ship'}]
+const LINE: &[u8] =
+    b"transition = [{name = 'cut'}, {name = 'drill'}, {name = 'paint'}, {name = 'ship'}]
 place = [
   {name = 'cut_free', from = 'cut', to = 'cut', hold = 4, tokens = 1},
   {name = 'drill_free', from = 'drill', to = 'drill', hold = 7, tokens = 1},
