@@ -64,23 +64,24 @@ fn has_ratio(net: &Net, part_of: &[u32], part: usize, ratio: Ratio, places: &[Pl
     is_circuit(net, places) && all_inner(net, part_of, part, places) && attains(net, ratio, places)
 }
 
-// Whether ratio, circuit and potentials are a certificate of the part.
-fn best_fits(
-    net: &Net,
-    part_of: &[u32],
-    part: usize,
+// What is told of a part with a circuit.
+#[derive(Drop)]
+struct BestTold<'a> {
     ratio: Ratio,
-    places: &[PlaceId],
-    potentials: &[Potential],
-) -> bool
+    circuit: &'a [PlaceId],
+    potentials: &'a [Potential],
+}
+
+// Whether ratio, circuit and potentials are a certificate of the part.
+fn best_fits(net: &Net, part_of: &[u32], part: usize, told: &BestTold) -> bool
     requires { length part_of.now ≡ length net.now.transitions }
-    ensures fits { IsTrue result ↔ FitsBest net.now part_of.now part ratio places.now
-        potentials.now }
-    ensures terms { IsLowestTerms ratio }
+    ensures fits { IsTrue result ↔ FitsBest net.now part_of.now part told.now.ratio
+        told.now.circuit.now told.now.potentials.now }
+    ensures terms { IsLowestTerms told.now.ratio }
 {
-    is_within(ratio)
-        && has_ratio(net, part_of, part, ratio, places)
-        && potentials_fit(net, part_of, part, ratio, potentials)
+    is_within(told.ratio)
+        && has_ratio(net, part_of, part, told.ratio, told.circuit)
+        && potentials_fit(net, part_of, part, told.ratio, told.potentials)
 }
 
 // Whether the answer is a certificate of the part.
@@ -94,7 +95,14 @@ fn part_fits(net: &Net, part_of: &[u32], part: usize, answer: &PartAnswer) -> bo
             ratio,
             circuit,
             potentials,
-        } => best_fits(net, part_of, part, *ratio, &circuit.places, potentials),
+        } => {
+            let told = BestTold {
+                ratio: *ratio,
+                circuit: &circuit.places,
+                potentials,
+            };
+            best_fits(net, part_of, part, &told)
+        }
     }
 }
 

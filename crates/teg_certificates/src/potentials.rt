@@ -148,11 +148,10 @@ fn keeps_potential(
     potentials: &[Potential],
     place: &Place,
 ) -> bool
-    requires from_in { place.now.from.index < length part_of.now }
-    requires to_in { place.now.to.index < length part_of.now }
+    requires ends { (place.now.from.index < length part_of.now)
+        × (place.now.to.index < length part_of.now) }
     requires limits { IsRatioWithin ratio }
-    requires hold { place.now.hold ≤ greatest_hold }
-    requires tokens { place.now.tokens ≤ most_place_tokens }
+    requires place { (place.now.hold ≤ greatest_hold) × (place.now.tokens ≤ most_place_tokens) }
     requires within { All (λ v. IsMagnitudeWithin greatest_checked_potential v.value)
         potentials.now }
     ensures { IsTrue result ↔ KeepsPotential part_of.now part ratio potentials.now place.now }
