@@ -1,4 +1,4 @@
-use Rattle.std.proofs.Common.{sym, subst}
+use Rattle.std.proofs.Common.{subst}
 use Rattle.teg_parts.specs.Partitions.{AreParts}
 use Rattle.teg_parts.proofs.OneParts.{one_parts}
 use Rattle.teg_parts.proofs.strong_parts.are_parts.Goals as goal
