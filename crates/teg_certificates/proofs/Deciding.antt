@@ -15,15 +15,6 @@ use Rattle.teg_net.specs.Certificates.{potential_at}
 abbrev pub none_told : Potential
 none_told = record { transition = record { index = 0 }; value = pos 0 }
 
--- what holds of each element below i, and of the next as it was read, holds of each below i + 1
-pub next_more : {X : Type 0} (P : X → Type 0) (xs : List X) (i : ℕ) (none : X) → i < length xs
-    → ((k : ℕ) (d : X) → k < i → P (get_or xs k d)) → P (get_or xs i none) → (k : ℕ) (d : X) → k < i + 1 → P (get_or xs k d)
-next_more P xs i none within h here k d l =
-    ⊎_elim
-    (λ (q : k < i). h k d q)
-    (λ (q : i ≤ k). let e : i ≡ k = omega arith in subst (λ z. P (get_or xs z d)) e (subst P (get_or_default xs i none d within) here))
-    (cases_lt k i)
-
 -- where each potential is of a later transition than the one before, those before i stand in order, and the next comes later
 pub order_more : (vs : List Potential) (i : ℕ) → 1 ≤ i → i < length vs
     → ((j k : ℕ) (d : Potential) → j < k → k < i → (get_or vs j d).transition.index < (get_or vs k d).transition.index)

@@ -17,7 +17,7 @@
 //! so are laws: so a reader may distrust whatever found an answer and still believe it.
 //! [`best_ratio`] reads the ratio of the net off an answer on cycle times.
 //! The crate stands on `teg_net` alone.
-//! Its examples stand in `worked_examples`.
+//! Its examples stand in `worked_examples` and `library_examples`.
 #![tactic(auto)]
 
 mod best_ratios;

@@ -45,12 +45,7 @@ fn only_members(part_of: &[u32], part: usize, potentials: &[Potential]) -> bool
     ensures { IsTrue result ↔ All (λ v. IsMember part_of.now part v.transition.index)
         potentials.now }
 {
-    for told in potentials {
-        if !is_member(part_of, part, told.transition.index as usize) {
-            return false;
-        }
-    }
-    true
+    potentials.iter().all(|told| is_member(part_of, part, told.transition.index as usize))
 }
 
 // Whether a potential is told of the transition.
