@@ -9,12 +9,13 @@ pub fn gaps_tell_slacks()
     ensures { GapsTellSlacks }
 {}
 
-/// A place has one slack.
+/// A place has one slack (chapters 2 and 3).
 pub fn slacks_are_one()
     ensures { SlacksAreOne }
 {}
 
-/// In a live net the slack of a place does not depend on how the greatest ratio is written.
+/// In a live net the slack of a place does not depend on how the greatest ratio is written (chapters
+/// 2 and 3).
 pub fn slacks_are_of_the_net()
     ensures { SlacksAreOfTheNet }
 {}
