@@ -20,6 +20,8 @@ mod chapters_plans;
 #[cfg(test)]
 mod chapters_series;
 #[cfg(test)]
+mod conditions;
+#[cfg(test)]
 mod held_nets;
 #[cfg(test)]
 mod made_nets;
@@ -39,6 +41,8 @@ mod plans;
 mod records;
 #[cfg(test)]
 mod refusal_lines;
+#[cfg(test)]
+mod slack_witnesses;
 #[cfg(test)]
 mod streams;
 #[cfg(test)]

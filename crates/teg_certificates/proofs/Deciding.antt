@@ -1,15 +1,12 @@
 -- What the loops of the check decide.
-use Rattle.std.proofs.Common.{ℕ, zero, suc, ◌+◌, ◌-◌, ◌<◌, ◌≤◌, ◌≡◌, ◌≢◌, List, [], ◌∷◌, true, false, eqb, length, get_or, refl, sym, subst, arith, ⊎_elim}
-use Rattle.std.specs.Prelude.{ℤ, pos, All}
+use Rattle.std.proofs.Common.{ℕ, zero, suc, ◌+◌, ◌-◌, ◌<◌, ◌≤◌, ◌≡◌, ◌≢◌, List, [], ◌∷◌, true, false, eqb, length, get_or, refl, subst, arith, ⊎_elim}
+use Rattle.std.specs.Prelude.{ℤ, pos}
 use Rattle.std.proofs.lemmas.Bool.{cases_lt, eq-eqb, ne_eqb}
 use Rattle.std.proofs.lemmas.List.{get_or_default}
 use Rattle.std.proofs.lemmas.Int.{ints, to_z-of_z}
 use mir.Val.{SFits, to_z, of_z}
 use mir.Syntax.{w128}
-use Rattle.teg_net.specs.declared.entries.Place.{Place}
 use Rattle.teg_net.specs.declared.answers.Potential.{Potential}
-use Rattle.teg_net.specs.Nets.{NetLists}
-use Rattle.teg_net.specs.Circuits.{no_place, place_at}
 use Rattle.teg_net.specs.Limits.{greatest_checked_potential}
 use Rattle.teg_net.specs.ReducedTimes.{IsMagnitudeWithin}
 use Rattle.teg_net.specs.Certificates.{potential_at}
@@ -17,18 +14,6 @@ use Rattle.teg_net.specs.Certificates.{potential_at}
 -- what stands past the end of a list of potentials
 abbrev pub none_told : Potential
 none_told = record { transition = record { index = 0 }; value = pos 0 }
-
--- what holds of each element below i, and of the next as it was read, holds of each below i + 1
-pub next_more : {X : Type 0} (P : X → Type 0) (xs : List X) (i : ℕ) (none : X) → i < length xs
-    → ((k : ℕ) (d : X) → k < i → P (get_or xs k d)) → P (get_or xs i none) → (k : ℕ) (d : X) → k < i + 1 → P (get_or xs k d)
-next_more P xs i none within h here k d l =
-    ⊎_elim
-    (λ (q : k < i). h k d q)
-    (λ (q : i ≤ k). let e : i ≡ k = omega arith in subst (λ z. P (get_or xs z d)) e (subst P (get_or_default xs i none d within) here))
-    (cases_lt k i)
-
-pub each_place_of : (P : Place → Type 0) (net : NetLists) (n : ℕ) → length net.places ≤ n → ((k : ℕ) → k < n → P (place_at net (record { index = k }))) → All P net.places
-each_place_of P net n l h i d m = subst P (sym (get_or_default net.places i d no_place m)) (h i (omega arith))
 
 -- where each potential is of a later transition than the one before, those before i stand in order, and the next comes later
 pub order_more : (vs : List Potential) (i : ℕ) → 1 ≤ i → i < length vs

@@ -5,4 +5,5 @@ pub mod BestRatios
 pub mod CertifiedNets
 pub mod RisingRanks
 pub mod Sizes
+pub mod SlackWitnesses
 pub use Rattle.teg_net.specs as teg_net

@@ -1,15 +1,13 @@
 //! Whether an answer is a certificate: a short check of the answer and the net alone.
-ghost use Rattle.std.specs.Prelude.{◌≡◌, ◌↔◌, ◌<◌, ◌≤◌, ◌*◌, All, IsTrue, length, slice_index};
+ghost use Rattle.std.specs.Prelude.{◌≡◌, ◌↔◌, ◌<◌, ◌≤◌, All, IsTrue, length, slice_index};
 ghost use Rattle.teg_net.specs.Ratios.{IsLowestTerms, IsRatioWithin};
-ghost use Rattle.teg_net.specs.Circuits.{IsCircuit, time_of, tokens_of};
 ghost use Rattle.teg_net.specs.Certificates.{IsPartCertificate, IsCertificate};
-ghost use Rattle.teg_net.specs.Limits.{greatest_circuit_time, most_circuit_tokens};
 ghost use Rattle.teg_certificates.specs.Checks.{AreNumbersOf, HasRatio, FitsBest, ArePartCertificates, FitsLists};
 
 use crate::first_best::is_first_best;
 use crate::inner_places::{all_inner, has_no_place};
 use crate::potentials::potentials_fit;
-use crate::sums::{CircuitSums, circuit_sums};
+use crate::sums::attains;
 use teg_net::{CycleAnswer, Net, PartAnswer, Place, PlaceId, Potential, Ratio, is_circuit};
 
 // The greatest time and the most tokens of a ratio in an answer that is checked.
@@ -33,17 +31,12 @@ fn rises_along(part_of: &[u32], place: &Place) -> bool
 }
 
 // Whether the numbers never fall along a place.
-fn never_fall(net: &Net, part_of: &[u32]) -> bool
+pub(crate) fn never_fall(net: &Net, part_of: &[u32]) -> bool
     requires { length part_of.now ≡ length net.now.transitions }
     ensures { IsTrue result ↔ All (λ p. slice_index part_of.now p.from.index ≤ slice_index
         part_of.now p.to.index) net.now.places }
 {
-    for place in net.places() {
-        if !rises_along(part_of, place) {
-            return false;
-        }
-    }
-    true
+    net.places().iter().all(|place| rises_along(part_of, place))
 }
 
 // Whether the numbers of transitions are those of parts, and never fall along a place.
@@ -63,52 +56,32 @@ pub(crate) fn is_within(ratio: Ratio) -> bool
     ratio.time() <= GREATEST_CHECKED_RATIO && ratio.tokens() <= GREATEST_CHECKED_RATIO
 }
 
-// Whether the sums have the ratio.
-fn is_ratio_of(ratio: Ratio, sums: CircuitSums) -> bool
-    requires limits { IsRatioWithin ratio }
-    requires time { sums.time ≤ greatest_circuit_time }
-    requires tokens { sums.tokens ≤ most_circuit_tokens }
-    ensures { IsTrue result ↔ (sums.time * ratio.tokens ≡ ratio.time * sums.tokens) }
-{
-    sums.time * u128::from(ratio.tokens()) == u128::from(ratio.time()) * sums.tokens
-}
-
-// Whether the circuit has the ratio.
-fn attains(net: &Net, ratio: Ratio, places: &[PlaceId]) -> bool
-    requires limits { IsRatioWithin ratio }
-    requires circuit { IsCircuit net.now places.now }
-    ensures { IsTrue result ↔ (time_of net.now places.now * ratio.tokens
-        ≡ ratio.time * tokens_of net.now places.now) }
-{
-    is_ratio_of(ratio, circuit_sums(net, places))
-}
-
 // Whether the places are a circuit in the part that has the ratio.
 fn has_ratio(net: &Net, part_of: &[u32], part: usize, ratio: Ratio, places: &[PlaceId]) -> bool
-    requires count { length part_of.now ≡ length net.now.transitions }
-    requires limits { IsRatioWithin ratio }
+    requires { length part_of.now ≡ length net.now.transitions }
     ensures { IsTrue result ↔ HasRatio net.now part_of.now part ratio places.now }
 {
     is_circuit(net, places) && all_inner(net, part_of, part, places) && attains(net, ratio, places)
 }
 
-// Whether ratio, circuit and potentials are a certificate of the part.
-fn best_fits(
-    net: &Net,
-    part_of: &[u32],
-    part: usize,
+// What is told of a part with a circuit.
+#[derive(Drop)]
+struct BestTold<'a> {
     ratio: Ratio,
-    places: &[PlaceId],
-    potentials: &[Potential],
-) -> bool
+    circuit: &'a [PlaceId],
+    potentials: &'a [Potential],
+}
+
+// Whether ratio, circuit and potentials are a certificate of the part.
+fn best_fits(net: &Net, part_of: &[u32], part: usize, told: &BestTold) -> bool
     requires { length part_of.now ≡ length net.now.transitions }
-    ensures fits { IsTrue result ↔ FitsBest net.now part_of.now part ratio places.now
-        potentials.now }
-    ensures terms { IsLowestTerms ratio }
+    ensures fits { IsTrue result ↔ FitsBest net.now part_of.now part told.now.ratio
+        told.now.circuit.now told.now.potentials.now }
+    ensures terms { IsLowestTerms told.now.ratio }
 {
-    is_within(ratio)
-        && has_ratio(net, part_of, part, ratio, places)
-        && potentials_fit(net, part_of, part, ratio, potentials)
+    is_within(told.ratio)
+        && has_ratio(net, part_of, part, told.ratio, told.circuit)
+        && potentials_fit(net, part_of, part, told.ratio, told.potentials)
 }
 
 // Whether the answer is a certificate of the part.
@@ -122,7 +95,14 @@ fn part_fits(net: &Net, part_of: &[u32], part: usize, answer: &PartAnswer) -> bo
             ratio,
             circuit,
             potentials,
-        } => best_fits(net, part_of, part, *ratio, &circuit.places, potentials),
+        } => {
+            let told = BestTold {
+                ratio: *ratio,
+                circuit: &circuit.places,
+                potentials,
+            };
+            best_fits(net, part_of, part, &told)
+        }
     }
 }
 

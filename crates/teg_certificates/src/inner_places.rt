@@ -47,10 +47,7 @@ pub(crate) fn all_inner(net: &Net, part_of: &[u32], part: usize, places: &[Place
     requires { length part_of.now ≡ length net.now.transitions }
     ensures { IsTrue result ↔ All (IsPlaceOfPart net.now part_of.now part) places.now }
 {
-    for id in places {
-        if !is_place_of_part(net, part_of, part, *id) {
-            return false;
-        }
-    }
-    true
+    places
+        .iter()
+        .all(|id| is_place_of_part(net, part_of, part, *id))
 }

@@ -4,6 +4,7 @@ ghost use Rattle.teg_certificates.specs.Weights.{PotentialsBoundWeights};
 ghost use Rattle.teg_certificates.specs.CircuitsInParts.{CircuitsLieInOnePart};
 ghost use Rattle.teg_certificates.specs.CertifiedNets.{CertificatesTellOfNets, CertificatesTellOfParts, PotentialsBoundRatios};
 ghost use Rattle.teg_certificates.specs.RisingRanks.{ListedRanksShowLive, RisingRanksShowLive};
+ghost use Rattle.teg_certificates.specs.SlackWitnesses.{CriticalCircuitsTell, RisePotentialsTell, RisingNumbersShowNoCircuit};
 ghost use Rattle.teg_certificates.specs.Sizes.{AlwaysAboveShowsNone, FewestAreShown, NeverEnoughIsShown, StillAboveShowsMore, TargetPotentialsShowEnough};
 
 /// Whatever places weigh, a circuit of which no place lifts its end above the potential there
@@ -59,4 +60,23 @@ pub fn always_above_shows_none()
 /// that these are enough (chapters 2 and 3).
 pub fn target_potentials_show_enough()
     ensures { TargetPotentialsShowEnough }
+{}
+
+/// Where an answer is a certificate, a circuit that passes a place and has the ratio of the best
+/// part has the greatest ratio of the net, so that the place is critical (chapters 2 and 3).
+pub fn critical_circuits_tell()
+    ensures { CriticalCircuitsTell }
+{}
+
+/// Potentials that no place exceeds at a ratio, where the hold of one place is longer, show that
+/// no circuit that passes this place is above the ratio with that hold, and that as it is each is
+/// below (chapters 2 and 3).
+pub fn rise_potentials_tell()
+    ensures { RisePotentialsTell }
+{}
+
+/// Where numbers of transitions never fall along a place, no circuit passes a place along which
+/// they rise (chapter 2).
+pub fn rising_numbers_show_no_circuit()
+    ensures { RisingNumbersShowNoCircuit }
 {}

@@ -9,12 +9,15 @@
 //! | so many tokens are enough for a target | potentials | [`check_enough`] |
 //! | they are too few | a circuit | [`shows_too_few`] |
 //! | no number is enough | a circuit | [`shows_never_enough`] |
+//! | a place is critical | a circuit | [`shows_critical`] |
+//! | its hold may rise by so much and no more | potentials and a circuit | [`shows_rise`] |
+//! | no circuit passes it | numbers, as those of parts | [`shows_no_circuit`] |
 //!
 //! None takes memory, and none takes more time than what it reads has pairs. That what is shown is
 //! so are laws: so a reader may distrust whatever found an answer and still believe it.
 //! [`best_ratio`] reads the ratio of the net off an answer on cycle times.
 //! The crate stands on `teg_net` alone.
-//! Its examples stand in `worked_examples`.
+//! Its examples stand in `worked_examples` and `library_examples`.
 #![tactic(auto)]
 
 mod best_ratios;
@@ -25,14 +28,17 @@ mod laws;
 mod liveness;
 mod potentials;
 mod sizes;
+mod slack_witnesses;
 mod sums;
 
 pub use best_ratios::best_ratio;
 pub use certificate::check_cycle;
 pub use laws::{
-    always_above_shows_none, certificates_tell, circuits_lie_in_one_part, potentials_bound_ratios,
-    potentials_bound_weights, rising_ranks_show_live, still_above_shows_more,
+    always_above_shows_none, certificates_tell, circuits_lie_in_one_part, critical_circuits_tell,
+    potentials_bound_ratios, potentials_bound_weights, rise_potentials_tell,
+    rising_numbers_show_no_circuit, rising_ranks_show_live, still_above_shows_more,
     target_potentials_show_enough,
 };
 pub use liveness::{is_ranking, shows_deadlock};
 pub use sizes::{check_enough, shows_never_enough, shows_too_few};
+pub use slack_witnesses::{RiseWitness, shows_critical, shows_no_circuit, shows_rise};

@@ -31,12 +31,7 @@ fn all_rise(net: &Net, ranks: &[u32]) -> bool
     ensures { IsTrue result ↔ All (λ p. p.tokens ≡ 0 → slice_index ranks.now p.from.index
         < slice_index ranks.now p.to.index) net.now.places }
 {
-    for place in net.places() {
-        if !rises_along(ranks, place) {
-            return false;
-        }
-    }
-    true
+    net.places().iter().all(|place| rises_along(ranks, place))
 }
 
 /// Whether there is one rank for each transition, and along each place without tokens the rank

@@ -45,12 +45,7 @@ fn only_members(part_of: &[u32], part: usize, potentials: &[Potential]) -> bool
     ensures { IsTrue result ↔ All (λ v. IsMember part_of.now part v.transition.index)
         potentials.now }
 {
-    for told in potentials {
-        if !is_member(part_of, part, told.transition.index as usize) {
-            return false;
-        }
-    }
-    true
+    potentials.iter().all(|told| is_member(part_of, part, told.transition.index as usize))
 }
 
 // Whether a potential is told of the transition.
@@ -148,11 +143,10 @@ fn keeps_potential(
     potentials: &[Potential],
     place: &Place,
 ) -> bool
-    requires from_in { place.now.from.index < length part_of.now }
-    requires to_in { place.now.to.index < length part_of.now }
+    requires ends { (place.now.from.index < length part_of.now)
+        × (place.now.to.index < length part_of.now) }
     requires limits { IsRatioWithin ratio }
-    requires hold { place.now.hold ≤ greatest_hold }
-    requires tokens { place.now.tokens ≤ most_place_tokens }
+    requires place { (place.now.hold ≤ greatest_hold) × (place.now.tokens ≤ most_place_tokens) }
     requires within { All (λ v. IsMagnitudeWithin greatest_checked_potential v.value)
         potentials.now }
     ensures { IsTrue result ↔ KeepsPotential part_of.now part ratio potentials.now place.now }

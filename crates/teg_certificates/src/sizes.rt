@@ -14,7 +14,7 @@ use crate::sums::{CircuitSums, circuit_sums};
 use teg_net::{Net, Place, PlaceId, Ratio, is_circuit};
 
 // Whether the place is one of these.
-fn contains(places: &[PlaceId], place: PlaceId) -> bool
+pub(crate) fn contains(places: &[PlaceId], place: PlaceId) -> bool
     ensures { IsTrue result ↔ Contains places.now place }
 {
     places.iter().any(|id| id.index == place.index)
@@ -72,7 +72,7 @@ pub fn shows_never_enough(net: &Net, target: &Ratio, place: PlaceId, circuit: &[
 }
 
 // Whether the potentials keep their limit.
-fn all_within(potentials: &[i128]) -> bool
+pub(crate) fn all_within(potentials: &[i128]) -> bool
     ensures { IsTrue result ↔ All (IsMagnitudeWithin greatest_checked_potential) potentials.now }
 {
     potentials.iter().all(|value| {
@@ -93,11 +93,10 @@ fn extra_at(place: PlaceId, extra: u64, number: usize) -> u64
 
 // Whether the place, with so many extra tokens, does not lift its end above the potential there.
 fn lifts_none(target: Ratio, potentials: &[i128], extra: u64, place: &Place) -> bool
-    requires from_in { place.now.from.index < length potentials.now }
-    requires to_in { place.now.to.index < length potentials.now }
+    requires ends { (place.now.from.index < length potentials.now)
+        × (place.now.to.index < length potentials.now) }
     requires limits { IsRatioWithin target }
-    requires hold { place.now.hold ≤ greatest_hold }
-    requires tokens { place.now.tokens ≤ most_place_tokens }
+    requires place { (place.now.hold ≤ greatest_hold) × (place.now.tokens ≤ most_place_tokens) }
     requires within { All (IsMagnitudeWithin greatest_checked_potential) potentials.now }
     ensures { IsTrue result ↔ LiftsNone target potentials.now extra place.now }
 {

@@ -1,9 +1,9 @@
-//! The sums of a circuit.
-ghost use Rattle.std.specs.Prelude.{◌≡◌, ◌≤◌};
+//! The sums of a circuit, and its ratio.
+ghost use Rattle.std.specs.Prelude.{◌≡◌, ◌↔◌, ◌≤◌, ◌*◌, IsTrue};
 ghost use Rattle.teg_net.specs.Circuits.{IsCircuit, time_of, tokens_of};
 ghost use Rattle.teg_net.specs.Limits.{greatest_circuit_time, most_circuit_tokens};
 
-use teg_net::{Net, PlaceId, time_of, tokens_of};
+use teg_net::{Net, PlaceId, Ratio, time_of, tokens_of};
 
 // The holding time and the tokens of a circuit.
 #[derive(Clone, Copy, Debug, PartialEq, Eq)]
@@ -25,4 +25,22 @@ pub(crate) fn circuit_sums(net: &Net, circuit: &[PlaceId]) -> CircuitSums
         time: time_of(net, circuit),
         tokens: tokens_of(net, circuit),
     }
+}
+
+// Whether the sums have the ratio.
+fn is_ratio_of(ratio: Ratio, sums: CircuitSums) -> bool
+    requires time { sums.time ≤ greatest_circuit_time }
+    requires tokens { sums.tokens ≤ most_circuit_tokens }
+    ensures { IsTrue result ↔ (sums.time * ratio.tokens ≡ ratio.time * sums.tokens) }
+{
+    sums.time * u128::from(ratio.tokens()) == u128::from(ratio.time()) * sums.tokens
+}
+
+// Whether the circuit has the ratio.
+pub(crate) fn attains(net: &Net, ratio: Ratio, circuit: &[PlaceId]) -> bool
+    requires { IsCircuit net.now circuit.now }
+    ensures { IsTrue result ↔ (time_of net.now circuit.now * ratio.tokens
+        ≡ ratio.time * tokens_of net.now circuit.now) }
+{
+    is_ratio_of(ratio, circuit_sums(net, circuit))
 }

@@ -14,13 +14,11 @@ use Rattle.teg_loops.specs.Loops.{IsStraight}
 use Rattle.teg_loops.specs.Shortening.{NoCircuitGains}
 use Rattle.teg_loops.proofs.Splitting.{shorten}
 use Rattle.teg_loops.proofs.Through.{IsThrough, through, closes}
-use Rattle.teg_critical.specs.Slacks.{IsCritical, raised}
+use Rattle.teg_certificates.specs.SlackWitnesses.{IsAboveWhenRaised, MayRise}
+use Rattle.teg_critical.specs.Slacks.{IsCritical}
 use Rattle.teg_critical.specs.Gaps.{IsGap}
 use Rattle.teg_critical.specs.SlackAndPaths.{GapTells, GapsTellSlacks}
-use Rattle.teg_critical.proofs.Raised.{circuit_up, circuit_down, tokens_same, time_without, time_with, passes_or_not}
-
-pub any_places : (ps : List PlaceId) → All IsAnyPlace ps
-any_places ps = λ i d l. tt
+use Rattle.teg_critical.proofs.Rises.{any_places, stays, no_more}
 
 scaled_left : (b : ℕ) (f : PlaceId → ℕ) (ps : List PlaceId) → sum_by (λ q. b * f q) ps ≡ b * sum_by f ps
 scaled_left b f [] = grind arith
@@ -89,50 +87,23 @@ module _ (net : NetLists) (r : Fraction) (p : PlaceId) (gap : ℕ) (ratio : IsGr
   no_gap : IsCritical net r p → gap ≡ 0
   no_gap c = omega (arith, through_lacks c.0 c.1 c.2, c.3)
 
-  fits_below : (b d e : ℕ) → e * b < d * b + b → e ≤ d
-  fits_below b d e m =
-      ⊎_elim
-      (λ (g : d < e).
-      let is : e ≡ (d + 1) + (e - (d + 1)) = omega arith in
-      let wide : e * b ≡ d * b + b + (e - (d + 1)) * b = ap (λ z. z * b) is ∙ spread b d (e - (d + 1)) in
-      absurd (omega arith))
-      (λ (g : e ≤ d). g)
-      (cases_lt d e) where
-        spread : (b d x : ℕ) → ((d + 1) + x) * b ≡ d * b + b + x * b
-        spread b d x = grind arith
-
   wider : (t b d : ℕ) → (t + d) * b ≡ t * b + d * b
   wider t b d = grind arith
 
-  -- a smaller rise leaves the greatest ratio as it is
-  stays : (d : ℕ) → 0 < gap → d * r.tokens ≤ gap → IsGreatestRatio (raised net p d) IsAnyPlace r
-  stays d some low =
-      let best = ratio.attained in
-      record {
-        some = ratio.some;
-        attained = ⊎_elim
-            (λ (passes : Contains best.0 p). absurd (let none = no_gap (best.0, best.1, passes, best.3) in omega arith))
-            (λ (none : All (λ q. q.index ≢ p.index) best.0).
-            (best.0, circuit_up net p d l best.0 best.1, any_places best.0, rw (time_without net p d l best.0 none, tokens_same net p d l best.0) best.3))
-            (passes_or_not p best.0);
-        greatest = λ ps c all.
-            let down : IsCircuit net ps = circuit_down net p d l ps c in
-            ⊎_elim
-            (λ (passes : Contains ps p).
-            let lacks = through_lacks ps down passes in
-            let wide = wider (time_of net ps) r.tokens d in
-            rw (time_with net p d l ps down passes, tokens_same net p d l ps) (omega arith))
-            (λ (none : All (λ q. q.index ≢ p.index) ps). rw (time_without net p d l ps none, tokens_same net p d l ps) (ratio.greatest ps down (any_places ps)))
-            (passes_or_not p ps);
-      }
+  -- so the hold may rise by what fits in the gap
+  may_rise : (d : ℕ) → 0 < gap → d * r.tokens ≤ gap → MayRise net r p d
+  may_rise d some low = record {
+    kept = λ ps c passes. let lacks = through_lacks ps c passes in let wide = wider (time_of net ps) r.tokens d in omega arith;
+    below = λ ps c passes. let lacks = through_lacks ps c passes in omega arith;
+  }
 
-  -- a greater rise does not
-  bounded : (d e : ℕ) → gap < d * r.tokens + r.tokens → IsGreatestRatio (raised net p e) IsAnyPlace r → e ≤ d
-  bounded d e high other =
+  -- and what does not fit is too much for the best circuit
+  too_much : (d : ℕ) → gap < d * r.tokens + r.tokens → IsAboveWhenRaised net r p (d + 1) best_circuit.0
+  too_much d high =
       let c = best_circuit in
-      let above = rw (time_with net p e l c.0 c.1 c.2, tokens_same net p e l c.0) at (other.greatest c.0 (circuit_up net p e l c.0 c.1) (any_places c.0)) in
-      let wide = wider (time_of net c.0) r.tokens e in
-      fits_below r.tokens d e (omega (arith, above, wide, c.3, high))
+      let wide = wider (time_of net c.0) r.tokens (d + 1) in
+      let more : (d + 1) * r.tokens ≡ d * r.tokens + r.tokens = grind arith in
+      record { circuit = c.1; passes = c.2; above = omega (arith, c.3, wide, more, high) }
 
   tells : GapTells net r p gap
   tells = record {
@@ -140,7 +111,7 @@ module _ (net : NetLists) (r : Fraction) (p : PlaceId) (gap : ℕ) (ratio : IsGr
     slack = λ some.
         let parts : gap / r.tokens * r.tokens + gap % r.tokens ≡ gap = div-add-mod' gap r.tokens in
         let low : gap % r.tokens < r.tokens = mod_below gap r.tokens ratio.some in
-        record { same = stays (gap / r.tokens) some (omega arith); most = λ e other. bounded (gap / r.tokens) e (omega arith) other };
+        record { same = stays net r p (gap / r.tokens) l ratio (may_rise (gap / r.tokens) some (omega arith)); most = no_more net r p (gap / r.tokens) l best_circuit.0 (too_much (gap / r.tokens) (omega arith)) };
   }
 
 pub gaps_tell : GapsTellSlacks

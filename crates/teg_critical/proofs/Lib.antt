@@ -1,6 +1,8 @@
 pub mod SearchStates
 pub mod Raised
+pub mod Rises
 pub mod GapLaws
+pub mod ShownSlacks
 pub mod SameRatio
 pub mod Certified
 pub mod Rounds

@@ -19,7 +19,7 @@ use Rattle.teg_certificates.proofs.PathSums.{weight_is}
 use Rattle.teg_critical.specs.declared.losses.Loss.{Loss}
 use Rattle.teg_critical.specs.Losses.{ratio_of, potentials_of, IsLossOf, IsLossIn, answer_of_part, loss_at, AreLosses}
 use Rattle.teg_critical.specs.LeastLosses.{amount_in, loss_of_path, IsWay}
-use Rattle.teg_critical.proofs.GapLaws.{any_places}
+use Rattle.teg_critical.proofs.Rises.{any_places}
 
 -- one more place
 lost_more : (here rest : ℕ) (count counts s m t : ℤ) → ((pos here +ℤ count) +ℤ s) ≡ m → ((pos rest +ℤ counts) +ℤ m) ≡ t → ((pos (here + rest) +ℤ (count +ℤ counts)) +ℤ s) ≡ t

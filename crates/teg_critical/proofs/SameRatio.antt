@@ -11,7 +11,7 @@ use Rattle.teg_critical.specs.declared.slacks.Slack.{Slack}
 use Rattle.teg_critical.specs.declared.slacks.Slack.TheVariants.{NoCircuit, Critical, Rise}
 use Rattle.teg_critical.specs.Slacks.{IsCritical, IsSlackOf, raised}
 use Rattle.teg_critical.specs.SlackAndPaths.{SlacksAreOne, SlacksAreOfTheNet}
-use Rattle.teg_critical.proofs.GapLaws.{any_places}
+use Rattle.teg_critical.proofs.Rises.{any_places}
 
 -- the same ratio, by products
 abbrev IsSame : Fraction → Fraction → Type 0

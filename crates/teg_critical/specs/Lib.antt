@@ -1,6 +1,7 @@
 pub mod Slacks
 pub mod Gaps
 pub mod SlackAndPaths
+pub mod ShownSlacks
 pub mod Losses
 pub mod LossEndings
 pub mod LeastLosses

@@ -15,7 +15,7 @@ ghost use Rattle.teg_critical.specs.Told.{IsSlackOfGap, CanTellSlack, AreToldMor
 
 use crate::endings::{Ending, by_end, group_length};
 use crate::losses::{Loss, losses_of};
-use crate::searches::{Steps, all_steps, least_losses};
+use crate::searches::{NetLosses, all_steps, least_losses};
 use crate::slacks::{Slack, Slacks};
 use std::alloc::{AllocError, Global};
 use teg_certificates::best_ratio;
@@ -62,19 +62,19 @@ fn slack_from(
 
 // Tells these places, given the least that the paths back from their ends to their starts lose.
 fn tell_places(
-    net: &Net,
+    known: &NetLosses,
     best: Ratio,
-    losses: &[Option<Loss>],
     endings: &[Ending],
     back: &[Option<u128>],
     slacks: &mut [Slack],
 )
-    requires can { CanTellSlack net.now best losses.now }
-    requires endings { All (IsEnding net.now) endings.now }
-    requires back { AreToldBack net.now losses.now back.now endings.now }
-    requires count { length slacks.old ≡ length net.now.places }
-    ensures { AreToldMore net.now best endings.now slacks.old slacks.new }
+    requires can { CanTellSlack known.now.net.now best known.now.losses.now }
+    requires endings { All (IsEnding known.now.net.now) endings.now }
+    requires back { AreToldBack known.now.net.now known.now.losses.now back.now endings.now }
+    requires count { length slacks.old ≡ length known.now.net.now.places }
+    ensures { AreToldMore known.now.net.now best endings.now slacks.old slacks.new }
 {
+    let NetLosses { net, losses, .. } = *known;
     for ending in endings {
         slacks[ending.place.index as usize] = slack_from(net, best, losses, back, *ending);
     }
@@ -83,24 +83,22 @@ fn tell_places(
 // Tells each place, those that end at one transition after one search from there.
 fn tell_all(
     alloc: Global,
-    net: &Net,
+    known: &NetLosses,
     best: Ratio,
-    losses: &[Option<Loss>],
-    steps: &[Steps],
     slacks: &mut [Slack],
 ) -> Result<(), AllocError>
-    requires can { CanTellSlack net.now best losses.now }
-    requires steps { AreSteps net.now losses.now steps.now }
-    requires untold { AreUntold net.now slacks.old }
-    ensures { IfOk result (λ _. AreSlacks net.now best slacks.new) }
+    requires can { CanTellSlack known.now.net.now best known.now.losses.now }
+    requires steps { AreSteps known.now.net.now known.now.losses.now known.now.steps.now }
+    requires untold { AreUntold known.now.net.now slacks.old }
+    ensures { IfOk result (λ _. AreSlacks known.now.net.now best slacks.new) }
 {
-    let order = by_end(alloc, net, losses)?;
+    let order = by_end(alloc, known.net, known.losses)?;
     let mut rest = order.as_slice();
     'tell: while !rest.is_empty() {
         let count = group_length(rest);
         let group = &rest[..count];
-        let back = least_losses(alloc, net, losses, steps, rest[0].end, group)?;
-        tell_places(net, best, losses, group, &back, slacks);
+        let back = least_losses(alloc, known, rest[0].end, group)?;
+        tell_places(known, best, group, &back, slacks);
         rest = &rest[count..];
     }
     Ok(())
@@ -122,7 +120,12 @@ fn slacks_at(
     let losses = losses_of(alloc, net, answer, best)?;
     let steps = all_steps(alloc, net, &losses)?;
     let mut slacks = vec![in alloc; Slack::NoCircuit; net.places().len()]?;
-    tell_all(alloc, net, best, &losses, &steps, &mut slacks)?;
+    let known = NetLosses {
+        net,
+        losses: &losses,
+        steps: &steps,
+    };
+    tell_all(alloc, &known, best, &mut slacks)?;
     Ok(slacks)
 }
 

@@ -7,7 +7,8 @@
 //! answer on cycle times that `check_cycle` accepts; its potentials turn the search for the best
 //! paths back into a search for shortest paths. The crate stands on `teg_net`, on
 //! `teg_certificates` for the ratio that an answer tells, and on `teg_loops` for the laws of paths
-//! and circuits.
+//! and circuits. That what the checkers of `teg_certificates` show of a place is its slack is the
+//! law [`witnesses_tell_slacks`].
 //! Its examples stand in `worked_examples`.
 #![tactic(auto)]
 
@@ -19,5 +20,5 @@ mod searches;
 mod slacks;
 
 pub use each_place::critical;
-pub use laws::{gaps_tell_slacks, slacks_are_of_the_net, slacks_are_one};
+pub use laws::{gaps_tell_slacks, slacks_are_of_the_net, slacks_are_one, witnesses_tell_slacks};
 pub use slacks::{Slack, Slacks};

@@ -75,6 +75,14 @@ fn no_steps(alloc: Global, count: usize) -> Result<Vec<Steps>, AllocError>
     Ok(all)
 }
 
+// A net, what its places lose, and the steps from each of its transitions.
+#[derive(Debug, Drop)]
+pub(crate) struct NetLosses<'a> {
+    pub(crate) net: &'a Net,
+    pub(crate) losses: &'a [Option<Loss>],
+    pub(crate) steps: &'a [Steps],
+}
+
 // The step that a place is, if it is told a loss.
 fn step_by(place: &Place, told: Option<Loss>) -> Option<LossStep>
     ensures none { IfNone result (told ≡ None) }
@@ -163,18 +171,18 @@ fn first_open(wanted: &[Ending], from: usize, settled: &[bool]) -> usize
 // a settled transition is passed over. The search ends once the starts of the places are settled.
 pub(crate) fn least_losses(
     alloc: Global,
-    net: &Net,
-    losses: &[Option<Loss>],
-    steps: &[Steps],
+    known: &NetLosses,
     end: usize,
     wanted: &[Ending],
 ) -> Result<Vec<Option<u128>>, AllocError>
-    requires count { length losses.now ≡ length net.now.places }
-    requires steps { AreSteps net.now losses.now steps.now }
-    requires end { end < length net.now.transitions }
-    requires wanted { All (IsEndingAt net.now end) wanted.now }
-    ensures { IfOk result (λ least. AreToldBack net.now losses.now least.items wanted.now) }
+    requires count { length known.now.losses.now ≡ length known.now.net.now.places }
+    requires steps { AreSteps known.now.net.now known.now.losses.now known.now.steps.now }
+    requires end { end < length known.now.net.now.transitions }
+    requires wanted { All (IsEndingAt known.now.net.now end) wanted.now }
+    ensures { IfOk result (λ least. AreToldBack known.now.net.now known.now.losses.now least.items
+        wanted.now) }
 {
+    let NetLosses { net, steps, .. } = *known;
     let count = net.transitions().len();
     let mut least = vec![in alloc; None; count]?;
     let mut settled = vec![in alloc; false; count]?;

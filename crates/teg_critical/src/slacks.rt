@@ -5,7 +5,7 @@ ghost use Rattle.teg_critical.specs.declared.slacks.Slack.TheVariants.{NoCircuit
 use std::marker::Model;
 use teg_net::PlaceId;
 
-/// What a place is told.
+/// What a place is told of its slack (chapters 2 and 3).
 #[derive(Clone, Copy, Debug, PartialEq, Eq)]
 pub enum Slack {
     /// No circuit passes the place.
@@ -17,8 +17,8 @@ pub enum Slack {
     Rise { by: u64 },
 }
 
-/// The slack of each place of a net. Contracts see the list; it stands for each net of which it
-/// has the slacks (`AreSlacks`).
+/// The slack of each place of a net, by number of place (chapters 2 and 3). Contracts see the list;
+/// it stands for each net of which it has the slacks (`AreSlacks`).
 #[derive(Debug, Drop)]
 pub struct Slacks {
     slacks: Vec<Slack>,
@@ -41,7 +41,7 @@ impl Slacks {
         Slacks { slacks }
     }
 
-    /// The slack of a place. It takes no memory.
+    /// The slack of a place, a rise in the user's unit. It takes no memory.
     pub fn slack(&self, place: PlaceId) -> Slack
         requires { place.index < length self.now }
         ensures { result ≡ slice_index_or self.now place.index NoCircuit }

@@ -1,4 +1,5 @@
 pub mod Partitions
 pub mod PlacesAlong
 pub mod Components
+pub mod BothWays
 pub mod PartNumbers

@@ -1,9 +1,8 @@
 //! The strong parts, each numbered by its lowest transition: what a search along the places from
 //! there reaches, and what one against them reaches.
 ghost use Rattle.std.specs.Prelude.{◌≡◌, ◌<◌, length, IfOk, OnOk};
-ghost use Rattle.teg_net.specs.Nets.{IsNet};
 ghost use Rattle.teg_parts.specs.PlacesAlong.{far_of, ArePlacesAlong};
-ghost use Rattle.teg_parts.specs.declared.places_along.Way.TheVariants.{Onward, Back};
+ghost use Rattle.teg_parts.specs.BothWays.{AreBothWays};
 ghost use Rattle.teg_parts.specs.Components.{AreReachedMarks, AreFound, IsRooted, HasFound, AreComponents};
 
 use crate::numbers::numbers_of;
@@ -58,29 +57,41 @@ fn give_root(onward: &[bool], back: &[bool], found: &mut [Option<u32>], root: u3
     }
 }
 
+// The places along which one may go from each transition, and those against which one may.
+#[derive(Debug, Drop)]
+struct BothWays {
+    onward: PlacesAlong,
+    back: PlacesAlong,
+}
+
+// The places of the net, both ways.
+fn both_ways(alloc: Global, net: &Net) -> Result<BothWays, AllocError>
+    ensures { IfOk result (AreBothWays net.now) }
+{
+    let onward = places_along(alloc, net, Way::Onward)?;
+    let back = places_along(alloc, net, Way::Back)?;
+    Ok(BothWays { onward, back })
+}
+
 // Numbers the part of the root, unless it has a number.
 fn find_part(
     alloc: Global,
     net: &Net,
-    onward: &PlacesAlong,
-    back: &PlacesAlong,
+    ways: &BothWays,
     root: usize,
     found: &mut [Option<u32>],
 ) -> Result<(), AllocError>
-    requires rules { IsNet net.now }
-    requires onward { ArePlacesAlong net.now onward.now }
-    requires onward_way { onward.now.way ≡ Onward }
-    requires back { ArePlacesAlong net.now back.now }
-    requires back_way { back.now.way ≡ Back }
+    requires ways { AreBothWays net.now ways.now }
     requires root { root < length net.now.transitions }
     requires found { AreFound net.now found.old }
     ensures { OnOk result (HasFound net.now root found.old found.new) }
 {
+    net.rules();
     if found[root].is_some() {
         return Ok(());
     }
-    let reached = led_from(alloc, net, onward, root)?;
-    let reaching = led_from(alloc, net, back, root)?;
+    let reached = led_from(alloc, net, &ways.onward, root)?;
+    let reaching = led_from(alloc, net, &ways.back, root)?;
     give_root(&reached, &reaching, found, root as u32);
     Ok(())
 }
@@ -91,11 +102,10 @@ pub(crate) fn components(alloc: Global, net: &Net) -> Result<Vec<u32>, AllocErro
     ensures { IfOk result (λ numbers. AreComponents net.now numbers.items) }
 {
     let count = net.transitions().len();
-    let onward = places_along(alloc, net, Way::Onward)?;
-    let back = places_along(alloc, net, Way::Back)?;
+    let ways = both_ways(alloc, net)?;
     let mut found = vec![in alloc; None; count]?;
     for root in 0..count {
-        find_part(alloc, net, &onward, &back, root, &mut found)?;
+        find_part(alloc, net, &ways, root, &mut found)?;
     }
     numbers_of(alloc, &found)
 }

@@ -1,9 +1,23 @@
 //! The parts of a net, by number.
-ghost use Rattle.std.specs.Prelude.{◌≡◌, ◌<◌, ◌≤◌, length, slice_index, slice_index_or, false, IfOk};
+ghost use Rattle.std.specs.Prelude.{◌≡◌, ◌↔◌, ◌<◌, ◌≤◌, length, slice_index, slice_index_or, false, IfOk, IsTrue};
 ghost use Rattle.teg_net.specs.Limits.{most_transitions};
 
 use std::marker::Model;
 use teg_net::{OutOfMemory, TransitionId};
+
+// Whether the two lists of numbers are the same.
+fn same_numbers(first: &[u32], second: &[u32]) -> bool
+    ensures { IsTrue result ↔ (first.now ≡ second.now) }
+{
+    first == second
+}
+
+// Whether the two lists of marks are the same.
+fn same_marks(first: &[bool], second: &[bool]) -> bool
+    ensures { IsTrue result ↔ (first.now ≡ second.now) }
+{
+    first == second
+}
 
 /// The parts of a net: for each transition the number of its part, and for each part whether some
 /// place has both ends in it. Contracts see the two lists; they stand for each net of which they
@@ -35,7 +49,7 @@ impl Parts {
         Parts { part_of, inner }
     }
 
-    /// The number of parts. It takes no memory.
+    /// The number of parts, at most that of the transitions of their net. It takes no memory.
     pub fn count(&self) -> u32
         ensures value { result ≡ length self.now.inner }
         ensures few { result ≤ most_transitions }
@@ -43,7 +57,7 @@ impl Parts {
         self.inner.len() as u32
     }
 
-    /// The number of a transition's part. It takes no memory.
+    /// The number of a transition's part, counted from 0. It takes no memory.
     pub fn part_of(&self, transition: TransitionId) -> u32
         requires { transition.index < length self.now.part_of }
         ensures { result ≡ slice_index self.now.part_of transition.index }
@@ -51,8 +65,8 @@ impl Parts {
         self.part_of[transition.index as usize]
     }
 
-    /// The number of each transition's part, as a list. It answers `OutOfMemory` only where no
-    /// memory is found.
+    /// The number of each transition's part, as a list by transition. `OutOfMemory` comes only where
+    /// no memory is found.
     pub fn numbers(&self) -> Result<Vec<u32>, OutOfMemory>
         ensures { IfOk result (λ numbers. numbers.items ≡ self.now.part_of) }
     {
@@ -60,7 +74,15 @@ impl Parts {
         Ok(numbers)
     }
 
-    /// Whether some place has both ends in the part. It takes no memory.
+    /// Whether these are the same parts with the same numbers and marks. It takes no memory.
+    pub fn is_same(&self, other: &Parts) -> bool
+        ensures { IsTrue result ↔ (self.now ≡ other.now) }
+    {
+        same_numbers(&self.part_of, &other.part_of) && same_marks(&self.inner, &other.inner)
+    }
+
+    /// Whether some place has both ends in the part of this number, so that a circuit lies in it
+    /// (chapter 2). It takes no memory.
     pub fn has_circuit(&self, part: u32) -> bool
         requires { part < length self.now.inner }
         ensures { result ≡ slice_index_or self.now.inner part false }

@@ -2,7 +2,8 @@
 //!
 //! [`size`] tells the least number of further tokens of a place with which no circuit of the net
 //! has a greater ratio of time to tokens than a target, with a circuit that one token less leaves
-//! above it; or that no number is enough, with a circuit that shows it. [`enough_potentials`] gives
+//! above it; or that no number is enough, with a circuit that shows it. [`is_target`] tells which
+//! ratios may be asked. [`enough_potentials`] gives
 //! the potentials that show a number to be enough, as `check_enough` of `teg_certificates` reads
 //! them. [`sizing_text`] is the text of an answer, [`no_place_text`] that of a name that no place
 //! has, and different answers have different texts. The best paths are found in rounds over the
@@ -17,9 +18,11 @@ mod potentials;
 mod rounds;
 mod sizing;
 mod surpluses;
+mod targets;
 mod texts;
 mod tracing;
 
 pub use potentials::enough_potentials;
 pub use sizing::{Sizing, size};
+pub use targets::is_target;
 pub use texts::{no_place_text, sizing_text, texts_of_sizings_differ};

@@ -6,7 +6,7 @@ ghost use Rattle.teg_certificates.specs.Sizes.{IsEnough, AreTargetPotentials};
 ghost use Rattle.teg_sizing.specs.ValueRounds.{IsTarget};
 ghost use Rattle.teg_sizing.specs.EnoughPotentials.{greatest_told, greatest_over, AreBothSettled, IsPotential, ArePotentialsOf};
 
-use crate::rounds::{ValueCell, last_cells};
+use crate::rounds::{Asked, ValueCell, last_cells};
 use crate::surpluses::{rounds_apart, rounds_back};
 use std::alloc::{AllocError, Global};
 use teg_net::{Net, OutOfMemory, PlaceId, Ratio};
@@ -79,18 +79,19 @@ fn all_potentials(
 // The potentials, of the values that the rounds tell at last.
 fn potentials_of(
     alloc: Global,
-    net: &Net,
-    place: PlaceId,
-    target: Ratio,
+    asked: &Asked,
     extra: u64,
     apart: &[ValueCell],
     back: &[ValueCell],
 ) -> Result<Vec<i128>, AllocError>
-    requires place { place.index < length net.now.places }
-    requires target { IsTarget target }
-    requires settled { AreBothSettled net.now target place extra apart.now back.now }
-    ensures { IfOk result (λ vs. AreTargetPotentials net.now target place extra vs.items) }
+    requires place { asked.now.place.index < length asked.now.net.now.places }
+    requires target { IsTarget asked.now.target }
+    requires settled { AreBothSettled asked.now.net.now asked.now.target asked.now.place extra
+        apart.now back.now }
+    ensures { IfOk result (λ vs. AreTargetPotentials asked.now.net.now asked.now.target
+        asked.now.place extra vs.items) }
 {
+    let Asked { net, target, place } = *asked;
     let own = &net.places()[place.index as usize];
     let start = apart[own.from.index as usize].value.unwrap();
     let tokens = u128::from(own.tokens) + u128::from(extra);
@@ -122,5 +123,10 @@ pub fn enough_potentials(
     let from_end = rounds_back(alloc, net, *target, place)?;
     let apart = last_cells(&from_all);
     let back = last_cells(&from_end);
-    Ok(potentials_of(alloc, net, place, *target, extra, apart, back)?)
+    let asked = Asked {
+        net,
+        target: *target,
+        place,
+    };
+    Ok(potentials_of(alloc, &asked, extra, apart, back)?)
 }

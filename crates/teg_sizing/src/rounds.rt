@@ -20,6 +20,14 @@ pub(crate) struct ValueCell {
     pub(crate) by: Option<PlaceId>,
 }
 
+// What is asked: a net, a target ratio, and the place that the rounds leave out.
+#[derive(Debug, Drop)]
+pub(crate) struct Asked<'a> {
+    pub(crate) net: &'a Net,
+    pub(crate) target: Ratio,
+    pub(crate) place: PlaceId,
+}
+
 // What a round tells of each transition. Contracts see the list.
 #[derive(Debug, Drop)]
 pub(crate) struct ValueRound {
@@ -73,9 +81,8 @@ fn offer(
     place: &Place,
 ) -> Option<i128>
     requires target { IsTarget target }
-    requires hold { place.now.hold ≤ greatest_hold }
-    requires tokens { place.now.tokens ≤ most_place_tokens }
-    requires from { place.now.from.index < length before.now }
+    requires place { (place.now.hold ≤ greatest_hold) × (place.now.tokens ≤ most_place_tokens)
+        × (place.now.from.index < length before.now) }
     requires small { AreValuesWithin most_value before.now }
     ensures none { IfNone result (id.index ≢ except.index → value_told before.now
         place.now.from.index
@@ -171,24 +178,24 @@ pub(crate) fn last_cells(rounds: &[ValueRound]) -> &[ValueCell]
 // those after it would tell no more either.
 pub(crate) fn rounds(
     alloc: Global,
-    net: &Net,
-    target: Ratio,
-    except: PlaceId,
+    asked: &Asked,
     first: ValueRound,
     count: usize,
 ) -> Result<Vec<ValueRound>, AllocError>
-    requires target { IsTarget target }
-    requires long { length first ≡ length net.now.transitions }
+    requires target { IsTarget asked.now.target }
+    requires long { length first ≡ length asked.now.net.now.transitions }
     requires small { AreValuesWithin 0 first }
     requires count { count ≤ 401 }
-    ensures rounds { IfOk result (λ rounds. AreRounds net.now target except first rounds.items) }
-    ensures all { IfOk result (λ rounds. HaveToldAll net.now target except first count
-        rounds.items) }
+    ensures rounds { IfOk result (λ rounds. AreRounds asked.now.net.now asked.now.target
+        asked.now.place first rounds.items) }
+    ensures all { IfOk result (λ rounds. HaveToldAll asked.now.net.now asked.now.target
+        asked.now.place first count rounds.items) }
 {
+    let Asked { net, target, place } = *asked;
     let mut rounds = Vec::new(alloc);
     rounds.push(first)?;
     for _number in 0..count {
-        let after = round_after(alloc, net, target, except, last_cells(&rounds))?;
+        let after = round_after(alloc, net, target, place, last_cells(&rounds))?;
         let is_last = better_at(after.cells()).is_none();
         rounds.push(after)?;
         if is_last {

@@ -6,7 +6,7 @@ ghost use Rattle.teg_sizing.specs.ValueRounds.{IsTarget};
 ghost use Rattle.teg_sizing.specs.Surpluses.{NoneIsAbove, IsAboveApart, StartsEverywhere, StartsFrom, IsToldMore, AreRoundsApart, AreRoundsBack, NonePasses, IsBestThrough};
 
 use crate::loops::first_loop;
-use crate::rounds::{ValueCell, ValueRound, better_at, last_cells, rounds, weight};
+use crate::rounds::{Asked, ValueCell, ValueRound, better_at, last_cells, rounds, weight};
 use crate::tracing::trace;
 use std::alloc::{AllocError, Global};
 use teg_net::{Net, PlaceId, Ratio, TransitionId};
@@ -56,28 +56,26 @@ pub(crate) fn rounds_apart(
 {
     let count = net.transitions().len();
     let first = everywhere(alloc, count)?;
-    let all = rounds(alloc, net, target, place, first, count + 1)?;
+    let asked = Asked { net, target, place };
+    let all = rounds(alloc, &asked, first, count + 1)?;
     Ok(all)
 }
 
 // A circuit in the path by which the last of these rounds tells more of the transition.
 fn loop_of(
     alloc: Global,
-    net: &Net,
-    target: Ratio,
-    place: PlaceId,
+    asked: &Asked,
     all: &[ValueRound],
     end: usize,
 ) -> Result<Vec<PlaceId>, AllocError>
-    requires rules { IsNet net.now }
-    requires apart { AreRoundsApart net.now target place all.now }
+    requires rules { IsNet asked.now.net.now }
+    requires apart { AreRoundsApart asked.now.net.now asked.now.target asked.now.place all.now }
     requires better { IsToldMore (last_round all.now) end }
-    ensures { IfOk result (λ own. IsAboveApart net.now target place own.items) }
+    ensures { IfOk result (λ own. IsAboveApart asked.now.net.now asked.now.target asked.now.place
+        own.items) }
 {
-    let _target = target;
-    let _place = place;
-    let path = trace(alloc, net, all, end)?;
-    let own = first_loop(alloc, net, &path)?;
+    let path = trace(alloc, asked.net, all, end)?;
+    let own = first_loop(alloc, asked.net, &path)?;
     Ok(own)
 }
 
@@ -97,7 +95,8 @@ pub(crate) fn above_apart(
     let Some(end) = better_at(last_cells(&all)) else {
         return Ok(None);
     };
-    Ok(Some(loop_of(alloc, net, target, place, &all, end)?))
+    let asked = Asked { net, target, place };
+    Ok(Some(loop_of(alloc, &asked, &all, end)?))
 }
 
 // The rounds from the end of the place, by all places but this one.
@@ -115,7 +114,8 @@ pub(crate) fn rounds_back(
     let count = net.transitions().len();
     let own = &net.places()[place.index as usize];
     let first = only_at(alloc, count, own.to)?;
-    let all = rounds(alloc, net, target, place, first, count)?;
+    let asked = Asked { net, target, place };
+    let all = rounds(alloc, &asked, first, count)?;
     Ok(all)
 }
 

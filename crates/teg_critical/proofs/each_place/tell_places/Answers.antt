@@ -11,7 +11,7 @@ loop-ending-preserved c =
     let k = c.loop-ending.ending-index in
     let l = c.loop-ending-test.true in
     let e : Ending = get_or c.args.endings.now k no_ending in
-    let is : IsEnding c.args.net.now e = c.requires.endings k no_ending l in
+    let is : IsEnding c.args.known.now.net.now e = c.requires.endings k no_ending l in
     let low : e.place.index < length c.args.slacks.now = omega (arith, is.in_range, c.requires.count) in
-    told_one c.args.net.now c.args.best c.args.endings.now k e c.args.slacks.now c.loop-ending.slacks c.slack_from.result
+    told_one c.args.known.now.net.now c.args.best c.args.endings.now k e c.args.slacks.now c.loop-ending.slacks c.slack_from.result
     c.loop-ending.invariant l (get_or_default c.args.endings.now k no_ending e l) low c.slack_from.ensures

@@ -22,9 +22,9 @@ search-init c =
     let filled : c.in_ok-least.least.items ≡ replicate (length c.transitions-count.result.now) None = c.in_ok-least.ensures.items_if_clones_equal (search rules) in
     let all_open : c.in_ok-settled.settled.items ≡ replicate (length c.transitions-count.result.now) false = c.in_ok-settled.ensures.items_if_clones_equal (search rules) in
     let start_in : c.args.end < length c.transitions-count.result.now = rw c.transitions-count.ensures.value c.requires.end in
-    let searching = search_begins c.args.net.now c.args.losses.now c.args.end c.in_ok-least.least.items c.in_ok-settled.settled.items
+    let searching = search_begins c.args.known.now.net.now c.args.known.now.losses.now c.args.end c.in_ok-least.least.items c.in_ok-settled.settled.items
     (length c.transitions-count.result.now) filled all_open (ap length c.transitions-count.ensures.value) start_in in (
-      queue_begins c.args.net.now c.args.losses.now c.args.end c.in_ok-least.least.items c.in_ok-settled.settled.items
+      queue_begins c.args.known.now.net.now c.args.known.now.losses.now c.args.end c.in_ok-least.least.items c.in_ok-settled.settled.items
           (length c.transitions-count.result.now) (heap_items c.new-queue.result) (heap_items c.push.new.self) searching filled start_in
           c.new-queue.ensures.items c.in_ok-push.ensures.permutation (c.in_ok-push.ensures.heap_order c.new-queue.ensures.heap_order),
       omega arith,
@@ -114,8 +114,8 @@ search-smaller-else-next-wanted c =
     let l = first_in h c.in-Some.ensures.permutation in
     let count = c.requires.steps.count in
     let near = near_of h c.in-Some.ensures.permutation c.in-Some.ensures.below_top c.index.ensures c.if-not-index.true in
-    let own : c.as_slice.result.now ≡ get_or c.args.steps.now at [] = c.as_slice.ensures ∙ get_or_read c.args.steps.now at c.index-steps-at.result (omega arith) c.index-steps-at.is [] in
-    less_left settled (set settled at true) c.args.steps.now c.as_slice.result.now at (heap_len c.search.queue) (heap_len c.pop.new.self) (heap_len c.relax.new.queue) (omega arith) own
+    let own : c.as_slice.result.now ≡ get_or c.args.known.now.steps.now at [] = c.as_slice.ensures ∙ get_or_read c.args.known.now.steps.now at c.index-steps-at.result (omega arith) c.index-steps-at.is [] in
+    less_left settled (set settled at true) c.args.known.now.steps.now c.as_slice.result.now at (heap_len c.search.queue) (heap_len c.pop.new.self) (heap_len c.relax.new.queue) (omega arith) own
     (one_settled settled at near.in_range near.open_) c.in-Some.ensures.len c.in_ok-relax.ensures.few
 
 -- what the search has found once the entry's steps are taken
@@ -175,5 +175,5 @@ pub returns : goal.returns
 returns c =
     let h = c.search.invariant.0 in
     let nothing : heap_items c.search.queue ≡ [] = empty_of (heap_items c.search.queue) (search rules) in
-    let over : IsOver c.search.least.items c.search.settled.items = queue_over (subst (IsQueueing c.args.net.now c.args.losses.now c.args.end c.search.least.items c.search.settled.items) nothing h) in
+    let over : IsOver c.search.least.items c.search.settled.items = queue_over (subst (IsQueueing c.args.known.now.net.now c.args.known.now.losses.now c.args.end c.search.least.items c.search.settled.items) nothing h) in
     searched h.searching c.transitions-count.ensures.rules over c.args.wanted.now c.requires.wanted

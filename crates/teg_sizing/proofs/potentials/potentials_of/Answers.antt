@@ -28,22 +28,22 @@ start_of net p q cells start place within e =
 
 pub over_place-over-requires-clause-start : goal.over_place-over-requires-clause-start
 over_place-over-requires-clause-start c =
-    let net = c.args.net.now in
+    let net = c.args.asked.now.net.now in
     let q = c.index-places-place.result in
-    let place = read_place net c.places.result.now c.args.place q c.places.ensures.value c.requires.place c.index-places-place.is in
-    let start = start_of net c.args.place q c.args.apart.now c.unwrap-start.result place c.requires.settled.apart_settled.within c.unwrap-start.ensures in
+    let place = read_place net c.places.result.now c.args.asked.now.place q c.places.ensures.value c.requires.place c.index-places-place.is in
+    let start = start_of net c.args.asked.now.place q c.args.apart.now c.unwrap-start.result place c.requires.settled.apart_settled.within c.unwrap-start.ensures in
     rw (read_told c.unwrap-start.result start.within) start.within
 
 pub all_potentials-requires-clause-apart : goal.all_potentials-requires-clause-apart
-all_potentials-requires-clause-apart c = all_told c.args.net.now c.args.target c.args.place c.args.extra c.args.apart.now c.args.back.now c.requires.settled
+all_potentials-requires-clause-apart c = all_told c.args.asked.now.net.now c.args.asked.now.target c.args.asked.now.place c.args.extra c.args.apart.now c.args.back.now c.requires.settled
 
 pub all_potentials-requires-clause-back : goal.all_potentials-requires-clause-back
-all_potentials-requires-clause-back c = all_back c.args.net.now c.args.target c.args.place c.args.extra c.args.apart.now c.args.back.now c.requires.settled
+all_potentials-requires-clause-back c = all_back c.args.asked.now.net.now c.args.asked.now.target c.args.asked.now.place c.args.extra c.args.apart.now c.args.back.now c.requires.settled
 
 pub all_potentials-requires-clause-over : goal.all_potentials-requires-clause-over
 all_potentials-requires-clause-over c =
-    let net = c.args.net.now in
-    let p = c.args.place in
+    let net = c.args.asked.now.net.now in
+    let p = c.args.asked.now.place in
     let q = c.index-places-place.result in
     let over = c.over_place-over.result in
     let place = read_place net c.places.result.now p q c.places.ensures.value c.requires.place c.index-places-place.is in
@@ -57,14 +57,14 @@ all_potentials-requires-clause-over c =
     let second = c.from-2.ensures in
     let fits : SFits w128 over = search rules in
     rw (to_z-of_z w128 over fits)
-    (over_within c.args.target q.hold (c.from.result + c.from-2.result) c.unwrap-start.result over c.requires.target (omega arith)
+    (over_within c.args.asked.now.target q.hold (c.from.result + c.from-2.result) c.unwrap-start.result over c.requires.target (omega arith)
     (omega (arith, c.ranges.extra.fits)) start.within (rw (read_told c.unwrap-start.result start.within) at c.over_place-over.ensures))
 
 pub returns : goal.returns
 returns c =
-    let net = c.args.net.now in
-    let r = c.args.target in
-    let p = c.args.place in
+    let net = c.args.asked.now.net.now in
+    let r = c.args.asked.now.target in
+    let p = c.args.asked.now.place in
     let extra = c.args.extra in
     let q = c.index-places-place.result in
     let s = c.unwrap-start.result in

@@ -13,7 +13,7 @@ use Rattle.teg_sizing.proofs.rounds.rounds.Goals as goal
 pub loop-number-init : goal.loop-number-init
 loop-number-init c =
     let begun : c.push.new.self.items ≡ c.args.first ∷ [] = c.in_ok-push.ensures.items ∙ ap (λ (z : List (List ValueCell)). z ++ (c.args.first ∷ [])) c.new-rounds.ensures.items in
-    rw begun (rounds_begun c.args.net.now c.args.target c.args.except c.args.first c.requires.long c.requires.small, refl)
+    rw begun (rounds_begun c.args.asked.now.net.now c.args.asked.now.target c.args.asked.now.place c.args.first c.requires.long c.requires.small, refl)
 
 pub round_after-requires-clause-count : goal.round_after-requires-clause-count
 round_after-requires-clause-count c =
@@ -37,7 +37,7 @@ loop-number-preserved c =
     let rounds = c.loop-number.rounds.items in
     let here = rw (c.last_cells.ensures, c.deref.ensures.value) at c.in_ok-after.ensures.after in
     rw c.in_ok-push-2.ensures.items (
-      rounds_more c.args.net.now c.args.target c.args.except c.args.first rounds c.in_ok-after.after c.in_ok-after.ensures.rules c.requires.target h.0 here,
+      rounds_more c.args.asked.now.net.now c.args.asked.now.target c.args.asked.now.place c.args.first rounds c.in_ok-after.after c.in_ok-after.ensures.rules c.requires.target h.0 here,
       length-append rounds (c.in_ok-after.after ∷ []) ∙ ap (λ (z : ℕ). z + 1) h.1,
     )
 
@@ -49,7 +49,7 @@ pub returns-then-is_last-clause-rounds : goal.returns-then-is_last-clause-rounds
 returns-then-is_last-clause-rounds c =
     let here = rw (c.last_cells.ensures, c.deref.ensures.value) at c.in_ok-after.ensures.after in
     rw c.in_ok-push-2.ensures.items
-    (rounds_more c.args.net.now c.args.target c.args.except c.args.first c.loop-number.rounds.items c.in_ok-after.after c.in_ok-after.ensures.rules c.requires.target c.loop-number.invariant.0 here)
+    (rounds_more c.args.asked.now.net.now c.args.asked.now.target c.args.asked.now.place c.args.first c.loop-number.rounds.items c.in_ok-after.after c.in_ok-after.ensures.rules c.requires.target c.loop-number.invariant.0 here)
 
 pub returns-then-is_last-clause-all : goal.returns-then-is_last-clause-all
 returns-then-is_last-clause-all c =
@@ -59,11 +59,11 @@ returns-then-is_last-clause-all c =
     let here = rw (c.last_cells.ensures, c.deref.ensures.value) at c.in_ok-after.ensures.after in
     let better : NoneIsBetter after = none_by c.better_at.result (rw c.cells.ensures at c.better_at.ensures.none) (search rules) in
     rw c.in_ok-push-2.ensures.items
-    (stopped c.args.net.now c.args.target c.args.except c.args.first c.loop-number.rounds.items after c.args.count
+    (stopped c.args.asked.now.net.now c.args.asked.now.target c.args.asked.now.place c.args.first c.loop-number.rounds.items after c.args.count
     c.in_ok-after.ensures.rules c.requires.target h.0 (omega (arith, c.loop-number-test.true, long)) here better)
 
 pub returns-clause-all : goal.returns-clause-all
 returns-clause-all c =
     let h = c.loop-number.invariant in
     let long = h.1 in
-    whole c.args.net.now c.args.target c.args.except c.args.first c.loop-number.rounds.items c.args.count h.0 (omega (arith, long, c.loop-number-test.false, c.loop-number.auto._number-end))
+    whole c.args.asked.now.net.now c.args.asked.now.target c.args.asked.now.place c.args.first c.loop-number.rounds.items c.args.count h.0 (omega (arith, long, c.loop-number-test.false, c.loop-number.auto._number-end))

@@ -29,13 +29,13 @@ trace-requires-clause-end c =
 
 pub first_loop-requires-clause-path : goal.first_loop-requires-clause-path
 first_loop-requires-clause-path c =
-    let w = long_of c.args.net.now c.args.target c.args.place c.args.all.now c.requires.rules c.requires.apart c.args.end
+    let w = long_of c.args.asked.now.net.now c.args.asked.now.target c.args.asked.now.place c.args.all.now c.requires.rules c.requires.apart c.args.end
     c.deref.result.now c.requires.better (c.deref.ensures.value ∙ c.in_ok-path.ensures) in
     (w.from, c.args.end, w.path)
 
 pub first_loop-requires-clause-long : goal.first_loop-requires-clause-long
 first_loop-requires-clause-long c =
-    let w = long_of c.args.net.now c.args.target c.args.place c.args.all.now c.requires.rules c.requires.apart c.args.end
+    let w = long_of c.args.asked.now.net.now c.args.asked.now.target c.args.asked.now.place c.args.all.now c.requires.rules c.requires.apart c.args.end
     c.deref.result.now c.requires.better (c.deref.ensures.value ∙ c.in_ok-path.ensures) in
     let size = w.size in
     omega arith
@@ -43,5 +43,5 @@ first_loop-requires-clause-long c =
 pub returns : goal.returns
 returns c =
     let h = c.requires.apart in
-    let w = long_of c.args.net.now c.args.target c.args.place c.args.all.now c.requires.rules h c.args.end c.deref.result.now c.requires.better (c.deref.ensures.value ∙ c.in_ok-path.ensures) in
-    above_found c.args.net.now c.args.target c.args.place h.first h.told.all c.requires.rules h.starts h.told.are h.told.long c.deref.result.now c.in_ok-own.own.items c.args.end w c.in_ok-own.ensures
+    let w = long_of c.args.asked.now.net.now c.args.asked.now.target c.args.asked.now.place c.args.all.now c.requires.rules h c.args.end c.deref.result.now c.requires.better (c.deref.ensures.value ∙ c.in_ok-path.ensures) in
+    above_found c.args.asked.now.net.now c.args.asked.now.target c.args.asked.now.place h.first h.told.all c.requires.rules h.starts h.told.are h.told.long c.deref.result.now c.in_ok-own.own.items c.args.end w c.in_ok-own.ensures

@@ -1,0 +1,41 @@
+//! Conditions of calls, tested before the calls are made.
+use std::test::Fail;
+use teg_net::Ratio;
+use teg_parts::{are_parts, split};
+use teg_reader::read_net;
+use teg_sizing::is_target;
+
+// Two transitions that follow each other, and the same two of which one goes before the other.
+const RING: &[u8] = b"transition = [{name = 'a'}, {name = 'b'}]
+place = [
+  {name = 'ab', from = 'a', to = 'b', hold = 3},
+  {name = 'ba', from = 'b', to = 'a', hold = 2, tokens = 1},
+]
+";
+
+const PATH: &[u8] = b"transition = [{name = 'a'}, {name = 'b'}]
+place = [
+  {name = 'ab', from = 'a', to = 'b', hold = 3},
+]
+";
+
+#[test]
+fn parts_are_those_of_one_net(rt: HostRuntime) -> Result<(), Fail> {
+    let ring = read_net(rt.alloc(), RING)?;
+    let path = read_net(rt.alloc(), PATH)?;
+    let parts = split(rt.alloc(), &ring)?;
+    assert!(rt; parts.count() == 1);
+    assert!(rt; are_parts(rt.alloc(), &ring, &parts)?);
+    assert!(rt; !are_parts(rt.alloc(), &path, &parts)?);
+    Ok(())
+}
+
+#[test]
+fn targets_keep_their_limits(rt: HostRuntime) -> Result<(), Fail> {
+    assert!(rt; is_target(&Ratio::of(0, 1)));
+    assert!(rt; is_target(&Ratio::of(1_000_000_000_000, 1)));
+    assert!(rt; !is_target(&Ratio::of(1_000_000_000_001, 1)));
+    assert!(rt; is_target(&Ratio::of(1, 1_000_000)));
+    assert!(rt; !is_target(&Ratio::of(1, 1_000_001)));
+    Ok(())
+}

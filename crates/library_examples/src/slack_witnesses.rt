@@ -1,0 +1,89 @@
+//! Slacks, checked by circuits, potentials and numbers alone; what is off by one shows nothing.
+use std::alloc::Global;
+use std::test::Fail;
+use teg_certificates::{RiseWitness, check_cycle, shows_critical, shows_no_circuit, shows_rise};
+use teg_check::LiveNet;
+use teg_cycle::cycle;
+use teg_net::{Circuit, CycleAnswer, OutOfMemory, PlaceId};
+use teg_parts::split;
+use teg_reader::read_net;
+
+// Parts are cut, drilled and painted; the drill waits until the paint shop takes the part before,
+// so that the line has a cycle time of 8, and each painted part is shipped.
+const LINE: &[u8] =
+    b"transition = [{name = 'cut'}, {name = 'drill'}, {name = 'paint'}, {name = 'ship'}]
+place = [
+  {name = 'cut_free', from = 'cut', to = 'cut', hold = 4, tokens = 1},
+  {name = 'drill_free', from = 'drill', to = 'drill', hold = 7, tokens = 1},
+  {name = 'to_drill', from = 'cut', to = 'drill', hold = 5},
+  {name = 'to_paint', from = 'drill', to = 'paint', hold = 8},
+  {name = 'drill_room', from = 'drill', to = 'cut', tokens = 2},
+  {name = 'paint_room', from = 'paint', to = 'drill', tokens = 1},
+  {name = 'to_ship', from = 'paint', to = 'ship', hold = 1},
+]
+";
+
+// The line, held, and its cycle times, which are a certificate.
+fn line(alloc: Global) -> Result<(LiveNet, CycleAnswer), Fail> {
+    let held = LiveNet::new(alloc, read_net(alloc, LINE)?)?;
+    let answer = answer_of(alloc, &held)?;
+    Ok((held, answer))
+}
+
+// The cycle times of a net that is held, by its parts.
+fn answer_of(alloc: Global, held: &LiveNet) -> Result<CycleAnswer, OutOfMemory> {
+    let parts = split(alloc, held.net())?;
+    cycle(alloc, held.net(), held.live(), &parts)
+}
+
+// What would show that the hold of `drill_free` rises by so much, with these potentials.
+fn drill_rise(alloc: Global, by: u64, potentials: &[i128]) -> Result<RiseWitness, Fail> {
+    Ok(RiseWitness {
+        by,
+        circuit: Circuit {
+            places: vec![in alloc; PlaceId::new(1); 1]?,
+        },
+        potentials: potentials.to_vec(alloc)?,
+    })
+}
+
+#[test]
+fn a_critical_place_is_shown(rt: HostRuntime) -> Result<(), Fail> {
+    let (held, answer) = line(rt.alloc())?;
+    assert!(rt; check_cycle(held.net(), &answer));
+    let slowest = [PlaceId::new(3), PlaceId::new(5)];
+    assert!(rt; shows_critical(held.net(), &answer, PlaceId::new(3), &slowest));
+    assert!(rt; shows_critical(held.net(), &answer, PlaceId::new(5), &slowest));
+    assert!(rt; !shows_critical(held.net(), &answer, PlaceId::new(1), &slowest));
+    let drill = [PlaceId::new(1)];
+    assert!(rt; !shows_critical(held.net(), &answer, PlaceId::new(1), &drill));
+    Ok(())
+}
+
+#[test]
+fn a_rise_is_shown(rt: HostRuntime) -> Result<(), Fail> {
+    let (held, answer) = line(rt.alloc())?;
+    let place = PlaceId::new(1);
+    let tight = [-16, 0, 8, 9];
+    let one = drill_rise(rt.alloc(), 1, &tight)?;
+    assert!(rt; shows_rise(held.net(), &answer, place, &one));
+    assert!(rt; !shows_rise(held.net(), &answer, PlaceId::new(0), &one));
+    let none = drill_rise(rt.alloc(), 0, &tight)?;
+    assert!(rt; !shows_rise(held.net(), &answer, place, &none));
+    let two = drill_rise(rt.alloc(), 2, &tight)?;
+    assert!(rt; !shows_rise(held.net(), &answer, place, &two));
+    let lifted = drill_rise(rt.alloc(), 1, &[-16, 1, 8, 9])?;
+    assert!(rt; !shows_rise(held.net(), &answer, place, &lifted));
+    Ok(())
+}
+
+#[test]
+fn that_no_circuit_passes_is_shown(rt: HostRuntime) -> Result<(), Fail> {
+    let (held, answer) = line(rt.alloc())?;
+    let shipping = PlaceId::new(6);
+    assert!(rt; shows_no_circuit(held.net(), &answer.part_of, shipping));
+    assert!(rt; !shows_no_circuit(held.net(), &answer.part_of, PlaceId::new(2)));
+    assert!(rt; !shows_no_circuit(held.net(), &[0, 0, 1, 1], shipping));
+    assert!(rt; !shows_no_circuit(held.net(), &answer.part_of, PlaceId::new(7)));
+    Ok(())
+}
