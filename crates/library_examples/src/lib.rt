@@ -3,10 +3,11 @@
 //! answers at once, the usage by the table of commands, words of texts, records of files, matrices
 //! of flags and of dates through the bounds, answers that were worked out by hand, a settled form
 //! by rows of one's own, the advice of a small crate on the library, nets that are held, changed
-//! and asked again, checkers of what answers show, and the chapters of docs/LIBRARY.md. The crate
-//! has tests alone: they show what no contract says, that memory is found, also at the limits. It
-//! stands on `teg_report`, `pace_example`, `teg_replay` and `series_ops`, and on what these stand
-//! on.
+//! and asked again, checkers of what answers show, delays that stay, timetables and due dates that
+//! a program makes itself, and the chapters of docs/LIBRARY.md. The crate has tests alone: they show
+//! what no contract says, that memory is found, also at the limits. It stands on `teg_report`,
+//! `pace_example`, `teg_replay`, `teg_forever`, `teg_timetable` and `series_ops`, and on what these
+//! stand on.
 #![tactic(auto)]
 
 #[cfg(test)]
@@ -21,6 +22,8 @@ mod chapters_plans;
 mod chapters_series;
 #[cfg(test)]
 mod held_nets;
+#[cfg(test)]
+mod kept_delays;
 #[cfg(test)]
 mod matrices;
 #[cfg(test)]
