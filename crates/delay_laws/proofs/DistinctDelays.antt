@@ -1,5 +1,5 @@
 -- Delays of which no two are of one departure, as entries without two of one key.
-use Rattle.std.proofs.Common.{ℕ, ◌<◌, ◌≡◌, ◌≢◌, List, length, get_or, refl, sym, ap, subst, ◌∙◌}
+use Rattle.std.proofs.Common.{ℕ, ◌≡◌, ◌≢◌, List, ap, ◌∙◌}
 use Rattle.std.specs.Prelude.{AllPairs, Any}
 use Rattle.delay_laws.specs.declared.table.Delay.{Delay}
 
@@ -14,14 +14,11 @@ no_delay = record { row = 0; transition = record { index = 0 }; number = 0; by =
 abbrev pub AreOfApartDepartures : List Delay → Type 0
 AreOfApartDepartures ds = AllPairs (λ c d. c.transition.index ≡ d.transition.index → c.number ≢ d.number) ds
 
-pub same_departure : (c d : Delay) → c.transition.index ≡ d.transition.index → c.number ≡ d.number → departure c ≡ departure d
+same_departure : (c d : Delay) → c.transition.index ≡ d.transition.index → c.number ≡ d.number → departure c ≡ departure d
 same_departure c d e f = ap (λ (i : ℕ). (i, c.number)) e ∙ ap (λ (k : ℕ). (d.transition.index, k)) f
 
 pub apart_keys : (ds : List Delay) → AreOfApartDepartures ds → AllPairs (λ c d. departure c ≢ departure d) ds
 apart_keys ds h i j d l m e = h i j d l m (ap (λ (k : ℕ × ℕ). k.0) e) (ap (λ (k : ℕ × ℕ). k.1) e)
-
-pub apart_departures : (ds : List Delay) → AllPairs (λ c d. departure c ≢ departure d) ds → AreOfApartDepartures ds
-apart_departures ds h i j d l m e f = h i j d l m (same_departure (get_or ds i d) (get_or ds j d) e f)
 
 -- a delay of this departure, by its key and back
 pub any_key : (ds : List Delay) (e : Delay) → Any (λ d. (d.transition.index ≡ e.transition.index) × (d.number ≡ e.number)) ds → Any (λ d. departure d ≡ departure e) ds

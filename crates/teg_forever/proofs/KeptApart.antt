@@ -4,7 +4,7 @@ use Rattle.std.specs.Prelude.{Option, None, IfNone, IfSome}
 use Rattle.std.proofs.lemmas.Bool.{cases_lt}
 use Rattle.std.proofs.lemmas.Int.{ints}
 use Rattle.std.proofs.lemmas.Nat.{div-add-mod', mul-le}
-use Rattle.std.proofs.Math.Nat.{mod-lt, mul-le-mul_left}
+use Rattle.std.proofs.Math.Nat.{eq-or-lt_of_le, mod-lt, mul-le-mul_left}
 use Rattle.dioid.specs.declared.dates.Date.{Date}
 use Rattle.dioid.specs.declared.dates.Date.TheVariants.{At}
 use Rattle.dioid.specs.Dates.{move}
@@ -26,8 +26,8 @@ distributes a b c = grind arith
 -- a number below a line is no greater than one above another, which begins no lower and rises no slower
 pub keep_apart : (firings rise every gap under over date due m i q j p : ℕ) → 1 ≤ firings → 1 ≤ every
     → m ≡ q * firings + i → m ≡ p * every + j
-    → firings * date ≤ under + rise * i → over + gap * j ≤ every * due
-    → every * under ≤ firings * over → rise * every ≤ firings * gap
+    → firings * date ≤ under + rise * i → over + gap * j ≤ every * due + gap * every
+    → every * under + firings * (gap * every) ≤ firings * over → rise * every ≤ firings * gap
     → date + q * rise ≤ due + p * gap
 keep_apart firings rise every gap under over date due m i q j p one two first second low high start slope =
     let z : ℕ = date + q * rise in
@@ -37,9 +37,10 @@ keep_apart firings rise every gap under over date due m i q j p one two first se
     let dates : firings * z ≡ firings * date + rise * (q * firings) = grind arith in
     let dues : every * d ≡ every * due + gap * (p * every) = grind arith in
     let below : firings * z ≤ under + rise * m = omega arith in
-    let above : over + gap * m ≤ every * d = omega arith in
+    let above : over + gap * m ≤ every * d + gap * every = omega arith in
     let left : every * (firings * z) ≤ every * (under + rise * m) = mul-le-mul_left {m = firings * z} {n = under + rise * m} every below in
-    let right : firings * (over + gap * m) ≤ firings * (every * d) = mul-le-mul_left {m = over + gap * m} {n = every * d} firings above in
+    let right : firings * (over + gap * m) ≤ firings * (every * d + gap * every) = mul-le-mul_left {m = over + gap * m} {n = every * d + gap * every} firings above in
+    let open_above : firings * (every * d + gap * every) ≡ firings * (every * d) + firings * (gap * every) = grind arith in
     let open_left : every * (under + rise * m) ≡ every * under + rise * every * m = grind arith in
     let open_right : firings * (over + gap * m) ≡ firings * over + firings * gap * m = grind arith in
     let slopes : m * (rise * every) ≤ m * (firings * gap) = mul-le-mul_left {m = rise * every} {n = firings * gap} m slope in
@@ -55,6 +56,37 @@ keep_apart firings rise every gap under over date due m i q j p one two first se
     absurd (omega arith))
     (λ (not_late : z ≤ d). not_late)
     (cases_lt d z)
+
+-- ---- the lines
+
+-- one date more is not above the line
+pub under_more : (f : SettledForm) (t past firings rise start next place date : ℕ)
+    → ((i z : ℕ) → i < place → settled_date f t (past + 1 + i) ≡ At (pos z) → firings * z ≤ start + rise * i)
+    → settled_date f t (past + 1 + place) ≡ At (pos date) → start ≤ next → firings * date ≤ next + rise * place
+    → (i z : ℕ) → i < place + 1 → settled_date f t (past + 1 + i) ≡ At (pos z) → firings * z ≤ next + rise * i
+under_more f t past firings rise start next place date old here up low i z l e = ⊎_elim
+    (λ (last : i ≡ place).
+    let there : settled_date f t (past + 1 + place) ≡ At (pos z) = subst (λ (n : ℕ). settled_date f t (past + 1 + n) ≡ At (pos z)) last e in
+    let both : At (pos date) ≡ At (pos z) = sym here ∙ there in
+    let same : date ≡ z = cc in
+    subst (λ (n : ℕ). firings * z ≤ next + rise * n) (sym last) (subst (λ (n : ℕ). firings * n ≤ next + rise * place) same low))
+    (λ (before : i < place). let kept = old i z before e in omega arith)
+    (eq-or-lt_of_le {n = i} {m = place} (omega arith))
+
+-- one due date more is not below it
+pub over_more : (r : EndlessRow) (past start next place due : ℕ)
+    → ((j d : ℕ) → j < place → row_due r (past + 1 + j) ≡ Some d → start + r.gap * j ≤ r.every * d + r.gap * r.every)
+    → row_due r (past + 1 + place) ≡ Some due → next ≤ start → next + r.gap * place ≤ r.every * due + r.gap * r.every
+    → (j d : ℕ) → j < place + 1 → row_due r (past + 1 + j) ≡ Some d → next + r.gap * j ≤ r.every * d + r.gap * r.every
+over_more r past start next place due old here down high j d l e = ⊎_elim
+    (λ (last : j ≡ place).
+    let there : row_due r (past + 1 + place) ≡ Some d = subst (λ (n : ℕ). row_due r (past + 1 + n) ≡ Some d) last e in
+    let both : Some due ≡ Some d = sym here ∙ there in
+    let same : due ≡ d = cc in
+    subst (λ (n : ℕ). next + r.gap * n ≤ r.every * d + r.gap * r.every) (sym last)
+    (subst (λ (n : ℕ). next + r.gap * place ≤ r.every * n + r.gap * r.every) same high))
+    (λ (before : j < place). let kept = old j d before e in omega arith)
+    (eq-or-lt_of_le {n = j} {m = place} (omega arith))
 
 -- ---- due dates
 
@@ -73,7 +105,7 @@ due_times net r ok (suc n) k l =
 pub none_past : (net : NetLists) (r : EndlessRow) → IsEndlessRow net r → (f : SettledForm) → IsClimbing f r.transition.index → GoesOnBySteps f r.transition.index
     → (past firings rise under over : ℕ) → f.after ≤ past → length r.dates ≤ past + r.every → 1 ≤ firings → RisesIn f r.transition.index firings rise
     → AreDatesUnder f r.transition.index past firings rise under → AreDuesOver r past over
-    → r.every * under ≤ firings * over → rise * r.every ≤ firings * r.gap → NoneLatePast (settled_date f) r past
+    → r.every * under + firings * (r.gap * r.every) ≤ firings * over → rise * r.every ≤ firings * r.gap → NoneLatePast (settled_date f) r past
 none_past net r ok f climbing steps past firings rise under over after listed one rises low high start slope k due least far late =
     let t : ℕ = r.transition.index in
     let m : ℕ = k - past - 1 in

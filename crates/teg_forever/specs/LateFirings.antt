@@ -62,9 +62,18 @@ NoneLatePast x r past = (k due least : ℕ) → past < k → IsLateAt x r k due 
 abbrev pub AreDatesUnder : SettledForm → ℕ → ℕ → ℕ → ℕ → ℕ → Type 0
 AreDatesUnder f t past firings rise start = (i z : ℕ) → i < firings → settled_date f t (past + 1 + i) ≡ At (pos z) → firings * z ≤ start + rise * i
 
--- times `every` no due date of the first `every` numbers past this one is below a line from `start` on that rises as the row does
+-- times `every` no due date of the first `every` numbers past this one is below a line that rises as the row does, from `start` on less
+-- the gap for each of these numbers
 abbrev pub AreDuesOver : EndlessRow → ℕ → ℕ → Type 0
-AreDuesOver r past start = (j d : ℕ) → j < r.every → row_due r (past + 1 + j) ≡ Some d → start + r.gap * j ≤ r.every * d
+AreDuesOver r past start = (j d : ℕ) → j < r.every → row_due r (past + 1 + j) ≡ Some d → start + r.gap * j ≤ r.every * d + r.gap * r.every
+
+-- the longest cycle whose dates are held against due dates by lines
+abbrev pub most_cycle : ℕ
+most_cycle = 100000
+
+-- no number whose due date is held against a line is as great
+abbrev pub greatest_row_number : ℕ
+greatest_row_number = 2000000000000000
 
 -- it holds of the least dating of the net with all inputs at 0
 abbrev pub InLeastAtZero : NetLists → ((ℕ → ℕ → Date) → Type 0) → Type 0
