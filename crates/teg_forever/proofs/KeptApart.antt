@@ -50,7 +50,7 @@ keep_apart firings rise every gap under over date due m i q j p one two first se
     ⊎_elim
     (λ (late : d < z).
     let some : 1 ≤ every * firings = omega (arith, mul-le 1 1 every firings two one) in
-    let more : (every * firings) * (d + 1) ≤ (every * firings) * z = mul-le-mul_left {m = d + 1} {n = z} (every * firings) late in
+    let more : (every * firings) * (d + 1) ≤ (every * firings) * z = mul-le-mul_left {m = d + 1} {n = z} (every * firings) (omega (arith, late)) in
     let same : (every * firings) * z ≡ every * (firings * z) = grind arith in
     let same' : (every * firings) * (d + 1) ≡ firings * (every * d) + every * firings = grind arith in
     absurd (omega arith))

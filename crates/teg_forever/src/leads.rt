@@ -21,6 +21,22 @@ use teg_settle::SettledDates;
 // The longest cycle that is looked at, so that all products are small.
 const MOST_CYCLE: u64 = 100_000;
 
+// The greater of two numbers.
+fn greater(first: u128, second: u128) -> u128
+    ensures first { first ≤ result }
+    ensures second { second ≤ result }
+{
+    if first < second { second } else { first }
+}
+
+// The lesser of two numbers.
+fn lesser(first: u128, second: u128) -> u128
+    ensures first { result ≤ first }
+    ensures second { result ≤ second }
+{
+    if first < second { first } else { second }
+}
+
 // Where a line has to begin at least so that this date, at this place of a cycle, is not above it.
 fn start_under(cycle: Cycle, date: u128, place: u64) -> u128
     requires firings { cycle.firings ≤ most_cycle }
@@ -44,7 +60,7 @@ fn line_under(settled: &SettledDates, transition: TransitionId, past: u64, cycle
     let mut start = 0;
     for place in 0..cycle.firings {
         let date = least_at(settled, transition, past + 1 + place);
-        start = start.max(start_under(cycle, date, place));
+        start = greater(start, start_under(cycle, date, place));
     }
     start
 }
@@ -71,8 +87,8 @@ fn line_over(row: &EndlessRow, past: u64) -> u128
 {
     let mut start = u128::MAX;
     for place in 0..row.every {
-        let due = due_at(row, past + 1 + u64::from(place));
-        start = start.min(start_over(row, due, place));
+        let due = due_at(row, past + 1 + place as u64);
+        start = lesser(start, start_over(row, due, place));
     }
     start
 }
