@@ -12,7 +12,7 @@ use Rattle.periodic_laws.proofs.dioid_proofs.AtMost.{le_is, le_trans}
 use Rattle.teg_net.specs.declared.entries.Place.{Place}
 use Rattle.teg_net.specs.declared.entries.PlaceId.{PlaceId}
 use Rattle.teg_net.specs.Nets.{NetLists}
-use Rattle.teg_net.specs.Circuits.{no_place, place_at, from_of, IsPathBetween, IsCircuit, time_of, tokens_of}
+use Rattle.teg_net.specs.Circuits.{no_place, place_at, from_of, IsPathBetween, time_of, tokens_of}
 use Rattle.teg_net.specs.Parts.{to_of}
 use Rattle.periodic_laws.specs.teg_model.Systems.{available_in}
 use Rattle.periodic_laws.specs.teg_model.LiveRanks.{HasEndsInRange}
@@ -21,9 +21,9 @@ use Rattle.periodic_laws.proofs.teg_model_proofs.OfNet.{extended_has}
 use Rattle.periodic_laws.proofs.teg_model_proofs.Tokens.{available_after}
 use Rattle.periodic_laws.proofs.teg_model_proofs.DateFunctions.{Dating}
 use Rattle.delay_laws.specs.declared.table.Timetable.{Timetable}
-use Rattle.delay_laws.specs.PlannedTimetables.{first_planned, planned, delay_given, IsWorkable}
+use Rattle.delay_laws.specs.PlannedTimetables.{first_planned, planned, IsWorkable}
 use Rattle.delay_laws.specs.Delays.{IsDelayedBy, AreAbovePlan, AreDelaysLeft}
-use Rattle.delay_laws.specs.TightCircuits.{IsTightCircuit, GivenDelaysAreLeft, PathsPassDelaysOn, TightCircuitsPassDelaysRound, TightCircuitsKeepDelays}
+use Rattle.delay_laws.specs.TightCircuits.{GivenDelaysAreLeft, PathsPassDelaysOn, TightCircuitsPassDelaysRound, TightCircuitsKeepDelays}
 
 -- ---- a place, and a path
 

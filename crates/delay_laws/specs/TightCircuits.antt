@@ -1,5 +1,5 @@
 -- What shows that delays stay: a circuit to which the plan leaves no spare time (chapters 2 and 3).
-use Rattle.std.specs.Prelude.{ℕ, ◌+◌, ◌*◌, ◌≤◌, ◌<◌, ◌≡◌, List, All, Contains, length}
+use Rattle.std.specs.Prelude.{ℕ, ◌+◌, ◌*◌, ◌≤◌, ◌<◌, ◌≡◌, List, Contains, length}
 use Rattle.teg_net.specs.declared.entries.PlaceId.{PlaceId}
 use Rattle.teg_net.specs.Nets.{NetLists}
 use Rattle.teg_net.specs.Circuits.{from_of, IsPathBetween, IsCircuit, IsLive, BeginsLowest, time_of, tokens_of}

@@ -13,7 +13,7 @@ use Rattle.forever_laws.proofs.GoingOn.{due_number, due_is, due_only, due_again}
 use Rattle.forever_laws.specs.settled_laws.SettledForms.{SettledForm, settled_date}
 use Rattle.forever_laws.specs.declared.rows.EndlessRow.{EndlessRow}
 use Rattle.forever_laws.specs.EndlessRows.{IsEndlessRow, row_due}
-use Rattle.forever_laws.specs.Late.{IsLateAt, NoneLateTo, NoneLate}
+use Rattle.forever_laws.specs.Late.{NoneLateTo, NoneLate}
 use Rattle.teg_net.specs.Nets.{NetLists}
 use Rattle.teg_forever.specs.LateFirings.{AreDatesUnder, AreDuesOver, GoesOnBySteps, IsClimbing, NoneLatePast, RisesIn}
 use Rattle.teg_forever.proofs.Cycles.{rises_times}

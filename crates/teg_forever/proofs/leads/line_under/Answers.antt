@@ -1,4 +1,4 @@
-use Rattle.std.proofs.Common.{◌≤◌, ◌<◌, ◌+◌, ◌*◌, arith}
+use Rattle.std.proofs.Common.{arith}
 use Rattle.teg_forever.proofs.KeptApart.{under_more}
 use Rattle.teg_forever.proofs.leads.line_under.Goals as goal
 
