@@ -6,6 +6,8 @@ pub mod Steps
 pub mod Passing
 pub mod PassedOn
 pub mod Keeping
+pub mod TightCircuits
+mod DistinctDelays
 pub mod ReleaseLists
 pub mod Derived
 pub mod DerivedDates

@@ -6,3 +6,4 @@ pub mod DelayLaws
 pub mod SettlingLaws
 pub mod OutcomeLaws
 pub mod OneDelayForm
+pub mod TightCircuits

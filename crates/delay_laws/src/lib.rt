@@ -11,15 +11,19 @@
 
 mod laws;
 mod outcomes;
+mod rules;
 mod settling;
 mod table;
+mod tight;
 
 pub use laws::{delayed_datings_exist, delays_are_within, releases_follow_the_plan};
 pub use outcomes::{
     circuits_keep_delays, delays_die_out, delays_die_out_or_are_kept, greatest_delays_are_passed_on,
 };
+pub use rules::is_table_of;
 pub use settling::{
     delays_settle, forms_of_delays_are_one, forms_tell_delays, release_nets_tell_delays,
     steps_are_the_plan,
 };
 pub use table::{Delay, Outcome, Timetable};
+pub use tight::{paths_pass_delays_on, shows_kept, tight_circuits_keep_delays};

@@ -1,12 +1,8 @@
-//! Examples of the library where the program does not show it: net files that are read, copied and
-//! written, rows of dates as a stream, latest inputs with the standard form, the texts of two
-//! answers at once, the usage by the table of commands, words of texts, records of files, matrices
-//! of flags and of dates through the bounds, answers that were worked out by hand, a settled form
-//! by rows of one's own, the advice of a small crate on the library, nets that are held, changed
-//! and asked again, nets that are made from lists, checkers of what answers show, and the chapters
-//! of docs/LIBRARY.md. The crate has tests alone: they show what no contract says, that memory is
-//! found, also at the limits. It stands on `teg_report`, `pace_example`, `teg_replay` and
-//! `series_ops`, and on what these stand on.
+//! Examples of the crates as libraries, by files of their subjects: bytes of a net file read, asked
+//! and checked; answers that were worked out by hand; values at their limits; nets that are held,
+//! made from lists and changed; checkers of what answers show, conditions on values that a program
+//! makes itself, the heads of crates, and the chapters of docs/LIBRARY.md. The crate has tests
+//! alone: they show what no contract says, that memory is found, also at the limits.
 #![tactic(auto)]
 
 #[cfg(test)]
@@ -23,6 +19,8 @@ mod chapters_series;
 mod conditions;
 #[cfg(test)]
 mod held_nets;
+#[cfg(test)]
+mod kept_delays;
 #[cfg(test)]
 mod made_nets;
 #[cfg(test)]

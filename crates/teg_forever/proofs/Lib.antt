@@ -5,6 +5,7 @@ pub mod Gathered
 pub mod InputLists
 pub mod Itself
 pub mod KeepingPace
+pub mod KeptApart
 pub mod LateNumbers
 pub mod LateTurns
 pub mod ReadBack

@@ -1,5 +1,5 @@
 -- Working definitions of what the search for a late firing goes by.
-use Rattle.std.specs.Prelude.{ℕ, ⊤, pos, ◌+◌, ◌*◌, ◌<◌, ◌≤◌, ◌≡◌, length}
+use Rattle.std.specs.Prelude.{ℕ, ⊤, Some, pos, ◌+◌, ◌*◌, ◌<◌, ◌≤◌, ◌≡◌, length}
 use Rattle.dioid.specs.declared.dates.Date.{Date}
 use Rattle.dioid.specs.declared.dates.Date.TheVariants.{At}
 use Rattle.dioid.specs.Dates.{move}
@@ -9,8 +9,8 @@ use Rattle.forever_laws.specs.teg_model.Datings.{IsLeastUnder}
 use Rattle.forever_laws.specs.settled_laws.SettledForms.{SettledForm, StandsFor, settled_date, step_of_form}
 use Rattle.forever_laws.specs.due_laws.MeetingDueDates.{inputs_at_zero}
 use Rattle.forever_laws.specs.declared.rows.EndlessRow.{EndlessRow}
-use Rattle.forever_laws.specs.EndlessRows.{IsEndlessRow}
-use Rattle.forever_laws.specs.Late.{IsLeastLate, NoneLate}
+use Rattle.forever_laws.specs.EndlessRows.{IsEndlessRow, row_due}
+use Rattle.forever_laws.specs.Late.{IsLateAt, IsLeastLate, NoneLate}
 use Rattle.forever_laws.specs.EndlessDues.{late_date_bound, late_number_bound}
 use Rattle.teg_forever.specs.declared.late.Soonest.{Soonest}
 use Rattle.teg_forever.specs.declared.late.CommonPeriod.{CommonPeriod}
@@ -53,6 +53,27 @@ pub record IsSoonLate (f : SettledForm) (r : EndlessRow) (k due least : ℕ) : T
 -- the number, so many turns on, is the least late number of the row
 abbrev pub IsLateAfter : SettledForm → EndlessRow → CommonPeriod → Soonest → Type 0
 IsLateAfter f r turn s = IsSoonLate f r (s.number + s.turns * turn.firings) (s.due + s.turns * turn.fall) (s.least + s.turns * turn.rise)
+
+-- no number past this one is late
+abbrev pub NoneLatePast : (ℕ → ℕ → Date) → EndlessRow → ℕ → Type 0
+NoneLatePast x r past = (k due least : ℕ) → past < k → IsLateAt x r k due least → ⊥
+
+-- times the firings of a cycle no date of its numbers past this one is above a line from `start` on that rises as the cycle does
+abbrev pub AreDatesUnder : SettledForm → ℕ → ℕ → ℕ → ℕ → ℕ → Type 0
+AreDatesUnder f t past firings rise start = (i z : ℕ) → i < firings → settled_date f t (past + 1 + i) ≡ At (pos z) → firings * z ≤ start + rise * i
+
+-- times `every` no due date of the first `every` numbers past this one is below a line that rises as the row does, from `start` on less
+-- the gap for each of these numbers
+abbrev pub AreDuesOver : EndlessRow → ℕ → ℕ → Type 0
+AreDuesOver r past start = (j d : ℕ) → j < r.every → row_due r (past + 1 + j) ≡ Some d → start + r.gap * j ≤ r.every * d + r.gap * r.every
+
+-- the longest cycle whose dates are held against due dates by lines
+abbrev pub most_cycle : ℕ
+most_cycle = 100000
+
+-- no number whose due date is held against a line is as great
+abbrev pub greatest_row_number : ℕ
+greatest_row_number = 2000000000000000
 
 -- it holds of the least dating of the net with all inputs at 0
 abbrev pub InLeastAtZero : NetLists → ((ℕ → ℕ → Date) → Type 0) → Type 0

@@ -1,6 +1,6 @@
 //! Late numbers looked for in the rows of the least dating, one after another, of which only the
 //! last are kept: for nets whose dates settle late, or have a form that is too long.
-ghost use Rattle.std.specs.Prelude.{◌≡◌, ◌<◌, ◌≤◌, ◌+◌, All, ℕ, length, pos, IfErr, IfOk, IfNone, IfSome};
+ghost use Rattle.std.specs.Prelude.{◌≡◌, ◌<◌, ◌≤◌, ◌+◌, All, ℕ, length, pos, IfOk, IfNone, IfSome};
 ghost use Rattle.dioid.specs.declared.dates.Date.TheVariants.{At};
 ghost use Rattle.teg_net.specs.Circuits.{IsLive};
 ghost use Rattle.teg_net.specs.Limits.{greatest_firing_number, most_place_tokens};
@@ -8,7 +8,7 @@ ghost use Rattle.teg_net.specs.Nets.{IsNet, without_inputs};
 ghost use Rattle.teg_dates.specs.Streams.{IsStreamOf, rows_given};
 ghost use Rattle.teg_form.specs.StandardForms.{IsStandardFormOf};
 ghost use Rattle.forever_laws.specs.EndlessRows.{IsEndlessRow};
-ghost use Rattle.forever_laws.specs.Late.{IsLeastLate, NoneLate, NoneLateTo};
+ghost use Rattle.forever_laws.specs.Late.{IsLeastLate, NoneLateTo};
 ghost use Rattle.forever_laws.specs.PacedRows.{paced_bound};
 ghost use Rattle.teg_forever.specs.LateFirings.{InLeastAtZero, IsTold};
 

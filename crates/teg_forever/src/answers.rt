@@ -200,8 +200,9 @@ fn keep_dues(
 /// The order of the work, for n transitions and p places: without rows nothing is asked of the
 /// net's dates. Else the least dating with all inputs at 0 is settled within 20,000 numbers, if its
 /// form is so short: for a settling length l this takes rows of order l, each in time of order `n +
-/// p`, and each due row is held against it as far as the dates of its transition take to repeat
-/// with it, at most in time of order `1,000 l + 10,000`; the divisors of the net's period are tried
+/// p`, and each due row is held against it: by two lines, in time of order `l + e` for a row that
+/// goes on after e firings; only where these cross, as far as the dates of its transition take to
+/// repeat with it, at most in time of order `1,000 l + 10,000`; the divisors of the net's period are tried
 /// for the period of the transition's own, each mostly for a few numbers. Where it is longer, as
 /// for rates that nearly agree, the standard form is made, in time of order `n^3 + n p`, and for
 /// each due row the rows of the net are gone through once more, without keeping them: up to `d + e

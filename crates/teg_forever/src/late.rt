@@ -1,5 +1,5 @@
 //! The least late number of a row: the firing that comes later than due, whatever the inputs are.
-ghost use Rattle.std.specs.Prelude.{◌≡◌, ◌<◌, ◌≤◌, ◌+◌, ◌*◌, ◌%◌, ◌⊎◌, pos, IfOk, IfNone, IfSome, IsTrue};
+ghost use Rattle.std.specs.Prelude.{length, ◌≡◌, ◌<◌, ◌≤◌, ◌+◌, ◌*◌, ◌%◌, ◌⊎◌, pos, IfOk, IfNone, IfSome, IsTrue};
 ghost use Rattle.dioid.specs.declared.dates.Date.TheVariants.{At};
 ghost use Rattle.teg_net.specs.Circuits.{IsLive};
 ghost use Rattle.teg_net.specs.Nets.{IsNet};
@@ -11,6 +11,7 @@ ghost use Rattle.forever_laws.specs.Late.{IsLeastLate, NoneLate, NoneLateTo};
 ghost use Rattle.forever_laws.specs.LateSearches.{IsSoonest, IsCommonPeriodOf, turns_to};
 ghost use Rattle.teg_forever.specs.LateFirings.{GoesOnBySteps, IsClimbing, IsGoingRow, IsLateAfter, IsSoonLate, IsZeroForm, RisesIn};
 
+use crate::leads::none_late_past;
 use dioid::Date;
 use forever_laws::{EndlessRow, late_is_soon, turns_tell_late};
 use teg_net::{GREATEST_FIRING_NUMBER, Net, OutOfMemory, TransitionId};
@@ -26,9 +27,9 @@ pub(crate) struct LateFiring {
 
 // So many firings on, the least dates of a transition have risen by so much.
 #[derive(Clone, Copy)]
-struct Cycle {
-    firings: u64,
-    rise: u128,
+pub(crate) struct Cycle {
+    pub firings: u64,
+    pub rise: u128,
 }
 
 // Past number `past` each turn of firings adds `rise` to the least dates and `fall` to the due
@@ -70,7 +71,7 @@ pub(crate) fn due_at(row: &EndlessRow, number: u64) -> u128
 }
 
 // The least date of a firing.
-fn least_at(settled: &SettledDates, transition: TransitionId, number: u64) -> u128
+pub(crate) fn least_at(settled: &SettledDates, transition: TransitionId, number: u64) -> u128
     requires climbing { IsClimbing settled.now transition.index }
     requires first { 1 ≤ number }
     requires last { number ≤ greatest_firing_number }
@@ -250,12 +251,28 @@ fn greater(first: u64, second: u64) -> u64
     if first < second { second } else { first }
 }
 
+// Past which number the dates of the row's transition and its due dates repeat.
+fn past_of(settled: &SettledDates, row: &EndlessRow) -> u64
+    requires row { IsGoingRow row.now }
+    ensures after { settled.now.after ≤ result }
+    ensures listed { length row.now.dates ≤ result + row.now.every }
+    ensures few { result ≤ most_rows + most_endless_dates }
+{
+    let every = row.every as u64;
+    let past_list = row.dates.as_slice().len() as u64 - every;
+    greater(settled.after(), past_list)
+}
+
 // From which number on, and after how many firings, the dates of the row's transition and its due
-// dates repeat together.
-fn turn_of(settled: &SettledDates, row: &EndlessRow) -> CommonPeriod
+// dates repeat together, by a cycle of the dates.
+fn turn_of(settled: &SettledDates, row: &EndlessRow, cycle: Cycle) -> CommonPeriod
     requires climbing { IsClimbing settled.now row.now.transition.index }
     requires steps { GoesOnBySteps settled.now row.now.transition.index }
     requires row { IsGoingRow row.now }
+    requires some { 1 ≤ cycle.firings }
+    requires firings { cycle.firings ≤ most_rows }
+    requires rise { cycle.rise ≤ greatest_least_date }
+    requires rises { RisesIn settled.now row.now.transition.index cycle.firings cycle.rise }
     ensures turn { IsCommonPeriodOf (settled_date settled.now) row.now result.past result.firings
         result.rise
         result.fall }
@@ -263,12 +280,10 @@ fn turn_of(settled: &SettledDates, row: &EndlessRow) -> CommonPeriod
     ensures firings { result.firings ≤ greatest_firing_number }
 {
     let every = row.every as u64;
-    let past_list = row.dates.as_slice().len() as u64 - every;
-    let cycle = own_cycle(settled, row.transition);
     let cycles = common_cycles(cycle.firings, every);
     let firings = cycles * cycle.firings;
     CommonPeriod {
-        past: greater(settled.after(), past_list),
+        past: past_of(settled, row),
         firings,
         rise: cycles as u128 * cycle.rise,
         fall: (firings / every) as u128 * row.gap as u128,
@@ -343,7 +358,12 @@ pub(crate) fn late_in_row(
 {
     turns_tell_late();
     late_is_soon();
-    let turn = turn_of(settled, row);
+    let cycle = own_cycle(settled, row.transition);
+    let past = past_of(settled, row);
+    if none_late_past(settled, row, past, cycle) {
+        return Ok(late_listed(settled, row, past));
+    }
+    let turn = turn_of(settled, row, cycle);
     let last = turn.past + turn.firings;
     if last > GREATEST_FIRING_NUMBER {
         return Err(OutOfMemory);

@@ -25,12 +25,14 @@ mod divisions;
 mod gains;
 mod inputs;
 mod late;
+mod leads;
 mod numbers;
 mod pace;
 mod reading;
 mod releases;
 mod residuals;
 mod rows;
+mod rules;
 mod texts;
 mod twins;
 
@@ -39,6 +41,7 @@ pub use forever_laws::EndlessRow;
 pub use reading::read_endless;
 pub use releases::{ForeverRefusal, Release};
 pub use rows::EndlessRefusal;
+pub use rules::is_endless_of;
 pub use texts::{
     endless_refusal_text, forever_refusal_text, releases_text, texts_of_endless_differ,
 };

@@ -11,10 +11,10 @@ use std::alloc::Global;
 use teg_net::{GREATEST_INPUT_DATE, OutOfMemory};
 
 // The most firings after which dates go on.
-const MOST_EVERY: u64 = 1_000;
+pub(crate) const MOST_EVERY: u64 = 1_000;
 
 // The most dates of a row.
-const MOST_DATES: usize = 10_000;
+pub(crate) const MOST_DATES: usize = 10_000;
 
 /// The numbers of a record that keep their limits.
 #[derive(Drop)]

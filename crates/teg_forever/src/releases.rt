@@ -4,22 +4,25 @@ ghost use Rattle.teg_forever.specs.declared.releases.ForeverRefusal.TheVariants.
 
 use series_form::Series;
 use std::alloc::AllocError;
+use std::error::Error;
+use std::fmt;
 use teg_net::{OutOfMemory, TransitionId};
 
-/// When an input is released at the latest.
+/// When an input is released at the latest (chapter 5).
 #[derive(Drop)]
 pub enum Release {
     /// No date is asked of it: no walk leads from its firings to a due one.
     Free,
-    /// Shift k - 1 of the series has the latest date of firing k.
+    /// Shift k - 1 of the series has the latest date of firing k, in the user's unit.
     Latest { series: Series },
 }
 
-/// Why the releases are not told, in this order; of several inputs the first is named.
+/// Why the releases are not told, in this order; of several inputs the first is named. Its line
+/// tells a transition by its number, counted from 0.
 #[derive(Clone, Copy, Debug, PartialEq, Eq)]
 pub enum ForeverRefusal {
     /// The firing comes later than due whatever the inputs are: it is the least late number of the
-    /// first row that has one, with its due date and its least date.
+    /// first row that has one, with its due date and its least date, in the user's unit.
     Late {
         transition: TransitionId,
         number: u128,
@@ -41,6 +44,33 @@ pub enum ForeverRefusal {
     /// No memory was found.
     OutOfMemory,
 }
+
+// The line that the workbench prints, with numbers, from 0, in place of the names of transitions.
+impl fmt::Display for ForeverRefusal {
+    fn fmt<W: fmt::Write>(&self, f: &mut fmt::Formatter<W>) -> fmt::Result {
+        match self {
+            ForeverRefusal::Late {
+                transition,
+                number,
+                due,
+                least,
+            } => {
+                write!(f, "late transition {} firing {number}", transition.index)?;
+                write!(f, " due {due} least {least}")
+            }
+            ForeverRefusal::TooLong { input } => {
+                write!(f, "too long: input transition {}", input.index)
+            }
+            ForeverRefusal::TooWide { input, row } => {
+                write!(f, "too long: input transition {}", input.index)?;
+                write!(f, " at due row {row}")
+            }
+            ForeverRefusal::OutOfMemory => f.write_str("out of memory"),
+        }
+    }
+}
+
+impl Error for ForeverRefusal {}
 
 impl From<AllocError> for ForeverRefusal {
     ghost from_gives = { λ _ e. e ≡ OutOfMemory };

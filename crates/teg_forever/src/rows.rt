@@ -2,6 +2,8 @@
 ghost use Rattle.std.specs.Prelude.{◌≡◌};
 ghost use Rattle.teg_forever.specs.declared.rows.EndlessRefusal.TheVariants.{OutOfMemory};
 
+use std::error::Error;
+use std::fmt;
 use teg_net::OutOfMemory;
 
 /// Why a file has no endless due dates: its first faulty row, and the first of its faults in this
@@ -25,6 +27,24 @@ pub enum EndlessRefusal {
     /// No memory was found.
     OutOfMemory,
 }
+
+// The line that the workbench prints, without the word `refused`.
+impl fmt::Display for EndlessRefusal {
+    fn fmt<W: fmt::Write>(&self, f: &mut fmt::Formatter<W>) -> fmt::Result {
+        let (row, fault) = match self {
+            EndlessRefusal::BadRow { row } => (row, "is not an endless due row"),
+            EndlessRefusal::UnknownTransition { row } => (row, "unknown transition"),
+            EndlessRefusal::NotDue { row } => (row, "input transition"),
+            EndlessRefusal::RepeatedDue { row } => (row, "repeated"),
+            EndlessRefusal::OutOfRange { row } => (row, "out of range"),
+            EndlessRefusal::Falls { row } => (row, "falls"),
+            EndlessRefusal::OutOfMemory => return f.write_str("out of memory"),
+        };
+        write!(f, "due row {row} {fault}")
+    }
+}
+
+impl Error for EndlessRefusal {}
 
 impl From<OutOfMemory> for EndlessRefusal {
     ghost from_gives = { λ _ e. e ≡ OutOfMemory };

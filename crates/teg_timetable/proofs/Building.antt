@@ -2,7 +2,7 @@
 use Rattle.std.proofs.Common.{ℕ, ◌+◌, ◌<◌, ◌≤◌, ◌≡◌, List, [], ◌∷◌, ◌++◌, length, sym, subst, ap, ◌∙◌, arith, ⊎_elim}
 use Rattle.std.proofs.lemmas.Bool.{cases_lt}
 use Rattle.std.proofs.lemmas.List.{get_or_append_left, get_or_push, length_push}
-use Rattle.teg_timetable.specs.Working.{AreBuilt}
+use Rattle.teg_timetable.specs.ReleaseNetsBuilt.{AreBuilt}
 
 -- one more
 pub built_more : {X : Type 0} (Is : ℕ → X → Type 0) (count : ℕ) (xs : List X) (x : X) → AreBuilt Is count xs → Is count x → AreBuilt Is (count + 1) (xs ++ x ∷ [])

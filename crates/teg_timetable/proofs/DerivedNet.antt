@@ -14,7 +14,7 @@ use Rattle.teg_net.specs.declared.entries.Role.TheVariants.{Internal, Input}
 use Rattle.teg_net.specs.declared.entries.Transition.{Transition}
 use Rattle.teg_net.specs.Circuits.{no_place}
 use Rattle.teg_net.specs.Nets.{EndsOrGoesOn, IsInput, IsInputOf, IsNet, IsPlaceOf, NetLists}
-use Rattle.teg_timetable.specs.Working.{AreBuilt, ArePlannedReleases, IsDerivedList, IsDerivedTransition, IsNetMade, IsNumberName}
+use Rattle.teg_timetable.specs.ReleaseNetsBuilt.{AreBuilt, ArePlannedReleases, IsDerivedList, IsDerivedTransition, IsNetMade, IsNumberName}
 use Rattle.teg_timetable.proofs.Releasing.{releases_rise}
 
 abbrev no_transition : Transition

@@ -16,7 +16,8 @@ use Rattle.teg_net.specs.Circuits.{from_of, BeginsLowest, IsCircuit, IsLive, IsT
 use Rattle.teg_net.specs.Nets.{IsNet, NetLists}
 use Rattle.teg_net.specs.Parts.{to_of}
 use Rattle.teg_timetable.specs.Spreads.{LeftDelays, delay_left}
-use Rattle.teg_timetable.specs.Working.{AreBuilt, AreFeeders, AreGood, FeedersGoBack, FeedsAt, IsFeeder, IsTop}
+use Rattle.teg_timetable.specs.ReleaseNetsBuilt.{AreBuilt}
+use Rattle.teg_timetable.specs.WaysBack.{AreFeeders, AreGood, FeedersGoBack, FeedsAt, IsFeeder, IsTop}
 
 pub ends_in : (net : NetLists) → IsNet net → HasEndsInRange net
 ends_in net rules k d l = let h = rules.each_place k d l in (h.from_in, h.to_in)

@@ -15,7 +15,8 @@ use Rattle.delay_laws.specs.Delays.{IsReleaseAt}
 use Rattle.delay_laws.proofs.Releases.{release_rises}
 use Rattle.teg_net.specs.Limits.{greatest_input_date}
 use Rattle.teg_timetable.specs.Departures.{or_second}
-use Rattle.teg_timetable.specs.Working.{ArePlannedReleases, IsSmall, given_in}
+use Rattle.teg_timetable.specs.DelaysByNumber.{IsSmall, given_in}
+use Rattle.teg_timetable.specs.ReleaseNetsBuilt.{ArePlannedReleases}
 
 -- so many periods are enough, and they are not more than the delay
 pub periods_enough : (by period : ℕ) → 1 ≤ period → by ≤ period * ((by + period - 1) / period)

@@ -13,7 +13,7 @@ use Rattle.teg_net.specs.Circuits.{from_of, IsPathBetween, IsCircuit}
 use Rattle.teg_net.specs.Parts.{to_of}
 use Rattle.teg_net.proofs.PathLaws.{IsPathBetween-split}
 use Rattle.delay_laws.specs.DelayOutcomes.{HasNoSpare}
-use Rattle.teg_timetable.specs.Working.{AreGood, IsFedCircuit, IsFeeder}
+use Rattle.teg_timetable.specs.WaysBack.{AreGood, IsFedCircuit, IsFeeder}
 
 abbrev pub first_id : PlaceId
 first_id = record { index = 0 }

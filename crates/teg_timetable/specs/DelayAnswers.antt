@@ -9,11 +9,11 @@ use Rattle.teg_net.specs.Circuits.{place_at, AreInRange}
 use Rattle.teg_net.specs.Nets.{NetLists}
 use Rattle.teg_timetable.specs.declared.refusals.DelayRefusal.{DelayRefusal}
 use Rattle.teg_timetable.specs.declared.refusals.DelayRefusal.TheVariants.{TooLarge, Unworkable, TooLong, OutOfMemory}
-use Rattle.teg_timetable.specs.Spreads.{Spread, OutcomeTold, RecoveredTold, KeptTold, delay_by_spread}
+use Rattle.teg_timetable.specs.Spreads.{most_timetable_entries, most_timetable_transitions, Spread, OutcomeTold, RecoveredTold, KeptTold, delay_by_spread}
 
 -- there are more than 200 transitions, or more than 4,000 places and transitions together
 abbrev pub IsNetTooLarge : NetLists → Type 0
-IsNetTooLarge net = (200 < length net.transitions) ⊎ (4000 < length net.transitions + length net.places)
+IsNetTooLarge net = (most_timetable_transitions < length net.transitions) ⊎ (most_timetable_entries < length net.transitions + length net.places)
 
 -- a length is within the limit, where there is one
 abbrev pub IsLengthWithinLimit : Option ℕ → ℕ → Type 0

@@ -4,7 +4,9 @@ pub mod TimetableFiles
 pub mod TableFiles
 pub mod Departures
 pub mod Spreads
-pub mod Working
+pub mod DelaysByNumber
+pub mod ReleaseNetsBuilt
+pub mod WaysBack
 pub mod DelayAnswers
 pub mod TimetableTexts
 pub use Rattle.delay_laws.specs as delay_laws

@@ -13,6 +13,14 @@ use Rattle.teg_net.specs.Limits.{greatest_firing_number, most_rows}
 abbrev pub greatest_period : ℕ
 greatest_period = 1000000
 
+-- transitions of a net whose delays are followed, at most
+abbrev pub most_timetable_transitions : ℕ
+most_timetable_transitions = 200
+
+-- its transitions and places together, at most
+abbrev pub most_timetable_entries : ℕ
+most_timetable_entries = 4000
+
 -- what becomes of delays: none is left after a number, or a circuit keeps them
 pub data OutcomeTold : Type 0 where
   RecoveredTold : (after : ℕ) → OutcomeTold

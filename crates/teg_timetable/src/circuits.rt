@@ -5,7 +5,7 @@ ghost use Rattle.delay_laws.specs.PlannedTimetables.{IsTableOf};
 ghost use Rattle.teg_net.specs.Circuits.{from_of, IsCircuit, BeginsLowest};
 ghost use Rattle.teg_net.specs.Parts.{to_of};
 ghost use Rattle.teg_timetable.specs.Spreads.{greatest_period};
-ghost use Rattle.teg_timetable.specs.Working.{AreFeeders, AreGood, FeedersGoBack, FeedsAt, IsFedCircuit};
+ghost use Rattle.teg_timetable.specs.WaysBack.{AreFeeders, AreGood, FeedersGoBack, FeedsAt, IsFedCircuit};
 
 use delay_laws::Timetable;
 use std::alloc::{AllocError, Global};

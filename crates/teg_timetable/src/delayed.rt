@@ -12,7 +12,8 @@ use teg_net::TransitionId;
 
 /// How the delays of a timetable spread: past a number the delayed dates and the releases go on in
 /// a period; the delay that is left at each departure; and what becomes of the delays. Contracts
-/// see it as a `Spread`. No call takes memory.
+/// see it as a `Spread`. No call takes memory. [`spread`](crate::spread) makes it
+/// (chapters 2 and 3).
 #[derive(Debug, Drop)]
 pub struct Delayed {
     left: Left,
@@ -52,7 +53,8 @@ impl Delayed {
         self.left.width()
     }
 
-    /// The number past which the delayed dates and the releases go on by their steps, 0 or more.
+    /// The number past which the delayed dates and the releases go on by their steps, 0 or more:
+    /// that of the shortest settled form of both together (chapter 3).
     pub fn after(&self) -> u64
         ensures value { result ≡ self.now.form.after }
         ensures short { settled_length self.now.form ≤ most_rows }
@@ -60,7 +62,7 @@ impl Delayed {
         self.left.after()
     }
 
-    /// In how many numbers they go on by a step, at least 1.
+    /// In how many numbers they go on by a step, at least 1: each step is so many planned periods.
     pub fn period(&self) -> u64
         ensures value { result ≡ self.now.form.period }
         ensures some { 1 ≤ result }
@@ -68,8 +70,8 @@ impl Delayed {
         self.left.period()
     }
 
-    /// The delay that is left at the departure of this number, from 1 to 10^18, of this transition:
-    /// at most 50,000.
+    /// The delay that is left at the departure of this number, from 1 to 10^18, of this transition,
+    /// in the user's unit: at most 50,000. It takes no longer for a later number.
     pub fn delay(&self, transition: TransitionId, number: u64) -> u128
         requires transition { transition.index < length self.now.firsts }
         requires first { 1 ≤ number }
@@ -80,7 +82,8 @@ impl Delayed {
         u128::from(self.left.delay(transition, number))
     }
 
-    /// What becomes of the delays.
+    /// What becomes of the delays: they are over after a number, or a circuit keeps them, which
+    /// [`shows_kept`](crate::shows_kept) looks at.
     pub fn outcome(&self) -> &Outcome
         ensures { outcome_told result.now ≡ self.now.outcome }
     {

@@ -4,8 +4,9 @@ ghost use Rattle.std.specs.Prelude.{◌≡◌, ◌≤◌, ◌<◌, ◌+◌, leng
 ghost use Rattle.delay_laws.specs.ReleaseNets.{IsReleaseNet};
 ghost use Rattle.delay_laws.specs.PlannedTimetables.{first_planned, greatest_departure, IsTableOf};
 ghost use Rattle.teg_net.specs.Nets.{IsNet, lists_of};
-ghost use Rattle.teg_timetable.specs.Spreads.{greatest_period};
-ghost use Rattle.teg_timetable.specs.Working.{AreBuilt, AreDelaysSmall, IsDerivedList, IsDerivedPlace, IsDerivedTransition, IsNetMade, IsNumberName};
+ghost use Rattle.teg_timetable.specs.Spreads.{greatest_period, most_timetable_entries, most_timetable_transitions};
+ghost use Rattle.teg_timetable.specs.DelaysByNumber.{AreDelaysSmall};
+ghost use Rattle.teg_timetable.specs.ReleaseNetsBuilt.{AreBuilt, IsDerivedList, IsDerivedPlace, IsDerivedTransition, IsNetMade, IsNumberName};
 
 use crate::releases::{number_past, releases};
 use delay_laws::Timetable;
@@ -48,7 +49,7 @@ fn transition(alloc: Global, count: usize, index: usize) -> Result<Transition, A
 
 // The transitions of the net, which are `count`, and an input for each.
 fn transitions(alloc: Global, count: usize) -> Result<Vec<Transition>, AllocError>
-    requires { count ≤ 200 }
+    requires { count ≤ most_timetable_transitions }
     ensures { IfOk result (λ transitions. AreBuilt (IsDerivedTransition count) (count + count)
         transitions.items) }
 {
@@ -122,7 +123,7 @@ fn list(
     requires some { 1 ≤ period }
     requires period { period ≤ greatest_period }
     requires small { AreDelaysSmall table.now }
-    requires few { count ≤ 200 }
+    requires few { count ≤ most_timetable_transitions }
     requires transition { transition < count }
     requires firsts { length table.now.firsts.items ≡ count }
     requires first { first_planned table.now transition ≤ greatest_departure }
@@ -152,7 +153,7 @@ fn lists(
     requires some { 1 ≤ period }
     requires period { period ≤ greatest_period }
     requires table { IsTableOf net.now table.now }
-    requires few { length net.now.transitions ≤ 200 }
+    requires few { length net.now.transitions ≤ most_timetable_transitions }
     ensures { IfOk result (λ lists. AreBuilt (IsDerivedList period table.now
         (length net.now.transitions)) (length net.now.transitions) lists.items) }
 {
@@ -193,8 +194,9 @@ pub(crate) fn derived(
     requires some { 1 ≤ period }
     requires period { period ≤ greatest_period }
     requires table { IsTableOf net.now table.now }
-    requires few { length net.now.transitions ≤ 200 }
-    requires fits { length net.now.transitions + length net.now.places ≤ 4000 }
+    requires few { length net.now.transitions ≤ most_timetable_transitions }
+    requires fits { length net.now.transitions + length net.now.places
+        ≤ most_timetable_entries }
     ensures derived { IfOk result (IsReleaseNet net.now period table.now) }
     ensures rules { IfOk result IsNet }
 {

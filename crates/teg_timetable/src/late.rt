@@ -2,7 +2,8 @@
 ghost use Rattle.std.specs.Prelude.{ℕ, ◌≡◌, ◌≤◌, ◌<◌, ◌⊎◌, true, false, length, All, IfOk, slice_index};
 ghost use Rattle.teg_net.specs.Limits.{greatest_firing_number};
 ghost use Rattle.teg_timetable.specs.Spreads.{delay_left};
-ghost use Rattle.teg_timetable.specs.Working.{AreBuilt, IsTop};
+ghost use Rattle.teg_timetable.specs.ReleaseNetsBuilt.{AreBuilt};
+ghost use Rattle.teg_timetable.specs.WaysBack.{IsTop};
 
 use crate::left::Left;
 use std::alloc::{AllocError, Global};

@@ -30,7 +30,10 @@ mod tables;
 mod texts;
 mod workable;
 
-pub use delay_laws::{Delay, Outcome, Timetable};
+pub use delay_laws::{
+    Delay, Outcome, Timetable, is_table_of, paths_pass_delays_on, shows_kept,
+    tight_circuits_keep_delays,
+};
 pub use delayed::Delayed;
 pub use refusals::{DelayRefusal, TableRefusal};
 pub use spreading::spread;

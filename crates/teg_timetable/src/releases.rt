@@ -4,7 +4,8 @@ ghost use Rattle.std.specs.Prelude.{ℕ, ◌≡◌, ◌≤◌, ◌<◌, ◌+◌,
 ghost use Rattle.delay_laws.specs.PlannedTimetables.{IsPastDelays, first_planned, greatest_delay, greatest_departure};
 ghost use Rattle.teg_timetable.specs.Departures.{or_second};
 ghost use Rattle.teg_timetable.specs.Spreads.{greatest_period};
-ghost use Rattle.teg_timetable.specs.Working.{AreBuilt, ArePlannedReleases, AreDelaysSmall, IsSmall, given_in, most_releases};
+ghost use Rattle.teg_timetable.specs.DelaysByNumber.{AreDelaysSmall, IsSmall, given_in, most_releases};
+ghost use Rattle.teg_timetable.specs.ReleaseNetsBuilt.{AreBuilt, ArePlannedReleases};
 
 use delay_laws::{Delay, Timetable};
 use std::alloc::{AllocError, Global};

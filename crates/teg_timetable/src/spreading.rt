@@ -8,7 +8,7 @@ ghost use Rattle.teg_net.specs.Circuits.{IsLive};
 ghost use Rattle.teg_net.specs.Nets.{IsNet};
 ghost use Rattle.teg_settle.specs.LimitRefusals.{greatest_limit};
 ghost use Rattle.teg_timetable.specs.DelayAnswers.{DelaysExceedLimit, IsDelayRefusal, IsOutcomeIn, IsSettlingRefusal, IsSpread, IsLengthWithinLimit};
-ghost use Rattle.teg_timetable.specs.Spreads.{greatest_period};
+ghost use Rattle.teg_timetable.specs.Spreads.{greatest_period, most_timetable_entries, most_timetable_transitions};
 
 use crate::delayed::Delayed;
 use crate::derived::derived;
@@ -21,6 +21,12 @@ use std::alloc::Global;
 use teg_check::{Live, ranks_of};
 use teg_net::{Net, OutOfMemory};
 use teg_settle::{SettleRefusal, SettledDates, settle_dates, settle_dates_within};
+
+// The most transitions of a net whose delays are followed.
+const MOST_TRANSITIONS: usize = 200;
+
+// The most transitions and places of it together.
+const MOST_ENTRIES: usize = 4_000;
 
 // The settled form of a net with these ranks, within the limit.
 fn settled_within(
@@ -78,8 +84,9 @@ fn left_by(
     requires period { period ≤ greatest_period }
     requires table { IsTableOf net.now table.now }
     requires limit { IfSome limit (λ l. l ≤ greatest_limit) }
-    requires few { length net.now.transitions ≤ 200 }
-    requires fits { length net.now.transitions + length net.now.places ≤ 4000 }
+    requires few { length net.now.transitions ≤ most_timetable_transitions }
+    requires fits { length net.now.transitions + length net.now.places
+        ≤ most_timetable_entries }
     requires workable { IsWorkable net.now period table.now }
     ensures firsts { IfOk result (λ left. left.firsts ≡ table.now.firsts.items) }
     ensures every { IfOk result (λ left. left.every ≡ period) }
@@ -90,6 +97,7 @@ fn left_by(
     let derived = derived(alloc, net, period, table)?;
     let settled = settled_in(alloc, &derived, limit)?;
     let firsts = firsts_of(alloc, table)?;
+    // That the form is short, and its period at least 1.
     settled.period();
     Ok(Left::new(firsts, period, settled))
 }
@@ -128,7 +136,7 @@ pub fn spread(
 {
     let transitions = net.transitions().len();
     let places = net.places().len();
-    if transitions > 200 || transitions + places > 4000 {
+    if transitions > MOST_TRANSITIONS || transitions + places > MOST_ENTRIES {
         return Err(DelayRefusal::TooLarge {
             transitions: transitions as u32,
             places: places as u32,

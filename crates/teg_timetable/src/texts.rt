@@ -68,7 +68,7 @@ fn push_line(
     ensures small { IfOk result (λ _. AreLeftDelaysShort delayed.now index count) }
 {
     // That the net keeps its rules, and so has few transitions.
-    net.transitions();
+    net.rules();
     let transition = TransitionId {
         index: index as u32,
     };
@@ -124,8 +124,9 @@ fn push_outcome(text: &mut String, net: &Net, outcome: &Outcome) -> Result<(), A
 
 /// The text of how delays spread: a line of the number past which dates go on, and of the period;
 /// one that the delays are over after a number, or two of the circuit that keeps them; and for each
-/// transition a line of its delays at the numbers up to the end of the first period. `OutOfMemory`
-/// comes only where no memory is found.
+/// transition a line of its delays at the numbers up to the end of the first period, in the user's
+/// unit. It takes the memory of the text, and time of its order; `OutOfMemory` comes only where no
+/// memory is found.
 pub fn spread_text(alloc: Global, net: &Net, delayed: &Delayed) -> Result<String, OutOfMemory>
     requires width { length delayed.now.firsts ≡ length net.now.transitions }
     requires outcome { IsOutcomeIn net.now delayed.now.outcome }

@@ -1,4 +1,4 @@
-use Rattle.teg_timetable.specs.Working.{AreFeeders}
+use Rattle.teg_timetable.specs.WaysBack.{AreFeeders}
 use Rattle.teg_timetable.proofs.circuits.feeders.Given as goal
 
 abbrev pub invariant-loop-index : goal.invariant-loop-index

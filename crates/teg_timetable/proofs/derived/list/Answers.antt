@@ -1,6 +1,6 @@
 use Rattle.std.proofs.Common.{◌+◌, Some, refl, sym, subst}
 use Rattle.teg_net.specs.declared.entries.InputList.{InputList}
-use Rattle.teg_timetable.specs.Working.{ArePlannedReleases}
+use Rattle.teg_timetable.specs.ReleaseNetsBuilt.{ArePlannedReleases}
 use Rattle.teg_timetable.proofs.DerivedNet.{list_made}
 use Rattle.teg_timetable.proofs.derived.list.Goals as goal
 

@@ -1,6 +1,6 @@
 use Rattle.std.proofs.Common.{List, length, subst}
 use Rattle.teg_net.specs.declared.entries.Transition.{Transition}
-use Rattle.teg_timetable.specs.Working.{IsDerivedList}
+use Rattle.teg_timetable.specs.ReleaseNetsBuilt.{IsDerivedList}
 use Rattle.teg_timetable.proofs.Building.{built_more}
 use Rattle.teg_timetable.proofs.derived.lists.Goals as goal
 

@@ -1,5 +1,5 @@
 use Rattle.std.proofs.Common.{length}
-use Rattle.teg_timetable.specs.Working.{AreBuilt, IsDerivedList}
+use Rattle.teg_timetable.specs.ReleaseNetsBuilt.{AreBuilt, IsDerivedList}
 use Rattle.teg_timetable.proofs.derived.lists.Given as goal
 
 abbrev pub invariant-loop-index : goal.invariant-loop-index

@@ -1,4 +1,4 @@
-use Rattle.teg_timetable.specs.Working.{IsDerivedPlace}
+use Rattle.teg_timetable.specs.ReleaseNetsBuilt.{IsDerivedPlace}
 use Rattle.teg_timetable.proofs.Building.{built_more}
 use Rattle.teg_timetable.proofs.derived.places.Goals as goal
 

@@ -1,4 +1,4 @@
-use Rattle.teg_timetable.specs.Working.{AreBuilt, IsDerivedPlace}
+use Rattle.teg_timetable.specs.ReleaseNetsBuilt.{AreBuilt, IsDerivedPlace}
 use Rattle.teg_timetable.proofs.derived.places.Given as goal
 
 abbrev pub invariant-loop-index : goal.invariant-loop-index

@@ -1,4 +1,4 @@
-use Rattle.teg_timetable.specs.Working.{IsDerivedTransition}
+use Rattle.teg_timetable.specs.ReleaseNetsBuilt.{IsDerivedTransition}
 use Rattle.teg_timetable.proofs.Building.{built_more}
 use Rattle.teg_timetable.proofs.derived.transitions.Goals as goal
 

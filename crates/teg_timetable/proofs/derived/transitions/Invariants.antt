@@ -1,4 +1,4 @@
-use Rattle.teg_timetable.specs.Working.{AreBuilt, IsDerivedTransition}
+use Rattle.teg_timetable.specs.ReleaseNetsBuilt.{AreBuilt, IsDerivedTransition}
 use Rattle.teg_timetable.proofs.derived.transitions.Given as goal
 
 abbrev pub invariant-loop-index : goal.invariant-loop-index

@@ -1,4 +1,4 @@
-use Rattle.teg_timetable.specs.Working.{IsTop}
+use Rattle.teg_timetable.specs.WaysBack.{IsTop}
 use Rattle.teg_timetable.proofs.Building.{built_more}
 use Rattle.teg_timetable.proofs.late.tops.Goals as goal
 

@@ -1,4 +1,5 @@
-use Rattle.teg_timetable.specs.Working.{AreBuilt, IsTop}
+use Rattle.teg_timetable.specs.ReleaseNetsBuilt.{AreBuilt}
+use Rattle.teg_timetable.specs.WaysBack.{IsTop}
 use Rattle.teg_timetable.proofs.late.tops.Given as goal
 
 abbrev pub invariant-loop-index : goal.invariant-loop-index

@@ -2,7 +2,8 @@ use Rattle.std.proofs.Common.{ℕ, ◌<◌, ◌≤◌, ◌≡◌, List, length, 
 use Rattle.std.specs.Prelude.{All, slice_index, ◌⊎◌}
 use Rattle.std.proofs.lemmas.List.{get_or_read}
 use Rattle.teg_timetable.specs.Spreads.{delay_left}
-use Rattle.teg_timetable.specs.Working.{AreBuilt, AreFeeders, AreGood, IsTop}
+use Rattle.teg_timetable.specs.ReleaseNetsBuilt.{AreBuilt}
+use Rattle.teg_timetable.specs.WaysBack.{AreFeeders, AreGood, IsTop}
 use Rattle.teg_timetable.proofs.Feeding.{feeders_go_back, kept, recovered}
 use Rattle.teg_timetable.proofs.outcomes.outcome.Goals as goal
 

@@ -1,5 +1,6 @@
 use Rattle.std.proofs.Common.{◌+◌, ◌≡◌, take}
-use Rattle.teg_timetable.specs.Working.{AreBuilt, given_in}
+use Rattle.teg_timetable.specs.DelaysByNumber.{given_in}
+use Rattle.teg_timetable.specs.ReleaseNetsBuilt.{AreBuilt}
 use Rattle.teg_timetable.proofs.releases.given.Given as goal
 
 abbrev pub invariant-loop-delay : goal.invariant-loop-delay

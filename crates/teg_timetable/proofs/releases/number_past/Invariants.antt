@@ -1,6 +1,6 @@
 use Rattle.std.proofs.Common.{ℕ, ◌≡◌, ◌≤◌, ◌<◌, ◌+◌, ◌*◌, get_or}
 use Rattle.delay_laws.specs.declared.table.Delay.{Delay}
-use Rattle.teg_timetable.specs.Working.{most_releases}
+use Rattle.teg_timetable.specs.DelaysByNumber.{most_releases}
 use Rattle.teg_timetable.proofs.releases.number_past.Given as goal
 
 abbrev pub invariant-loop-delay : goal.invariant-loop-delay

@@ -8,7 +8,8 @@ use Rattle.delay_laws.specs.PlannedTimetables.{delay_given, delay_in, first_plan
 use Rattle.delay_laws.specs.Delays.{IsReleaseAt}
 use Rattle.teg_net.specs.Limits.{greatest_input_date}
 use Rattle.teg_timetable.specs.Spreads.{greatest_period}
-use Rattle.teg_timetable.specs.Working.{AreBuilt, given_in, most_releases}
+use Rattle.teg_timetable.specs.DelaysByNumber.{given_in, most_releases}
+use Rattle.teg_timetable.specs.ReleaseNetsBuilt.{AreBuilt}
 use Rattle.teg_timetable.proofs.Releasing.{given_number, given_small, next_is, releases_more}
 use Rattle.teg_timetable.proofs.releases.releases.Goals as goal
 

@@ -1,7 +1,7 @@
 use Rattle.std.proofs.Common.{◌≡◌, ◌≤◌}
 use Rattle.delay_laws.specs.Delays.{IsReleaseAt}
 use Rattle.teg_net.specs.Limits.{greatest_input_date}
-use Rattle.teg_timetable.specs.Working.{ArePlannedReleases}
+use Rattle.teg_timetable.specs.ReleaseNetsBuilt.{ArePlannedReleases}
 use Rattle.teg_timetable.proofs.releases.releases.Given as goal
 
 abbrev pub invariant-loop-index : goal.invariant-loop-index

@@ -1,0 +1,151 @@
+-- Lines that keep dates and due dates apart, and what they tell.
+use Rattle.std.proofs.Common.{ℕ, zero, suc, ◌≡◌, ◌<◌, ◌≤◌, ◌+◌, ◌-◌, ◌*◌, ◌/◌, ◌%◌, ◌∙◌, Some, pos, length, sym, ap, subst, arith, ⊎_elim}
+use Rattle.std.specs.Prelude.{Option, None, IfNone, IfSome}
+use Rattle.std.proofs.lemmas.Bool.{cases_lt}
+use Rattle.std.proofs.lemmas.Int.{ints}
+use Rattle.std.proofs.lemmas.Nat.{div-add-mod', mul-le}
+use Rattle.std.proofs.Math.Nat.{eq-or-lt_of_le, mod-lt, mul-le-mul_left}
+use Rattle.dioid.specs.declared.dates.Date.{Date}
+use Rattle.dioid.specs.declared.dates.Date.TheVariants.{At}
+use Rattle.dioid.specs.Dates.{move}
+use Rattle.dioid.proofs.Moves.{at_inj}
+use Rattle.forever_laws.proofs.GoingOn.{due_number, due_is, due_only, due_again}
+use Rattle.forever_laws.specs.settled_laws.SettledForms.{SettledForm, settled_date}
+use Rattle.forever_laws.specs.declared.rows.EndlessRow.{EndlessRow}
+use Rattle.forever_laws.specs.EndlessRows.{IsEndlessRow, row_due}
+use Rattle.forever_laws.specs.Late.{NoneLateTo, NoneLate}
+use Rattle.teg_net.specs.Nets.{NetLists}
+use Rattle.teg_forever.specs.LateFirings.{AreDatesUnder, AreDuesOver, GoesOnBySteps, IsClimbing, NoneLatePast, RisesIn}
+use Rattle.teg_forever.proofs.Cycles.{rises_times}
+
+-- ---- numbers
+
+distributes : (a b c : ℕ) → a * (b + c) ≡ a * b + a * c
+distributes a b c = grind arith
+
+-- a number below a line is no greater than one above another, which begins no lower and rises no slower
+pub keep_apart : (firings rise every gap under over date due m i q j p : ℕ) → 1 ≤ firings → 1 ≤ every
+    → m ≡ q * firings + i → m ≡ p * every + j
+    → firings * date ≤ under + rise * i → over + gap * j ≤ every * due + gap * every
+    → every * under + firings * (gap * every) ≤ firings * over → rise * every ≤ firings * gap
+    → date + q * rise ≤ due + p * gap
+keep_apart firings rise every gap under over date due m i q j p one two first second low high start slope =
+    let z : ℕ = date + q * rise in
+    let d : ℕ = due + p * gap in
+    let up : rise * m ≡ rise * (q * firings) + rise * i = ap (λ (n : ℕ). rise * n) first ∙ distributes rise (q * firings) i in
+    let on : gap * m ≡ gap * (p * every) + gap * j = ap (λ (n : ℕ). gap * n) second ∙ distributes gap (p * every) j in
+    let dates : firings * z ≡ firings * date + rise * (q * firings) = grind arith in
+    let dues : every * d ≡ every * due + gap * (p * every) = grind arith in
+    let below : firings * z ≤ under + rise * m = omega arith in
+    let above : over + gap * m ≤ every * d + gap * every = omega arith in
+    let left : every * (firings * z) ≤ every * (under + rise * m) = mul-le-mul_left {m = firings * z} {n = under + rise * m} every below in
+    let right : firings * (over + gap * m) ≤ firings * (every * d + gap * every) = mul-le-mul_left {m = over + gap * m} {n = every * d + gap * every} firings above in
+    let open_above : firings * (every * d + gap * every) ≡ firings * (every * d) + firings * (gap * every) = grind arith in
+    let open_left : every * (under + rise * m) ≡ every * under + rise * every * m = grind arith in
+    let open_right : firings * (over + gap * m) ≡ firings * over + firings * gap * m = grind arith in
+    let slopes : m * (rise * every) ≤ m * (firings * gap) = mul-le-mul_left {m = rise * every} {n = firings * gap} m slope in
+    let turned : m * (rise * every) ≡ rise * every * m = grind arith in
+    let turned' : m * (firings * gap) ≡ firings * gap * m = grind arith in
+    let both : every * (firings * z) ≤ firings * (every * d) = omega arith in
+    ⊎_elim
+    (λ (late : d < z).
+    let some : 1 ≤ every * firings = omega (arith, mul-le 1 1 every firings two one) in
+    let more : (every * firings) * (d + 1) ≤ (every * firings) * z = mul-le-mul_left {m = d + 1} {n = z} (every * firings) (omega (arith, late)) in
+    let same : (every * firings) * z ≡ every * (firings * z) = grind arith in
+    let same' : (every * firings) * (d + 1) ≡ firings * (every * d) + every * firings = grind arith in
+    absurd (omega arith))
+    (λ (not_late : z ≤ d). not_late)
+    (cases_lt d z)
+
+-- ---- the lines
+
+-- one date more is not above the line
+pub under_more : (f : SettledForm) (t past firings rise start next place date : ℕ)
+    → ((i z : ℕ) → i < place → settled_date f t (past + 1 + i) ≡ At (pos z) → firings * z ≤ start + rise * i)
+    → settled_date f t (past + 1 + place) ≡ At (pos date) → start ≤ next → firings * date ≤ next + rise * place
+    → (i z : ℕ) → i < place + 1 → settled_date f t (past + 1 + i) ≡ At (pos z) → firings * z ≤ next + rise * i
+under_more f t past firings rise start next place date old here up low i z l e = ⊎_elim
+    (λ (last : i ≡ place).
+    let there : settled_date f t (past + 1 + place) ≡ At (pos z) = subst (λ (n : ℕ). settled_date f t (past + 1 + n) ≡ At (pos z)) last e in
+    let both : At (pos date) ≡ At (pos z) = sym here ∙ there in
+    let same : date ≡ z = cc in
+    subst (λ (n : ℕ). firings * z ≤ next + rise * n) (sym last) (subst (λ (n : ℕ). firings * n ≤ next + rise * place) same low))
+    (λ (before : i < place). let kept = old i z before e in omega arith)
+    (eq-or-lt_of_le {n = i} {m = place} (omega arith))
+
+-- one due date more is not below it
+pub over_more : (r : EndlessRow) (past start next place due : ℕ)
+    → ((j d : ℕ) → j < place → row_due r (past + 1 + j) ≡ Some d → start + r.gap * j ≤ r.every * d + r.gap * r.every)
+    → row_due r (past + 1 + place) ≡ Some due → next ≤ start → next + r.gap * place ≤ r.every * due + r.gap * r.every
+    → (j d : ℕ) → j < place + 1 → row_due r (past + 1 + j) ≡ Some d → next + r.gap * j ≤ r.every * d + r.gap * r.every
+over_more r past start next place due old here down high j d l e = ⊎_elim
+    (λ (last : j ≡ place).
+    let there : row_due r (past + 1 + place) ≡ Some d = subst (λ (n : ℕ). row_due r (past + 1 + n) ≡ Some d) last e in
+    let both : Some due ≡ Some d = sym here ∙ there in
+    let same : due ≡ d = cc in
+    subst (λ (n : ℕ). next + r.gap * n ≤ r.every * d + r.gap * r.every) (sym last)
+    (subst (λ (n : ℕ). next + r.gap * place ≤ r.every * n + r.gap * r.every) same high))
+    (λ (before : j < place). let kept = old j d before e in omega arith)
+    (eq-or-lt_of_le {n = j} {m = place} (omega arith))
+
+-- ---- due dates
+
+-- so many turns on
+pub due_times : (net : NetLists) (r : EndlessRow) → IsEndlessRow net r → (n k : ℕ) → length r.dates < k + r.every → due_number r (k + n * r.every) ≡ due_number r k + n * r.gap
+due_times net r ok zero k l = let on : k + zero * r.every ≡ k = omega arith in ap (due_number r) on ∙ omega arith
+due_times net r ok (suc n) k l =
+    let on : k + suc n * r.every ≡ (k + n * r.every) + r.every = grind arith in
+    let before = due_times net r ok n k l in
+    let step = due_again net r ok (k + n * r.every) (omega arith) in
+    let sum : suc n * r.gap ≡ n * r.gap + r.gap = grind arith in
+    ap (due_number r) on ∙ omega arith
+
+-- ---- both
+
+pub none_past : (net : NetLists) (r : EndlessRow) → IsEndlessRow net r → (f : SettledForm) → IsClimbing f r.transition.index → GoesOnBySteps f r.transition.index
+    → (past firings rise under over : ℕ) → f.after ≤ past → length r.dates ≤ past + r.every → 1 ≤ firings → RisesIn f r.transition.index firings rise
+    → AreDatesUnder f r.transition.index past firings rise under → AreDuesOver r past over
+    → r.every * under + firings * (r.gap * r.every) ≤ firings * over → rise * r.every ≤ firings * r.gap → NoneLatePast (settled_date f) r past
+none_past net r ok f climbing steps past firings rise under over after listed one rises low high start slope k due least far late =
+    let t : ℕ = r.transition.index in
+    let m : ℕ = k - past - 1 in
+    let every_one : 1 ≤ r.every = ok.goes_on.some in
+    let cycles = div-add-mod' m firings in
+    let turns = div-add-mod' m r.every in
+    let i : ℕ = m % firings in
+    let q : ℕ = m / firings in
+    let j : ℕ = m % r.every in
+    let p : ℕ = m / r.every in
+    let in_cycle : i < firings = mod-lt m one in
+    let in_turn : j < r.every = mod-lt m every_one in
+    let by_cycles : (past + 1 + i) + q * firings ≡ k = omega arith in
+    let by_turns : (past + 1 + j) + p * r.every ≡ k = omega arith in
+    let here = climbing.numbers (past + 1 + i) (omega arith) in
+    let date : ℕ = here.0 in
+    let moved : settled_date f t ((past + 1 + i) + q * firings) ≡ move (pos (q * rise)) (At (pos date)) =
+    rises_times f t steps firings rise rises q (past + 1 + i) (omega arith) ∙ ap (move (pos (q * rise))) here.1 in
+    let comes : At (pos least) ≡ move (pos (q * rise)) (At (pos date)) = sym late.comes ∙ ap (settled_date f t) (sym by_cycles) ∙ moved in
+    let number = at_inj _ _ comes in
+    let is : least ≡ date + q * rise = omega (arith, ints) in
+    let first : ℕ = due_number r (past + 1 + j) in
+    let again = due_times net r ok p (past + 1 + j) (omega arith) in
+    let due_here : due ≡ due_number r k = due_only r k due late.is_due in
+    let due_there : due_number r ((past + 1 + j) + p * r.every) ≡ due_number r k = ap (due_number r) by_turns in
+    let apart = keep_apart firings rise r.every r.gap under over date first m i q j p one every_one (sym cycles) (sym turns)
+    (low i date in_cycle here.1) (high j first in_turn (due_is r (past + 1 + j))) start slope in
+    let too_late = late.late in
+    omega arith
+
+-- none late up to a number and none past it
+pub none_both : (x : ℕ → ℕ → Date) (r : EndlessRow) (past : ℕ) → NoneLateTo x r past → NoneLatePast x r past → NoneLate x r
+none_both x r past low high k due least late = ⊎_elim (λ (far : past < k). high k due least far late) (λ (near : k ≤ past). low k due least near late) (cases_lt past k)
+
+-- ---- what may be none
+
+pub none_map : {T : Type 0} (o : Option T) {P Q : Type 0} → (P → Q) → IfNone o P → IfNone o Q
+none_map None f h = f h
+none_map (Some x) f h = h
+
+pub some_map : {T : Type 0} (o : Option T) {P Q : T → Type 0} → ((x : T) → P x → Q x) → IfSome o P → IfSome o Q
+some_map None f h = h
+some_map (Some x) f h = f x h
