@@ -5,7 +5,7 @@ use std::fmt::Display;
 use std::test::Fail;
 use teg_check::check;
 use teg_forever::{EndlessRow, forever, is_endless_of, read_endless};
-use teg_net::{DateList, PlaceId, TransitionId};
+use teg_net::{DateList, Net, PlaceId, TransitionId};
 use teg_reader::read_net;
 use teg_timetable::{
     Delay, Delayed, Outcome, Timetable, is_table_of, paths_pass_delays_on, read_timetable,
@@ -29,7 +29,8 @@ place = [
 
 // Whether the circuit that is told to keep the delays is shown to by this period, and not by one
 // more; none where the delays die out.
-fn is_shown(net: &teg_net::Net, delayed: &Delayed, period: u64) -> Option<bool> {
+fn is_shown(net: &Net, delayed: &Delayed, period: u32) -> Option<bool> {
+    let period = u64::from(period);
     match delayed.outcome() {
         Outcome::Kept { circuit } => {
             let places = &circuit.places;
