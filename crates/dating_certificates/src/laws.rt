@@ -1,6 +1,7 @@
 //! What conditions on single dates tell of the least dating.
 ghost use Rattle.dating_certificates.specs.TightRows.{FirstRowsAreLeast};
 ghost use Rattle.dating_certificates.specs.CheckedRows.{TightRowsAreFirstRows};
+ghost use Rattle.dating_certificates.specs.LatestRows.{LocallyLatestRowsAreLatest};
 
 /// In a live net, dates that up to a number are each the latest of what the firing waits for are
 /// there the least dates, under any releases (chapter 2). It does nothing when it runs.
@@ -16,4 +17,14 @@ pub fn first_rows_are_least()
 /// 2). It does nothing when it runs.
 pub fn tight_rows_are_first_rows()
     ensures { TightRowsAreFirstRows }
+{}
+
+/// In a live net, whole rows of dates of which each is the least of what is ahead of it, for due
+/// dates up to their last number, are those of the latest dates, and no other rows are (chapter 5).
+/// It does nothing when it runs.
+///
+/// Liveness is needed: around a circuit without tokens and without hold all dates at 5 are the least
+/// of what is ahead, though nothing is due.
+pub fn locally_latest_rows_are_latest()
+    ensures { LocallyLatestRowsAreLatest }
 {}

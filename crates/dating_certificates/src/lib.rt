@@ -7,9 +7,14 @@
 //! Its examples stand in `library_examples`.
 #![tactic(auto)]
 
+mod latest;
 mod laws;
 mod rows;
+mod told_rows;
 mod waits;
 
-pub use laws::{first_rows_are_least, tight_rows_are_first_rows};
+pub use latest::check_latest;
+pub use laws::{
+    first_rows_are_least, locally_latest_rows_are_latest, tight_rows_are_first_rows,
+};
 pub use rows::check_rows;
