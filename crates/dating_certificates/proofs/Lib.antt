@@ -3,3 +3,4 @@ pub mod RowWaits
 pub mod WholeRows
 pub mod LeastRows
 pub mod SolvedRows
+pub mod SettledWindows

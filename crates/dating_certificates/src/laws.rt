@@ -2,6 +2,7 @@
 ghost use Rattle.dating_certificates.specs.TightRows.{FirstRowsAreLeast};
 ghost use Rattle.dating_certificates.specs.CheckedRows.{TightRowsAreFirstRows};
 ghost use Rattle.dating_certificates.specs.LatestRows.{LocallyLatestRowsAreLatest};
+ghost use Rattle.dating_certificates.specs.SettledWindows.{WindowsGoOn};
 
 /// In a live net, dates that up to a number are each the latest of what the firing waits for are
 /// there the least dates, under any releases (chapter 2). It does nothing when it runs.
@@ -27,4 +28,15 @@ pub fn tight_rows_are_first_rows()
 /// of what is ahead, though nothing is due.
 pub fn locally_latest_rows_are_latest()
     ensures { LocallyLatestRowsAreLatest }
+{}
+
+/// Where the least dating of a live net, under any releases, moves by steps in a window, it moves by
+/// them for ever (chapter 3): the window has room for two periods and for the tokens of each place,
+/// no step falls along a place, unless to a date that is never or from one that is early, and the
+/// releases of the inputs move by the steps too. It does nothing when it runs.
+///
+/// That no step falls is needed: of two machines of holds 2 and 1, of which the second is 9 numbers
+/// ahead, the faster seems to keep its own pace until the slower has caught up.
+pub fn windows_go_on()
+    ensures { WindowsGoOn }
 {}

@@ -15,6 +15,6 @@ mod waits;
 
 pub use latest::check_latest;
 pub use laws::{
-    first_rows_are_least, locally_latest_rows_are_latest, tight_rows_are_first_rows,
+    first_rows_are_least, locally_latest_rows_are_latest, tight_rows_are_first_rows, windows_go_on,
 };
 pub use rows::check_rows;

@@ -22,6 +22,8 @@ mod chapters_series;
 #[cfg(test)]
 mod held_nets;
 #[cfg(test)]
+mod latest_tables;
+#[cfg(test)]
 mod matrices;
 #[cfg(test)]
 mod net_files;
