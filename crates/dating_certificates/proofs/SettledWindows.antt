@@ -1,32 +1,31 @@
 -- A window in which the least dating of a net moves by steps shows that it moves by them for ever. The releases of the inputs are
 -- taken to be the least dates there, which move as they do.
-use Rattle.std.proofs.Common.{ℕ, ℤ, zero, suc, ◌+◌, ◌-◌, ◌<◌, ◌≤◌, ◌≡◌, length, get_or, refl, sym, ap, subst, ◌∙◌, arith, ⊎_elim, inl, inr}
-use Rattle.std.specs.Prelude.{◌≤ℤ◌, All, ◌⊎◌}
+use Rattle.std.proofs.Common.{ℕ, ℤ, zero, suc, ◌+◌, ◌-◌, ◌<◌, ◌≤◌, ◌≡◌, length, get_or, sym, ap, subst, ◌∙◌, arith, ⊎_elim, inl, inr}
+use Rattle.std.specs.Prelude.{◌≤ℤ◌, All}
 use Rattle.std.proofs.lemmas.Bool.{cases_lt}
 use Rattle.std.proofs.lemmas.Int.{ints}
 use Rattle.dioid.specs.declared.dates.Date.{Date}
-use Rattle.dioid.specs.declared.dates.Date.TheVariants.{Early, At, Never}
+use Rattle.dioid.specs.declared.dates.Date.TheVariants.{Early, Never}
 use Rattle.dioid.specs.Dates.{IsAtMostDate, later_of, move}
 use Rattle.dioid.proofs.DateOrder.{at_most_refl, at_most_trans, at_most_is, same_by_at_most, at_most_early, later_left, later_right, later_least}
 use Rattle.dioid.proofs.Moves.{later_move}
 use Rattle.teg_net.specs.declared.entries.Place.{Place}
 use Rattle.teg_net.specs.Nets.{NetLists, IsNet, IsInput}
-use Rattle.teg_net.specs.Circuits.{IsLive, no_place}
-use Rattle.teg_model.specs.Systems.{System, IsLeastIn}
-use Rattle.teg_model.specs.LiveRanks.{HasEndsInRange, AreRanks}
-use Rattle.teg_model.specs.Datings.{IsLeastUnder, IsFeasibleUnder, implicit_place, extended_places, available_at, initial_date, at_input, system_of}
+use Rattle.teg_model.specs.Systems.{System}
+use Rattle.teg_model.specs.LiveRanks.{AreRanks}
+use Rattle.teg_model.specs.Datings.{IsLeastUnder, extended_places, available_at, initial_date, at_input, system_of}
 use Rattle.teg_model.specs.LeastDatings.{IsTight}
 use Rattle.teg_model.proofs.DateFunctions.{Dating}
-use Rattle.teg_model.proofs.LeastOver.{least_over, least_is_feasible, least_is_tight, only_least_in}
+use Rattle.teg_model.proofs.LeastOver.{least_over, least_is_tight}
 use Rattle.teg_model.proofs.LiveRanks.{live_is_ranked}
-use Rattle.teg_model.proofs.OfNet.{all_extended, all_extended_in, at_input_is, implicit_is, input_or_not, least_is_over, least_of, least_of_system, net_ends, ranks_extended, tight_of_least}
-use Rattle.teg_model.proofs.Tokens.{available_after, implicit_gives, dates_climb}
+use Rattle.teg_model.proofs.OfNet.{all_extended, all_extended_in, at_input_is, input_or_not, least_is_over, least_of, least_of_system, net_ends, ranks_extended, tight_of_least}
+use Rattle.teg_model.proofs.Tokens.{implicit_gives, dates_climb}
 use Rattle.latest_laws.proofs.Floats.{input_in}
 use Rattle.settled_laws.specs.SettledForms.{RepeatsAfter}
 use Rattle.settled_laws.proofs.Everywhere.{Climbing, Repeats, on_first, same_repeats}
-use Rattle.settled_laws.proofs.Settling.{HasNoRelease, FollowsRelease}
+use Rattle.settled_laws.proofs.Settling.{HasNoRelease}
 use Rattle.settled_laws.proofs.Seen.{IsRisingAt, IsAlike, accepted_repeats}
-use Rattle.dating_certificates.specs.SettledWindows.{StepsRiseAlong, ReleasesMove, MovesInWindow, WindowsGoOn}
+use Rattle.dating_certificates.specs.SettledWindows.{MovesInWindow, WindowsGoOn}
 
 -- the least dating under the releases is the least under its own dates at the inputs
 own_least : (net : NetLists) (u x : Dating) → IsLeastUnder net u x → IsLeastUnder net x x
@@ -160,9 +159,9 @@ module _ (net : NetLists) (ok : IsNet net) (u x : Dating) (h : IsLeastUnder net 
       ⊎_elim
       (λ (e : x p.to.index last ≡ Never). inl (at p.to.index p_in.to_in ∙ e))
       (λ b. ⊎_elim
-          (λ (e : x p.from.index last ≡ Early). inr (inl (at p.from.index p_in.from_in ∙ e)))
-          (λ (e : step p.from.index ≤ℤ step p.to.index). inr (inr e))
-          b)
+      (λ (e : x p.from.index last ≡ Early). inr (inl (at p.from.index p_in.from_in ∙ e)))
+      (λ (e : step p.from.index ≤ℤ step p.to.index). inr (inr e))
+      b)
       (w.rises i d l))
       (λ t. inr (inr (omega (arith, ints)))))
       alike in

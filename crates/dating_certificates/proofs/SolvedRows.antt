@@ -1,28 +1,27 @@
 -- The marks of the transitions whose date is met, and what rows that are solved number by number tell.
-use Rattle.std.proofs.Common.{ℕ, ◌+◌, ◌<◌, ◌≤◌, ◌≡◌, ◌≢◌, Bool, true, false, leb, List, length, get_or, set, Some, Option, refl, sym, ap, subst, ◌∙◌, arith, inl, inr, ⊎_elim}
-use Rattle.std.specs.Prelude.{ℤ, pos, All, Any, IsTrue, ◌⊎◌, ◌↔◌, ◌||◌, nat_le, if◌then◌else◌}
+use Rattle.std.proofs.Common.{ℕ, ◌+◌, ◌<◌, ◌≤◌, ◌≡◌, ◌≢◌, Bool, true, false, leb, List, length, get_or, set, Some, Option, refl, sym, ◌∙◌, arith, inl, inr, ⊎_elim}
+use Rattle.std.specs.Prelude.{pos, All, Any, IsTrue, ◌⊎◌, ◌↔◌, ◌||◌}
 use Rattle.std.proofs.lemmas.Bool.{false≢true, cases_lt, cases_eq}
 use Rattle.std.proofs.lemmas.Bool.Decides.{nat_tests}
 use Rattle.std.proofs.lemmas.List.{length-set, get_or-set_same, get_or-set_other, get_or_default}
 use Rattle.dioid.specs.declared.dates.Date.{Date}
 use Rattle.dioid.specs.declared.dates.Date.TheVariants.{At, Never}
-use Rattle.dioid.specs.Dates.{IsAtMostDate, delayed}
+use Rattle.dioid.specs.Dates.{IsAtMostDate}
 use Rattle.teg_net.specs.declared.entries.Place.{Place}
 use Rattle.teg_net.specs.declared.entries.PlaceId.{PlaceId}
 use Rattle.teg_net.specs.Nets.{NetLists, IsNet}
-use Rattle.teg_net.specs.Circuits.{IsLive, no_place, place_at}
-use Rattle.teg_model.specs.LiveRanks.{HasEndsInRange}
+use Rattle.teg_net.specs.Circuits.{IsLive, no_place}
 use Rattle.teg_model.proofs.DateFunctions.{Dating}
 use Rattle.teg_model.proofs.OfNet.{net_ends}
 use Rattle.teg_due.specs.declared.rows.DueRow.{DueRow}
 use Rattle.teg_due.specs.RowRules.{IsDueOf}
-use Rattle.latest_laws.specs.BackwardEquations.{IsDueThen, IsHoldBefore, IsInTime, IsLeastAhead}
+use Rattle.latest_laws.specs.BackwardEquations.{IsDueThen, IsHoldBefore, IsLeastAhead}
 use Rattle.latest_laws.specs.BackwardSolutions.{SolveBackwards}
 use Rattle.latest_laws.proofs.BackwardEquations.{least_ahead}
 use Rattle.latest_laws.proofs.BackwardSolutions.{solutions_are_latest}
-use Rattle.dating_certificates.specs.CheckedRows.{date_in_rows, AreRowsOf}
+use Rattle.dating_certificates.specs.CheckedRows.{AreRowsOf}
 use Rattle.dating_certificates.specs.LatestRows.{IsRowOf, ListsDues, date_up_to, AreLocallyLatest, AreLatestRows, LocallyLatestRowsAreLatest}
-use Rattle.dating_certificates.specs.ToldRows.{ToldDates, told_dates, date_told, IsPlaceKept, IsPlaceTight, IsRowKept, IsRowTight, IsNextTight, IsTightAt, HasTightPlace, HasTightRow, AreMarked, IsMetAhead, IsMet, IsRowSolved}
+use Rattle.dating_certificates.specs.ToldRows.{ToldDates, told_dates, IsPlaceTight, IsRowKept, IsRowTight, IsNextTight, IsTightAt, HasTightPlace, HasTightRow, AreMarked, IsMetAhead, IsMet, IsRowSolved}
 
 or_splits : (a b : Bool) → (a || b) ≡ true → (a ≡ true) ⊎ (b ≡ true)
 or_splits true b e = inl refl
@@ -173,11 +172,11 @@ one_met net rows due numbers dates t k lists met =
     let y : Dating = date_up_to numbers (length net.transitions) dates in
     ⊎_elim
     (λ ahead. ⊎_elim
-        (λ (e : IsNextTight told k t). inr (inl e))
-        (λ (p : HasTightPlace told k (length net.places) t).
-        let id : PlaceId = record { index = p.0 } in
-        inr (inr (id, p.1, p.2, rw p.2 at p.3)))
-        ahead)
+    (λ (e : IsNextTight told k t). inr (inl e))
+    (λ (p : HasTightPlace told k (length net.places) t).
+    let id : PlaceId = record { index = p.0 } in
+    inr (inr (id, p.1, p.2, rw p.2 at p.3)))
+    ahead)
     (λ (h : HasTightRow told rows k (length rows) t).
     let none : DueRow = record { row = 0; transition = record { index = 0 }; number = 0; date = 0 } in
     let r : DueRow = get_or rows h.0 none in
@@ -238,9 +237,9 @@ met_by_one net rows due numbers dates lists t k h =
     let tight : IsRowTight told t k r = record { transition = of_row.transition; number = of_row.number; date = rw of_row.date a.2 } in
     inr (row.0, row.2, λ d. rw (get_or_default rows row.0 d r row.2 ∙ row.3) tight))
     (λ b. ⊎_elim
-        (λ (e : y t k ≡ y t (k + 1)). inl (inl e))
-        (λ (p : IsHoldBefore net y t k (y t k)). inl (inr (p.0.index, p.1, p.2, rw p.2 p.3)))
-        b)
+    (λ (e : y t k ≡ y t (k + 1)). inl (inl e))
+    (λ (p : IsHoldBefore net y t k (y t k)). inl (inr (p.0.index, p.1, p.2, rw p.2 p.3)))
+    b)
     h.one
 
 pub solve_solved : (net : NetLists) (rows : List DueRow) (due : ℕ → ℕ → Option ℕ) (numbers : ℕ) (dates : List Date) → IsNet net → IsDueOf net rows → ListsDues rows due

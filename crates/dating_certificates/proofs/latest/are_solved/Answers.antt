@@ -1,4 +1,4 @@
-use Rattle.std.proofs.Common.{◌+◌, ◌≡◌, ◌≤◌, true, false, refl, arith}
+use Rattle.std.proofs.Common.{◌+◌, ◌≡◌, true, false, refl, arith}
 use Rattle.std.proofs.lemmas.Bool.{false≢true, iff_false}
 use Rattle.dating_certificates.proofs.SolvedRows.{solved_more}
 use Rattle.dating_certificates.proofs.latest.are_solved.Goals as goal

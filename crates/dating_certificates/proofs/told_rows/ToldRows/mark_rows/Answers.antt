@@ -1,4 +1,4 @@
-use Rattle.std.proofs.Common.{◌≡◌, ◌<◌, length, get_or, arith}
+use Rattle.std.proofs.Common.{◌≡◌, length, get_or, arith}
 use Rattle.std.proofs.lemmas.List.{get_or_default}
 use Rattle.teg_due.specs.declared.rows.DueRow.{DueRow}
 use Rattle.dating_certificates.proofs.SolvedRows.{rows_begin, rows_more}
