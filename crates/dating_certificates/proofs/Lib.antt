@@ -2,3 +2,5 @@ pub mod FirstRows
 pub mod RowWaits
 pub mod WholeRows
 pub mod LeastRows
+pub mod SolvedRows
+pub mod SettledWindows

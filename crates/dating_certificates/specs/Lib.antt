@@ -1,6 +1,9 @@
 pub mod TightRows
 pub mod CheckedRows
 pub mod Waits
+pub mod LatestRows
+pub mod ToldRows
+pub mod SettledWindows
 pub use Rattle.teg_model.specs as teg_model
 pub use Rattle.dioid.specs as dioid
 pub use Rattle.teg_net.specs as teg_net

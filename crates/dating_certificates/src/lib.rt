@@ -2,14 +2,24 @@
 //!
 //! [`check_rows`] tells whether rows of dates are each the latest of what its firing waits for. The
 //! law [`tight_rows_are_first_rows`]: such rows of a live net are the first rows of its least
-//! dating. It is [`first_rows_are_least`] for the releases of the net's own input lists. The crate
-//! stands on `teg_model` for what a least dating is.
+//! dating. It is [`first_rows_are_least`] for the releases of the net's own input lists.
+//! [`check_latest`] tells whether a whole table of dates solves the backward equations for the due
+//! dates of a list. The law [`locally_latest_rows_are_latest`]: such a table of a live net is that
+//! of its latest dates, and no other is. The law [`windows_go_on`]: where the least dating moves by
+//! steps in a window of its rows, it does so for ever. The crate stands on `teg_model` for what a
+//! least dating is, on `teg_due` for the rows of due dates, on `due_laws` and `latest_laws` for
+//! latest dates, and on `settled_laws` for dates that go on.
 //! Its examples stand in `library_examples`.
 #![tactic(auto)]
 
+mod latest;
 mod laws;
 mod rows;
+mod told_rows;
 mod waits;
 
-pub use laws::{first_rows_are_least, tight_rows_are_first_rows};
+pub use latest::check_latest;
+pub use laws::{
+    first_rows_are_least, locally_latest_rows_are_latest, tight_rows_are_first_rows, windows_go_on,
+};
 pub use rows::check_rows;

@@ -116,7 +116,7 @@ fn are_tight(net: &Net, dates: &[Date], row: &mut [Date], rows: u64) -> bool
 }
 
 // How many whole rows the dates are, if they are whole rows and not too many.
-fn rows_of(net: &Net, dates: &[Date]) -> Option<u64>
+pub(crate) fn rows_of(net: &Net, dates: &[Date]) -> Option<u64>
     ensures none { IfNone result ((rows : ℕ) → AreRowsOf net.now dates.now rows → ⊥) }
     ensures rows { IfSome result (λ rows. AreRowsOf net.now dates.now rows) }
 {

@@ -22,6 +22,8 @@ mod held_nets;
 #[cfg(test)]
 mod kept_delays;
 #[cfg(test)]
+mod latest_tables;
+#[cfg(test)]
 mod made_nets;
 #[cfg(test)]
 mod matrices;
