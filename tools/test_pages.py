@@ -256,6 +256,22 @@ class Guide(unittest.TestCase):
         self.assertIn("PAGE:2: echo a\n  it shows\n    b\n  it prints\n    a\n", text)
 
 
+    def test_an_answer_is_changed_in_a_number(self):
+        first = {
+            "live\ntransitions 2\nplaces 2\n": ["live\ntransitions 3\nplaces 2\n"],
+            "cycle time 9/1\ncircuit a\n": ["cycle time 10/1\ncircuit a\n"],
+            "size c32 5/1 extra 1\ncircuit a\n": ["size c32 5/1 extra 2\ncircuit a\n"],
+            "size c21 5/1 impossible\ncircuit a\n": ["size c21 6/1 impossible\ncircuit a\n"],
+            "refused: token-free circuit a b2\n": ["refused: token-free circuit a\n"],
+            "late a 2 due 20 least 22\npath a 2\n": ["late a 2 due 20 least 23\npath a 2\n"],
+        }
+        for text, others in first.items():
+            self.assertEqual(list(run_guide.changed(text)), others)
+        table = "latest inputs for 2 firings\ninput a 1 15 by b\nlatest c 1 free\nlatest c 2 40 due\n"
+        others = [table.replace("15", "16"), table.replace("40", "41")]
+        self.assertEqual(list(run_guide.changed(table)), others)
+
+
 class Shared(unittest.TestCase):
     def test_statuses_are_those_of_the_program(self):
         text = (common.TOP / "crates/teg_run/src/status.rt").read_text()
