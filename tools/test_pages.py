@@ -213,6 +213,20 @@ IsKind k = IsFew k.part
         self.write("docs/MORE.md", "<!-- code low/src/kept.rt lost -->\n<!-- end -->\n")
         self.assertIn("lost of low/src/kept.rt is to be shown, and is not there\n", printed(make_pages.main, False)[0])
 
+    def test_a_head_shows_the_text_of_a_test(self):
+        self.write("crates/high/src/calls.rt", "#[test]\nfn few() {\n    let n = 1;\n    if few(n) {\n        count();\n    }\n}\n")
+        path = "crates/low/src/lib.rt"
+        head = "//!\n//! ## Call it\n//!\n//! Of `n`. From `high::calls::few`:\n//!\n//! ```rust\n//! if few(n) {\n//!     count();\n//! }\n//! ```\npub use"
+        self.write(path, FILES[path].replace("pub use", head))
+        self.assertEqual(printed(make_pages.main, False), ("", 0))
+        self.assertNotIn("Call it", (self.top / "docs/PAGE.md").read_text())
+        told = "the head of low shows what is not in the test few of crates/high/src/calls.rt\n"
+        for old, new in [("count();", "counts();"), ("    count();", "count();"), ("if few", "few")]:
+            self.write(path, FILES[path].replace("pub use", head.replace(old, new)))
+            self.assertEqual(printed(make_pages.main, True), (told, 1))
+        self.write(path, FILES[path].replace("pub use", head.replace("From ", "In ")))
+        self.assertIn("the head of low does not say which test it shows", printed(make_pages.main, True)[0])
+
     def test_crates_of_ones_own_are_passed_over(self):
         printed(make_pages.main, False)
         self.write("crates.txt", f"{FILES['crates.txt']}{common.OWN}, and more words\nmine: low\n")

@@ -3,16 +3,18 @@
 //! answers at once, the usage by the table of commands, words of texts, records of files, matrices
 //! of flags and of dates through the bounds, answers that were worked out by hand, a settled form
 //! by rows of one's own, the advice of a small crate on the library, nets that are held, changed
-//! and asked again, checkers of what answers show, and the chapters of docs/LIBRARY.md. The crate
-//! has tests alone: they show what no contract says, that memory is found, also at the limits. It
-//! stands on `teg_report`, `pace_example`, `teg_replay` and `series_ops`, and on what these stand
-//! on.
+//! and asked again, checkers of what answers show, the chapters of docs/LIBRARY.md, and what heads
+//! of crates show. The crate has tests alone: they show what no contract says, that memory is
+//! found, also at the limits. It stands on `teg_report`, `pace_example`, `teg_replay` and
+//! `series_ops`, and on what these stand on.
 #![tactic(auto)]
 
 #[cfg(test)]
 mod advice;
 #[cfg(test)]
 mod by_hand;
+#[cfg(test)]
+mod calls;
 #[cfg(test)]
 mod chapters_nets;
 #[cfg(test)]
