@@ -1,9 +1,10 @@
-"""The program that `rt ci` leaves, and how the tools run it and sum up what came of it."""
+"""The programs that `rt ci` leaves, and how the tools run them and sum up what came of it."""
 import os
 import subprocess
 
 TOP = os.path.dirname(os.path.dirname(os.path.abspath(__file__)))
 BUILT = f"{TOP}/crates/teg/out/teg"
+WITNESS = f"{TOP}/crates/witness_runner/out/witness_runner"
 
 
 def run(words, folder):

@@ -29,6 +29,7 @@ import threading
 import time
 from pathlib import Path
 
+import common
 from built_program import BUILT, is_there, summed_up
 from common import Status
 from dear_cases import answered_cases, dear_cases
@@ -39,53 +40,7 @@ LATE, LOG, CALC, NAME = Status.LATE, Status.LOG, Status.CALC, Status.NAME
 READ_FAULT, WRITE_FAULT = Status.READ_FAULT, Status.WRITE_FAULT
 
 SOLE = '[[transition]]\nname = "a"\n'
-LOOP = SOLE + """
-[[transition]]
-name = "b"
-
-[[place]]
-name = "ab"
-from = "a"
-to = "b"
-hold = 3
-
-[[place]]
-name = "ba"
-from = "b"
-to = "a"
-hold = 2
-tokens = 1
-"""
-LINE = """[[transition]]
-name = "u"
-role = "input"
-
-[[transition]]
-name = "a"
-
-[[transition]]
-name = "y"
-role = "output"
-
-[[place]]
-name = "ua"
-from = "u"
-to = "a"
-hold = 2
-
-[[place]]
-name = "aa"
-from = "a"
-to = "a"
-hold = 3
-tokens = 1
-
-[[place]]
-name = "ay"
-from = "a"
-to = "y"
-hold = 1
-"""
+LOOP, LINE = common.net("loop"), common.net("driven")
 WIDE = {digits: ["1" + "0" * (digits - 2) + "1", "9" * digits] for digits in (19, 20)}
 WRAPPED = str(2**64 + 10)
 

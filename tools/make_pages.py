@@ -29,6 +29,8 @@ these lines and ends with the line `<!-- end -->`:
 With --check it writes nothing and tells each page that differs from what it would write. In both cases it tells
 each crate of crates.txt that the map of README.md does not name, and each crate, definition or edit that such a line
 names and that is not there; and each link, and each name of code in a page, that leads nowhere (tools/page_links.py).
+The head of a crate may end with the section `## Call it`: what its names are, the words ``From `CRATE::FILE::TEST`:``
+and a fenced block of code. A block whose lines do not stand so in this test is told too.
 The exit status is 0 where there is nothing to tell.
 """
 import re
@@ -50,6 +52,9 @@ KINDS = (
     r"head of (\w+)|heads of all others|definitions ([\w .]+)|costs|to read ([\w .]+)|edits((?: \w+/\w+)*)"
     r"|laws((?: \w+::\w+)+)|laws of (\w+)|all other laws|code ([\w/.]+)((?: \w+)+)"
 )
+# How a crate is called, at the end of its head, and where that stands as a test.
+CALL = "## Call it"
+SHOWN = re.compile(r"(?:.*\s)?From\s+`(\w+)::(\w+)::(\w+)`:\n\n```rust\n(.*?)```", re.S)
 BLOCK = re.compile(rf"^<!-- ({KINDS}) -->\n.*?^<!-- end -->\n", re.M | re.S)
 
 
@@ -68,15 +73,17 @@ def link_free(text):
     return re.sub(r"\[(`[^`]+`)\](\([^)]*\))?", r"\1", text)
 
 
-def head_of(crate):
-    """The comment at the head of a crate's root file, as paragraphs of one line each but for tables and lists, and then its
-    public calls; of a crate of laws alone that docs/LAWS.md tells the first paragraph."""
+def head_lines(crate):
+    """The lines of the comment at the head of a crate's root file."""
     root = next((path for path in (TOP / f"crates/{crate}/src/{name}.rt" for name in ("lib", "main")) if path.is_file()), None)
-    lines = []
-    for line in root.read_text().splitlines() if root else []:
-        if not line.startswith("//!"):
-            break
-        lines.append(line[3:].strip())
+    lines = takewhile(lambda line: line.startswith("//!"), root.read_text().splitlines() if root else [])
+    return [line[3:].removeprefix(" ").rstrip() for line in lines]
+
+
+def head_of(crate):
+    """The comment at the head of a crate's root file but for how it is called, as paragraphs of one line each but for tables
+    and lists, and then its public calls; of a crate of laws alone that docs/LAWS.md tells the first paragraph."""
+    lines = [line.strip() for line in takewhile(lambda line: line != CALL, head_lines(crate))]
     paragraphs = " ".join("\n" + line if line.startswith(("|", "- ")) else line or "\n\n" for line in lines)
     paragraphs = re.sub(r" +\n", "\n", paragraphs)
     texts = [re.sub(EACH_LAW, "", re.sub(STANDS, "", link_free(it.strip()))).strip() for it in paragraphs.split("\n\n")]
@@ -217,6 +224,21 @@ def item_of(text, name):
     return found[0] if found else ""
 
 
+def told_calls_of_head(crate):
+    """Tells where the head of a crate shows a call that is not the text of its test."""
+    section = "\n".join(head_lines(crate)).partition(CALL)[2]
+    shown = SHOWN.fullmatch(section.strip())
+    if section and not shown:
+        return [f"the head of {crate} does not say which test it shows, or shows no code"]
+    if not section:
+        return []
+    path = TOP / f"crates/{shown[1]}/src/{shown[2]}.rt"
+    test = item_of(path.read_text(), shown[3]) if path.is_file() else ""
+    within = "".join(line.removeprefix("    ") for line in test.splitlines(keepends=True))
+    is_there = "#[test]" in test and f"\n{shown[4]}" in within
+    return [] if is_there else [f"the head of {crate} shows what is not in the test {shown[3]} of {path.relative_to(TOP)}"]
+
+
 def costs():
     """What docstrings say of time and memory, crate by crate."""
     rows = ["| Crate | Call | What it takes |", "|---|---|---|"]
@@ -333,6 +355,7 @@ class Pages:
         self.told += [f"the table of README.md does not name {crate}" for crate in crates() if crate not in told]
         self.told += [f"the map of docs/ARCHITECTURE.md does not name {crate}" for crate in crates() if crate not in on_map]
         self.told += [f"docs/ have a block of {crate}, which crates.txt does not name" for crate in sorted(self.heads - set(crates()))]
+        self.told += [told for crate in crates() for told in told_calls_of_head(crate)]
         self.told += leads_nowhere(TOP)
 
 

@@ -25,48 +25,12 @@ import tempfile
 from pathlib import Path
 
 from built_program import BUILT, is_there, summed_up
-from common import Status
+from common import Status, net
 
 WORDS, NO_MEMORY = Status.WORDS, Status.NO_MEMORY
 GROWING = (b"malloc", b"realloc", b"calloc", b"aligned_alloc")
 
-LOOP = """[[transition]]
-name = "a"
-
-[[transition]]
-name = "b"
-
-[[place]]
-name = "ab"
-from = "a"
-to = "b"
-hold = 3
-
-[[place]]
-name = "ba"
-from = "b"
-to = "a"
-hold = 2
-tokens = 1
-"""
-LINE = """transition = [{name = "u", role = "input"}, {name = "a"}, {name = "y", role = "output"}]
-place = [
-    {name = "ua", from = "u", to = "a", hold = 2},
-    {name = "aa", from = "a", to = "a", hold = 3, tokens = 1},
-    {name = "ay", from = "a", to = "y", hold = 1},
-]
-"""
-KANBAN = """transition = [{name = "m1"}, {name = "m2"}, {name = "m3"}]
-place = [
-    {name = "s1", from = "m1", to = "m1", hold = 4, tokens = 1},
-    {name = "s2", from = "m2", to = "m2", hold = 6, tokens = 1},
-    {name = "s3", from = "m3", to = "m3", hold = 5, tokens = 1},
-    {name = "f12", from = "m1", to = "m2", hold = 4},
-    {name = "f23", from = "m2", to = "m3", hold = 6},
-    {name = "c21", from = "m2", to = "m1", tokens = 2},
-    {name = "c32", from = "m3", to = "m2", tokens = 2},
-]
-"""
+LOOP, LINE, KANBAN = net("loop"), net("driven"), net("kanban")
 TWO_INPUTS = """transition = [
     {name = "u", role = "input"}, {name = "v", role = "input"}, {name = "w", role = "input"},
     {name = "a"}, {name = "y", role = "output"}, {name = "z", role = "output"},

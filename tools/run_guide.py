@@ -1,7 +1,7 @@
 #!/usr/bin/env python3
 """Runs the guide for planners and the other documents: what they show is what the program prints.
 
-    tools/run_guide.py [PROGRAM]
+    tools/run_guide.py [--witnesses] [PROGRAM]
 
 PROGRAM is the built teg; where none is named it is the one that `rt ci` leaves. The commands of README.md, of
 docs/GUIDE*.md, of tools/recipe_rows.md, which has what these commands make of other files, and of the other files of
@@ -17,6 +17,10 @@ examples/:
 Each file of examples/ is named by a command of the guide, and each command that takes a net alone, by the
 usage, answers for each net there: with status 0, or, where the net is refused, as `check` does.
 
+With --witnesses each answer of `check`, `cycle`, `size` and `jit` that a command of the guide asks for is handed to the
+program witness_runner that `rt ci` leaves, which has to tell it as shown, and then with one number of it made greater by
+one, or of a circuit without tokens with the last place left out, which has to be told as not shown.
+
 A difference is told. The last line is 'N passed, M failed', and the exit status 0 where some passed and none failed.
 """
 import importlib.util
@@ -25,8 +29,14 @@ import re
 import sys
 import tempfile
 
-from built_program import BUILT, is_there, run, summed_up
+from built_program import BUILT, WITNESS, is_there, run, summed_up
 from common import TOP, Status
+
+
+# What asks for an answer that a checker reads, and how such answers begin.
+ASKS = re.compile(r"\./teg (?:check|cycle|size|jit)(?: [\w./]+)+")
+TABLE = "latest inputs for "
+CLAIMS = ("live\n", "refused: token-free circuit ", "cycle time ", "size ", "late ", TABLE)
 
 
 def blocks_of(text):
@@ -58,8 +68,42 @@ def indented(text):
     return "".join(f"    {line}\n" for line in text.splitlines()) or "    (nothing)\n"
 
 
-def run_blocks(name, text, folder):
-    """Runs the commands of a document, and tells for each whether it prints what the document shows."""
+def changed(text):
+    """The answer with a number made greater by one: the last of a line of the table of latest dates that tells a date,
+    line by line, or the last of the first line of another answer that has one. A circuit loses its last place."""
+    lines = text.splitlines(keepends=True)
+    numbered = [at for at, line in enumerate(lines) if re.search(r" \d+\b", line)]
+    if text.startswith(TABLE):
+        numbered = [at for at in numbered[1:] if not lines[at].endswith(" free\n")]
+    elif not numbered:
+        yield re.sub(r" \S+\n", "\n", text, count=1)
+    else:
+        numbered = numbered[:1]
+    for at in numbered:
+        other = re.sub(r"(.* )(\d+)", lambda found: f"{found[1]}{int(found[2]) + 1}", lines[at], count=1)
+        yield "".join([*lines[:at], other, *lines[at + 1 :]])
+
+
+def odd_witnesses(command, folder):
+    """Of each answer that the command asks for: its words, and how often the checker tells otherwise than it should."""
+    for asked in ASKS.findall(command):
+        words = asked.split()
+        text = run(words, folder)[1]
+        if not text.startswith(CLAIMS):
+            continue
+        files = [words[2], "answer.txt", *(words[3:] if words[1] == "jit" else [])]
+        odd = 0
+        for other, due in [(text, (0, False)), *((it, (1, True)) for it in changed(text))]:
+            with open(f"{folder}/answer.txt", "w", encoding="utf-8") as file:
+                file.write(other)
+            status, told = run([WITNESS, *files], folder)
+            odd += (status, "not shown " in told) != due
+        yield asked, odd
+
+
+def run_blocks(name, text, folder, witnesses=None):
+    """Runs the commands of a document, and tells for each whether it prints what the document shows. Where a list of
+    witnesses is given, whether each answer is shown is added to it."""
     for block in blocks_of(text):
         named = re.fullmatch(r"# (\w+)\.(toml|sed|awk)", block[2][0]) if block[2] else None
         if named and named[2] == block[1]:
@@ -72,6 +116,11 @@ def run_blocks(name, text, folder):
             well = printed == wanted
             if not well:
                 print(f"{name}:{number}: {command}\n  it shows\n{indented(wanted)}  it prints\n{indented(printed)}", end="")
+            if witnesses is not None:
+                for asked, odd in odd_witnesses(command, folder):
+                    witnesses.append(not odd)
+                    if odd:
+                        print(f"{name}:{number}: {asked}: {odd} texts are told otherwise than they should be")
             yield well
 
 
@@ -105,20 +154,24 @@ def documents():
     return {str(path.relative_to(TOP)): path.read_text(encoding="utf-8") for path in paths}
 
 
-def main(program):
-    if not is_there(program):
+def main(program, witnesses):
+    if not is_there(program) or witnesses is not None and not is_there(WITNESS):
         return summed_up(0, 1)
     texts = documents()
-    guides = [text for name, text in texts.items() if name.startswith("docs/GUIDE")]
+    guides = {name: text for name, text in texts.items() if name.startswith("docs/GUIDE")}
     with tempfile.TemporaryDirectory(prefix="teg-guide-") as folder:
         os.symlink(os.path.abspath(program), f"{folder}/teg")
         os.symlink(f"{TOP}/examples", f"{folder}/examples")
-        shown = [well for name, text in texts.items() for well in run_blocks(name, text, folder)]
-        nets = list(run_nets(guides, folder))
-    passed = shown.count(True) + nets.count(True)
+        seen = {name: witnesses if name in guides else None for name in texts}
+        shown = [well for name, text in texts.items() for well in run_blocks(name, text, folder, seen[name])]
+        nets = list(run_nets(guides.values(), folder))
+    told = [*shown, *nets, *(witnesses or [])]
     print(f"documents: {len(shown)} commands, and {len(nets)} files of examples/")
-    return summed_up(passed if shown and nets else 0, len(shown) + len(nets) - passed)
+    if witnesses is not None:
+        print(f"witnesses: {len(witnesses)} answers, each as it is and with a number changed")
+    return summed_up(told.count(True) if shown and nets and witnesses != [] else 0, told.count(False))
 
 
 if __name__ == "__main__":
-    sys.exit(main(sys.argv[1] if len(sys.argv) > 1 else BUILT))
+    words = [word for word in sys.argv[1:] if word != "--witnesses"]
+    sys.exit(main(words[0] if words else BUILT, [] if "--witnesses" in sys.argv else None))

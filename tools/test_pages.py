@@ -213,6 +213,20 @@ IsKind k = IsFew k.part
         self.write("docs/MORE.md", "<!-- code low/src/kept.rt lost -->\n<!-- end -->\n")
         self.assertIn("lost of low/src/kept.rt is to be shown, and is not there\n", printed(make_pages.main, False)[0])
 
+    def test_a_head_shows_the_text_of_a_test(self):
+        self.write("crates/high/src/calls.rt", "#[test]\nfn few() {\n    let n = 1;\n    if few(n) {\n        count();\n    }\n}\n")
+        path = "crates/low/src/lib.rt"
+        head = "//!\n//! ## Call it\n//!\n//! Of `n`. From `high::calls::few`:\n//!\n//! ```rust\n//! if few(n) {\n//!     count();\n//! }\n//! ```\npub use"
+        self.write(path, FILES[path].replace("pub use", head))
+        self.assertEqual(printed(make_pages.main, False), ("", 0))
+        self.assertNotIn("Call it", (self.top / "docs/PAGE.md").read_text())
+        told = "the head of low shows what is not in the test few of crates/high/src/calls.rt\n"
+        for old, new in [("count();", "counts();"), ("    count();", "count();"), ("if few", "few")]:
+            self.write(path, FILES[path].replace("pub use", head.replace(old, new)))
+            self.assertEqual(printed(make_pages.main, True), (told, 1))
+        self.write(path, FILES[path].replace("pub use", head.replace("From ", "In ")))
+        self.assertIn("the head of low does not say which test it shows", printed(make_pages.main, True)[0])
+
     def test_crates_of_ones_own_are_passed_over(self):
         printed(make_pages.main, False)
         self.write("crates.txt", f"{FILES['crates.txt']}{common.OWN}, and more words\nmine: low\n")
@@ -254,6 +268,22 @@ class Guide(unittest.TestCase):
         text, well = self.run_page("```\n$ echo a\nb\n```\n")
         self.assertEqual(well, [False])
         self.assertIn("PAGE:2: echo a\n  it shows\n    b\n  it prints\n    a\n", text)
+
+
+    def test_an_answer_is_changed_in_a_number(self):
+        first = {
+            "live\ntransitions 2\nplaces 2\n": ["live\ntransitions 3\nplaces 2\n"],
+            "cycle time 9/1\ncircuit a\n": ["cycle time 10/1\ncircuit a\n"],
+            "size c32 5/1 extra 1\ncircuit a\n": ["size c32 5/1 extra 2\ncircuit a\n"],
+            "size c21 5/1 impossible\ncircuit a\n": ["size c21 6/1 impossible\ncircuit a\n"],
+            "refused: token-free circuit a b2\n": ["refused: token-free circuit a\n"],
+            "late a 2 due 20 least 22\npath a 2\n": ["late a 2 due 20 least 23\npath a 2\n"],
+        }
+        for text, others in first.items():
+            self.assertEqual(list(run_guide.changed(text)), others)
+        table = "latest inputs for 2 firings\ninput a 1 15 by b\nlatest c 1 free\nlatest c 2 40 due\n"
+        others = [table.replace("15", "16"), table.replace("40", "41")]
+        self.assertEqual(list(run_guide.changed(table)), others)
 
 
 class Shared(unittest.TestCase):

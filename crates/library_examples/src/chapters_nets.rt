@@ -1,11 +1,10 @@
 //! Chapters of the page on the library: a net that is read, checked, asked for its pace, changed
 //! and asked again, and an answer that is checked.
-use std::alloc::Global;
 use std::test::Fail;
 use teg_certificates::check_cycle;
 use teg_check::LiveNet;
 use teg_cycle::{best_ratio, cycle};
-use teg_net::{CycleAnswer, OutOfMemory, PartAnswer, Ratio};
+use teg_net::{PartAnswer, Ratio};
 use teg_parts::split;
 use teg_reader::read_net;
 
@@ -19,23 +18,20 @@ place = [
 
 #[test]
 fn a_net_is_read_and_checked(rt: HostRuntime) -> Result<(), Fail> {
-    let net = read_net(rt.alloc(), NET)?;
-    let held = LiveNet::new(rt.alloc(), net)?;
+    let alloc = rt.alloc();
+    let net = read_net(alloc, NET)?;
+    let held = LiveNet::new(alloc, net)?;
     assert!(rt; held.net().transitions().len() == 2);
     assert!(rt; held.net().find_place("belt").is_some());
     Ok(())
 }
 
-// The cycle times of a net that is held, by its parts.
-fn answer_of(alloc: Global, held: &LiveNet) -> Result<CycleAnswer, OutOfMemory> {
-    let parts = split(alloc, held.net())?;
-    cycle(alloc, held.net(), held.live(), &parts)
-}
-
 #[test]
 fn a_net_has_a_pace_and_a_bottleneck(rt: HostRuntime) -> Result<(), Fail> {
-    let held = LiveNet::new(rt.alloc(), read_net(rt.alloc(), NET)?)?;
-    let answer = answer_of(rt.alloc(), &held)?;
+    let alloc = rt.alloc();
+    let held = LiveNet::new(alloc, read_net(alloc, NET)?)?;
+    let parts = split(alloc, held.net())?;
+    let answer = cycle(alloc, held.net(), held.live(), &parts)?;
     assert!(rt; best_ratio(&answer) == Some(Ratio::of(3, 1)));
     for part in answer.parts.iter() {
         if let PartAnswer::Best { circuit, .. } = part {
@@ -47,23 +43,24 @@ fn a_net_has_a_pace_and_a_bottleneck(rt: HostRuntime) -> Result<(), Fail> {
 
 #[test]
 fn a_net_is_changed_and_asked_again(rt: HostRuntime) -> Result<(), Fail> {
-    let mut held = LiveNet::new(rt.alloc(), read_net(rt.alloc(), NET)?)?;
-    let Some(busy) = held.net().find_place("busy") else {
-        panic!(rt; "the net has the place");
-    };
+    let alloc = rt.alloc();
+    let mut held = LiveNet::new(alloc, read_net(alloc, NET)?)?;
+    let busy = held.net().find_place("busy").ok_or("no such place")?;
     held.set_hold(busy, 5);
-    assert!(rt; best_ratio(&answer_of(rt.alloc(), &held)?) == Some(Ratio::of(5, 1)));
+    let parts = split(alloc, held.net())?;
+    let answer = cycle(alloc, held.net(), held.live(), &parts)?;
+    assert!(rt; best_ratio(&answer) == Some(Ratio::of(5, 1)));
     Ok(())
 }
 
 #[test]
 fn an_answer_is_checked(rt: HostRuntime) -> Result<(), Fail> {
-    let mut held = LiveNet::new(rt.alloc(), read_net(rt.alloc(), NET)?)?;
-    let answer = answer_of(rt.alloc(), &held)?;
+    let alloc = rt.alloc();
+    let mut held = LiveNet::new(alloc, read_net(alloc, NET)?)?;
+    let parts = split(alloc, held.net())?;
+    let answer = cycle(alloc, held.net(), held.live(), &parts)?;
     assert!(rt; check_cycle(held.net(), &answer));
-    let Some(busy) = held.net().find_place("busy") else {
-        panic!(rt; "the net has the place");
-    };
+    let busy = held.net().find_place("busy").ok_or("no such place")?;
     held.set_hold(busy, 5);
     assert!(rt; !check_cycle(held.net(), &answer));
     Ok(())

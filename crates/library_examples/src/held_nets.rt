@@ -1,4 +1,5 @@
 //! Nets that are copied, held, changed and asked again, and the checkers of what answers show.
+use crate::nets::LOOP;
 use dating_certificates::check_rows;
 use dioid::Date;
 use scheduler_loop::Scheduler;
@@ -9,14 +10,6 @@ use teg_check::{CheckRefusal, LiveNet};
 use teg_net::{PlaceId, Ratio};
 use teg_reader::read_net;
 use teg_sizing::{Sizing, enough_potentials, size};
-
-// Two transitions that follow each other by 3 and by 2, with one token on the way back.
-const RING: &[u8] = b"transition = [{name = 'a'}, {name = 'b'}]
-place = [
-  {name = 'ab', from = 'a', to = 'b', hold = 3},
-  {name = 'ba', from = 'b', to = 'a', hold = 2, tokens = 1},
-]
-";
 
 // An input before a machine.
 const LINE: &[u8] = b"transition = [{name = 'in', role = 'input'}, {name = 'work'}]
@@ -44,7 +37,7 @@ fn give(
 
 #[test]
 fn tokens_are_changed_where_the_net_stays_live(rt: HostRuntime) -> Result<(), Fail> {
-    let net = read_net(rt.alloc(), RING)?;
+    let net = read_net(rt.alloc(), LOOP)?;
     let copy = net.copy(rt.alloc())?;
     let mut held = LiveNet::new(rt.alloc(), net)?;
     let place = PlaceId::new(1);
@@ -62,7 +55,7 @@ fn tokens_are_changed_where_the_net_stays_live(rt: HostRuntime) -> Result<(), Fa
 
 #[test]
 fn ranks_and_a_deadlock_are_checked(rt: HostRuntime) -> Result<(), Fail> {
-    let net = read_net(rt.alloc(), RING)?;
+    let net = read_net(rt.alloc(), LOOP)?;
     assert!(rt; is_ranking(&net, &[0, 1]));
     assert!(rt; !is_ranking(&net, &[1, 0]));
     assert!(rt; !shows_deadlock(&net, &[PlaceId::new(0), PlaceId::new(1)]));
@@ -71,7 +64,7 @@ fn ranks_and_a_deadlock_are_checked(rt: HostRuntime) -> Result<(), Fail> {
 
 #[test]
 fn rows_are_checked(rt: HostRuntime) -> Result<(), Fail> {
-    let net = read_net(rt.alloc(), RING)?;
+    let net = read_net(rt.alloc(), LOOP)?;
     let rows = [Date::At(0), Date::At(3), Date::At(5), Date::At(8)];
     assert!(rt; check_rows(rt.alloc(), &net, &rows)?);
     let others = [Date::At(0), Date::At(3), Date::At(5), Date::At(9)];
@@ -81,7 +74,7 @@ fn rows_are_checked(rt: HostRuntime) -> Result<(), Fail> {
 
 #[test]
 fn further_tokens_are_checked(rt: HostRuntime) -> Result<(), Fail> {
-    let held = LiveNet::new(rt.alloc(), read_net(rt.alloc(), RING)?)?;
+    let held = LiveNet::new(rt.alloc(), read_net(rt.alloc(), LOOP)?)?;
     let Some(place) = held.net().find_place("ba") else {
         panic!(rt; "the net has the place");
     };

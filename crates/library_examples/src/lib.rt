@@ -10,6 +10,8 @@ mod advice;
 #[cfg(test)]
 mod by_hand;
 #[cfg(test)]
+mod calls;
+#[cfg(test)]
 mod chapters_nets;
 #[cfg(test)]
 mod chapters_plans;

@@ -1,4 +1,5 @@
 //! The lines of refusals, as a program prints them.
+use scheduler_loop::Scheduler;
 use std::alloc::Global;
 use std::fmt::Display;
 use std::test::Fail;
@@ -6,7 +7,8 @@ use teg_check::LiveNet;
 use teg_due::{read_due, read_log};
 use teg_reader::read_net;
 
-const LOOP: &[u8] =
+// A circuit that has no token.
+const NO_TOKEN: &[u8] =
     b"transition = [{name = 'a'}]\nplace = [{name = 'p', from = 'a', to = 'a', hold = 1}]\n";
 
 // Whether this is the line of the refusal.
@@ -31,7 +33,7 @@ fn refusals_have_lines(rt: HostRuntime) -> Result<(), Fail> {
             "transition 1 unknown key \"hold\""
         )
     );
-    let net = read_net(alloc, LOOP)?;
+    let net = read_net(alloc, NO_TOKEN)?;
     assert!(rt;
         says(
             alloc,
@@ -46,13 +48,9 @@ fn refusals_have_lines(rt: HostRuntime) -> Result<(), Fail> {
             "log row 1 is not a firing"
         )
     );
-    assert!(rt;
-        says(
-            alloc,
-            LiveNet::new(alloc, net),
-            "token-free circuit of places 0"
-        )
-    );
+    let line = "token-free circuit of places 0";
+    assert!(rt; says(alloc, LiveNet::new(alloc, net), line));
+    assert!(rt; says(alloc, Scheduler::new(alloc, NO_TOKEN), line));
     Ok(())
 }
 
@@ -65,7 +63,7 @@ fn places_of(alloc: Global, file: &[u8]) -> anyhow::Result<usize> {
 
 #[test]
 fn refusals_pass_up(rt: HostRuntime) {
-    let Err(error) = places_of(rt.alloc(), LOOP) else {
+    let Err(error) = places_of(rt.alloc(), NO_TOKEN) else {
         panic!(rt; "the net is not live");
     };
     assert!(rt;

@@ -12,7 +12,8 @@ use teg_net::OutOfMemory;
 use teg_reader::ReadRefusal;
 
 /// Why a [`crate::Scheduler`] is not made, not changed or gives no answer. A refusal here is never
-/// want of memory, which is `OutOfMemory` whichever call found none.
+/// want of memory, which is `OutOfMemory` whichever call found none. The line of a refusal is that
+/// of the call that refused.
 #[derive(Debug, Drop)]
 pub enum NoAnswer {
     /// The net file says no net.
@@ -34,12 +35,12 @@ pub enum NoAnswer {
 impl fmt::Display for NoAnswer {
     fn fmt<W: fmt::Write>(&self, f: &mut fmt::Formatter<W>) -> fmt::Result {
         match self {
-            NoAnswer::NoNet { .. } => write!(f, "the file says no net"),
-            NoAnswer::NotLive { .. } => write!(f, "a circuit has no tokens"),
+            NoAnswer::NoNet { refusal } => refusal.fmt(f),
+            NoAnswer::NotLive { refusal } => refusal.fmt(f),
             NoAnswer::NoPlace => write!(f, "no place has the name"),
             NoAnswer::HoldTooLong => write!(f, "the holding time is past its limit"),
-            NoAnswer::NoDue { .. } => write!(f, "the file says no due dates"),
-            NoAnswer::Late { .. } => write!(f, "a firing comes later than it is due"),
+            NoAnswer::NoDue { refusal } => refusal.fmt(f),
+            NoAnswer::Late { refusal } => refusal.fmt(f),
             NoAnswer::OutOfMemory => write!(f, "no memory was found"),
         }
     }

@@ -4,6 +4,21 @@
 //! The crate stands on `series_laws` for the definitions and their laws, on `series_form` for
 //! series, and on `dioid` for dates.
 //! Its examples stand in `series_examples`.
+//!
+//! ## Call it
+//!
+//! A belt of 2 units before a machine that works 3 units on each part, and orders of one part every
+//! 4 units. From `library_examples::chapters_series::a_line_is_a_series`:
+//!
+//! ```rust
+//! let machine = star(alloc, &Series::monomial(alloc, 1, 3)?)?;
+//! let line = product(alloc, &Series::monomial(alloc, 0, 2)?, &machine)?;
+//! assert!(rt; line.at(4) == Date::At(14));
+//! let orders = star(alloc, &Series::monomial(alloc, 1, 4)?)?;
+//! let due = product(alloc, &Series::monomial(alloc, 0, 10)?, &orders)?;
+//! let releases = left(alloc, &line, &due)?;
+//! assert!(rt; releases.at(1) == Date::At(12));
+//! ```
 #![tactic(auto)]
 
 mod anchors;

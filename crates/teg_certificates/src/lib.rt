@@ -18,6 +18,21 @@
 //! [`best_ratio`] reads the ratio of the net off an answer on cycle times.
 //! The crate stands on `teg_net` alone.
 //! Its examples stand in `worked_examples` and `library_examples`.
+//!
+//! ## Call it
+//!
+//! `NET` is the file of a machine, `work`, that takes 3 units for each part that comes `in`, by the
+//! place `busy`. From `library_examples::chapters_nets::an_answer_is_checked`:
+//!
+//! ```rust
+//! let mut held = LiveNet::new(alloc, read_net(alloc, NET)?)?;
+//! let parts = split(alloc, held.net())?;
+//! let answer = cycle(alloc, held.net(), held.live(), &parts)?;
+//! assert!(rt; check_cycle(held.net(), &answer));
+//! let busy = held.net().find_place("busy").ok_or("no such place")?;
+//! held.set_hold(busy, 5);
+//! assert!(rt; !check_cycle(held.net(), &answer));
+//! ```
 #![tactic(auto)]
 
 mod best_ratios;

@@ -8,6 +8,22 @@
 //! Its examples stand in `worked_examples`.
 //!
 //! A circuit without tokens is told from its lowest numbered transition on.
+//!
+//! ## Call it
+//!
+//! `LOOP` is the file of two transitions: `b` fires 3 units after `a` by the place `ab`, and `a`
+//! again 2 units after `b` by `ba`, which has a token. From
+//! `library_examples::calls::a_net_is_held_and_changed`:
+//!
+//! ```rust
+//! let mut held = LiveNet::new(alloc, read_net(alloc, LOOP)?)?;
+//! let back = held.net().find_place("ba").ok_or("no such place")?;
+//! held.set_hold(back, 4);
+//! let place = held.net().place(back);
+//! assert!(rt; place.hold == 4 && place.ready.as_slice().is_empty());
+//! let refused = held.set_tokens(alloc, back, 0);
+//! assert!(rt; matches!(refused, Err(CheckRefusal::TokenFree { .. })));
+//! ```
 #![tactic(auto)]
 
 mod elimination;

@@ -7,6 +7,23 @@
 //! The crate stands on `teg_howard` for the greatest ratio of a part, on `teg_parts` for parts, on
 //! `teg_check` for ranks, on `teg_certificates` for certificates, and on `teg_net` for nets.
 //! Its examples stand in `worked_examples`.
+//!
+//! ## Call it
+//!
+//! `NET` is the file of a machine, `work`, that takes 3 units for each part that comes `in`, by the
+//! place `busy`. From `library_examples::chapters_nets::a_net_has_a_pace_and_a_bottleneck`:
+//!
+//! ```rust
+//! let held = LiveNet::new(alloc, read_net(alloc, NET)?)?;
+//! let parts = split(alloc, held.net())?;
+//! let answer = cycle(alloc, held.net(), held.live(), &parts)?;
+//! assert!(rt; best_ratio(&answer) == Some(Ratio::of(3, 1)));
+//! for part in answer.parts.iter() {
+//!     if let PartAnswer::Best { circuit, .. } = part {
+//!         assert!(rt; circuit.places.len() == 1);
+//!     }
+//! }
+//! ```
 #![tactic(auto)]
 
 mod best_parts;

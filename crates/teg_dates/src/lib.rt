@@ -10,6 +10,20 @@
 //! `teg_check` for the ranks, on `teg_form` for the form that a stream is asked with, on
 //! `teg_model` for what a least dating is, on `circular_buffer`, and on `dioid` for dates.
 //! Its examples stand in `library_examples`.
+//!
+//! ## Call it
+//!
+//! `NET` is the file of a machine, `work`, that takes 3 units for each part: one comes `in` every 4
+//! units, and is 2 units on a belt. From
+//! `library_examples::chapters_plans::firings_have_first_dates`:
+//!
+//! ```rust
+//! let held = LiveNet::new(alloc, read_net(alloc, NET)?)?;
+//! let dates = first_dates(alloc, held.net(), held.live(), 3)?;
+//! let work = held.net().find("work").ok_or("no such transition")?;
+//! assert!(rt; dates.date(work, 1) == Date::At(2));
+//! assert!(rt; dates.date(work, 3) == Date::At(10));
+//! ```
 #![tactic(auto)]
 
 mod date_cell;

@@ -7,6 +7,24 @@
 //! [`is_input`] are what other readers of rows ask of a net too. The crate stands on
 //! `teg_net` for the names of transitions and on `csv_records` for the reader of rows.
 //! Its examples stand in `worked_examples`.
+//!
+//! ## Call it
+//!
+//! `LOOP` is the file of two transitions: `b` fires 3 units after `a` by the place `ab`, and `a`
+//! again 2 units after `b` by `ba`, which has a token. From
+//! `library_examples::calls::due_dates_are_read`:
+//!
+//! ```rust
+//! let net = read_net(alloc, LOOP)?;
+//! let due = read_due(alloc, &net, b"transition,number,date\nb,1,10\nb,2,20\n")?;
+//! assert!(rt;
+//!     due.rows
+//!         .iter()
+//!         .all(|row| row.date == 10 * u64::from(row.number))
+//! );
+//! let twice = read_due(alloc, &net, b"b,1,10\nb,1,20\n");
+//! assert!(rt; matches!(twice, Err(DueRefusal::RepeatedDue { row: 2 })));
+//! ```
 #![tactic(auto)]
 
 mod dues;

@@ -12,6 +12,22 @@
 //! dates, on `teg_due` for due lists, and on `due_laws`, `teg_model` and `dioid` for what the
 //! answers mean.
 //! Its examples stand in `worked_examples`.
+//!
+//! ## Call it
+//!
+//! `NET` is the file of a machine, `work`, that takes 3 units for each part: one comes `in` every 4
+//! units, and is 2 units on a belt. From
+//! `library_examples::chapters_plans::due_dates_have_latest_inputs`:
+//!
+//! ```rust
+//! let held = LiveNet::new(alloc, read_net(alloc, NET)?)?;
+//! let due = read_due(alloc, held.net(), b"work,1,10\nwork,2,11\n")?;
+//! let plan = latest_inputs(alloc, held.net(), held.live(), &due)?;
+//! let entry = held.net().find("in").ok_or("no such transition")?;
+//! assert!(rt; plan.numbers() == 2);
+//! let first = plan.latest(entry, 1);
+//! assert!(rt; matches!(first, LatestDate::At { date: 6, .. }));
+//! ```
 #![tactic(auto)]
 
 mod answers;

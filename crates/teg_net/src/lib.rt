@@ -11,6 +11,23 @@
 //! places that leave or enter a transition; both are made once and borrow nothing. The checkers
 //! (`is_net`, `is_path`, `is_circuit`, `is_walk`) are true exactly by their definitions. What
 //! answers on parts and cycle times mean stands here too.
+//!
+//! ## Call it
+//!
+//! `LOOP` is the file of two transitions: `b` fires 3 units after `a` by the place `ab`, and `a`
+//! again 2 units after `b` by `ba`, which has a token. From
+//! `library_examples::calls::a_circuit_has_a_time_and_tokens`:
+//!
+//! ```rust
+//! let mut net = read_net(alloc, LOOP)?;
+//! let there = net.find_place("ab").ok_or("no such place")?;
+//! let back = net.find_place("ba").ok_or("no such place")?;
+//! let circuit = [there, back];
+//! assert!(rt; is_circuit(&net, &circuit));
+//! assert!(rt; time_of(&net, &circuit) == 5 && tokens_of(&net, &circuit) == 1);
+//! net.set_hold(there, 7);
+//! assert!(rt; time_of(&net, &circuit) == 9);
+//! ```
 #![tactic(auto)]
 
 mod answers;

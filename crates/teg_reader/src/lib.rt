@@ -9,6 +9,23 @@
 //! A file is judged in fourteen passes: the first reads TOML, each other is one statement over the
 //! whole tree, and the first finding is the refusal. The hold of a place is that of its entry and
 //! the duration of its upstream transition.
+//!
+//! ## Call it
+//!
+//! `LOOP` is the file of two transitions: `b` fires 3 units after `a` by the place `ab`, and `a`
+//! again 2 units after `b` by `ba`, which has a token. From
+//! `library_examples::calls::a_net_is_read_and_written`:
+//!
+//! ```rust
+//! let net = read_net(alloc, LOOP)?;
+//! let back = net.find_place("ba").ok_or("no such place")?;
+//! assert!(rt; net.place(back).hold == 2);
+//! let file = write_net(alloc, &net)?;
+//! let again = read_net(alloc, &file)?;
+//! assert!(rt; again.places().len() == 2);
+//! let empty = read_net(alloc, b"");
+//! assert!(rt; matches!(empty, Err(ReadRefusal::NoTransitions)));
+//! ```
 #![tactic(auto)]
 
 mod bad_names;

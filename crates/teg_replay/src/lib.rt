@@ -11,6 +11,22 @@
 //! Its examples stand in `worked_examples`.
 //!
 //! A call of [`Game::fire`] that is refused, for want of memory too, changes nothing.
+//!
+//! ## Call it
+//!
+//! `NET` is the file of a machine, `work`, that takes 3 units for each part: one comes `in` every 4
+//! units, and is 2 units on a belt. From `library_examples::chapters_plans::firings_are_replayed`:
+//!
+//! ```rust
+//! let held = LiveNet::new(alloc, read_net(alloc, NET)?)?;
+//! let mut game = Game::new(alloc, held.net())?;
+//! let entry = held.net().find("in").ok_or("no such transition")?;
+//! let work = held.net().find("work").ok_or("no such transition")?;
+//! let firing = game.fire(alloc, held.net(), entry, 0)?;
+//! assert!(rt; firing.tokens == 2);
+//! let early = game.fire(alloc, held.net(), work, 1);
+//! assert!(rt; matches!(early, Err(FireRefusal::Illegal { .. })));
+//! ```
 #![tactic(auto)]
 
 mod column;

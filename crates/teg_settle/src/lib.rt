@@ -18,6 +18,19 @@
 //! ranks, on `teg_model` for datings, on `teg_net` for nets, on `dioid` for dates, and on
 //! `thiserror`.
 //! Its examples stand in `worked_examples`.
+//!
+//! ## Call it
+//!
+//! `NET` is the file of a machine, `work`, that takes 3 units for each part: one comes `in` every 4
+//! units, and is 2 units on a belt. From `library_examples::chapters_plans::dates_go_on_for_ever`:
+//!
+//! ```rust
+//! let held = LiveNet::new(alloc, read_net(alloc, NET)?)?;
+//! let form = settle(alloc, held.net(), held.live())?;
+//! let work = held.net().find("work").ok_or("no such transition")?;
+//! assert!(rt; form.period() == 1 && form.step(work) == 4);
+//! assert!(rt; form.date(work, 1_000_000) == Date::At(3_999_998));
+//! ```
 #![tactic(auto)]
 
 mod endless;

@@ -11,6 +11,20 @@
 //! `teg_certificates` for what is enough and what shows it, on `teg_check` for nets that are live,
 //! on `teg_loops` for the laws of paths and circuits, and on `teg_text` for texts.
 //! Its examples stand in `worked_examples`.
+//!
+//! ## Call it
+//!
+//! `LOOP` is the file of two transitions: `b` fires 3 units after `a` by the place `ab`, and `a`
+//! again 2 units after `b` by `ba`, which has a token. From
+//! `library_examples::calls::a_place_is_given_more_tokens`:
+//!
+//! ```rust
+//! let held = LiveNet::new(alloc, read_net(alloc, LOOP)?)?;
+//! let back = held.net().find_place("ba").ok_or("no such place")?;
+//! let target = Ratio::of(2, 1);
+//! let sizing = size(alloc, held.net(), held.live(), back, &target)?;
+//! assert!(rt; matches!(sizing, Sizing::Enough { extra: 2, .. }));
+//! ```
 #![tactic(auto)]
 
 mod loops;
