@@ -1,19 +1,21 @@
 //! The dates of a live net for ever, and one of them.
-ghost use Rattle.std.specs.Prelude.{◌≤◌, ◌<◌, IfSome, Some, length};
-ghost use Rattle.settled_laws.specs.SettledForms.{NetSettlesPast};
+ghost use Rattle.std.specs.Prelude.{◌≤◌, ◌<◌, IfErr, IfOk, IfSome, Some, length};
+ghost use Rattle.settled_laws.specs.SettledForms.{IsSettledFormOf, NetSettlesPast};
 ghost use Rattle.teg_commands.specs.CommandOutcomes.{Tells, outcome_of};
-ghost use Rattle.teg_commands.specs.CommandDates.{FormExceedsLimit, SaysDate, SaysDateOf, SaysDates, SaysTooLong, TellsNoTransition};
+ghost use Rattle.teg_commands.specs.CommandDates.{FormExceedsLimit, IsFormWithinLimit, SaysDate, SaysDateOf, SaysDates, SaysTooLong, TellsNoTransition};
 ghost use Rattle.teg_net.specs.Limits.{greatest_firing_number};
 ghost use Rattle.teg_settle.specs.LimitRefusals.{greatest_limit};
 
-use crate::live_net::LiveNet;
-use crate::numbers::{FiringNumber, Limit, most_of};
+use crate::numbers::{Limit, most_of};
 use crate::outcome::{CommandOutcome, Verdict};
 use settled_laws::forms_tell_dates;
 use std::alloc::Global;
-use teg_net::{Label, OutOfMemory, TransitionId};
+use teg_check::LiveNet;
+use teg_net::{FiringNumber, Label, OutOfMemory, TransitionId};
 use teg_report::{Answer, report};
-use teg_settle::SettleRefusal;
+use teg_settle::{
+    SettleRefusal, Settled, SettledDates, settle, settle_dates, settle_dates_within, settle_within,
+};
 
 // That the settled form is longer than the limit.
 fn tell_too_long(
@@ -35,8 +37,38 @@ fn tell_too_long(
     }
 }
 
-/// The dates of a live net for ever, as its shortest settled form; or that it is longer than the
-/// limit, where one is given. It takes the time of the search for the settled form.
+// The shortest settled form of the least dates, of at most this length where there is a limit.
+fn settled(alloc: Global, net: &LiveNet, limit: Option<u32>) -> Result<Settled, SettleRefusal>
+    requires { IfSome limit (λ most. most ≤ greatest_limit) }
+    ensures form { IfOk result (IsSettledFormOf net.now) }
+    ensures within { IfOk result (IsFormWithinLimit limit) }
+    ensures too_long { IfErr result (FormExceedsLimit net.now limit) }
+{
+    match limit {
+        Some(most) => settle_within(alloc, net.net(), net.live(), most),
+        None => Ok(settle(alloc, net.net(), net.live())?),
+    }
+}
+
+// The same form for callers that ask for some of its dates: no table is made of it.
+fn settled_dates(
+    alloc: Global,
+    net: &LiveNet,
+    limit: Option<u32>,
+) -> Result<SettledDates, SettleRefusal>
+    requires { IfSome limit (λ most. most ≤ greatest_limit) }
+    ensures form { IfOk result (IsSettledFormOf net.now) }
+    ensures within { IfOk result (IsFormWithinLimit limit) }
+    ensures too_long { IfErr result (FormExceedsLimit net.now limit) }
+{
+    match limit {
+        Some(most) => settle_dates_within(alloc, net.net(), net.live(), most),
+        None => Ok(settle_dates(alloc, net.net(), net.live())?),
+    }
+}
+
+/// The dates of a live net for ever, as its shortest settled form (chapter 3); or that it is longer
+/// than the limit, where one is given. It takes the time of the search for the settled form.
 pub fn tell_dates(
     alloc: Global,
     net: &LiveNet,
@@ -45,7 +77,7 @@ pub fn tell_dates(
     ensures { Tells (SaysDates limit net.now) (outcome_of result) }
 {
     let limit = most_of(limit);
-    match net.settled(alloc, limit) {
+    match settled(alloc, net, limit) {
         Ok(settled) => {
             let answer = Answer::Dates { settled: &settled };
             let text = report(alloc, Some(net.net()), &answer)?;
@@ -70,8 +102,9 @@ fn tell_date_of(
     requires limit { IfSome limit (λ most. most ≤ greatest_limit) }
     ensures { Tells (SaysDateOf transition number limit net.now) (outcome_of result) }
 {
-    match net.settled_dates(alloc, limit) {
+    match settled_dates(alloc, net, limit) {
         Ok(settled) => {
+            // That the settled form of a dating tells its dates.
             forms_tell_dates();
             let answer = Answer::Date {
                 transition,
@@ -96,9 +129,9 @@ fn tell_no_transition(alloc: Global, word: &str) -> Result<CommandOutcome, OutOf
     Ok(CommandOutcome { verdict, text })
 }
 
-/// The date of one firing of a live net, by the name of its transition and its number; or that no
-/// transition has the name, or that the settled form is longer than the limit, where one is given.
-/// It takes the time of the search for the settled form.
+/// The date of one firing of a live net, by the name of its transition and its number from 1; or
+/// that no transition has the name, or that the settled form is longer than the limit, where one is
+/// given. It takes the time of the search for the settled form.
 pub fn tell_date(
     alloc: Global,
     net: &LiveNet,

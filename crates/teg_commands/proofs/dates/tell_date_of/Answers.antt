@@ -16,6 +16,6 @@ returns-in_ok-text-in-Ok c =
     c.forms_tell_dates.ensures (length c.args.net.now.transitions) c.in-Ok.settled form.0 form.2.stands t.index k c.requires.transition c.requires.first in
     let kept = subst IsDate (c.date.ensures.value ∙ tells) (c.in_ok-text-in-Ok.ensures.told tt).kept.1 in
     let text_is = c.in_ok-text-in-Ok.ensures.text ∙ (ap
-    (λ (net : NetLists). written (date_line (name_of_transition net t) k c.date.result ∷ [])) c.net.ensures
+    (λ (net : NetLists). written (date_line (name_of_transition net t) k c.date.result ∷ [])) c.net.ensures.net
     ∙ ap (λ d. written (date_line (name_of_transition c.args.net.now t) k d ∷ [])) (c.date.ensures.value ∙ tells)) in
     inl (refl, (form.0, form.1, (c.in-Ok.settled, form, c.in-Ok.ensures.within), kept, text_is))

@@ -14,5 +14,5 @@ returns c =
     trial_said c.args.machines c.args.net.now c.args.ratio.now c.args.slacks.now c.in_ok-table.table _ _ _ _ c.requires.some c.requires.net
     c.requires.ratio c.requires.slacks c.in_ok-table.ensures.least c.in_ok-table.ensures.count
     (ap (λ (ps : List Place). length ps) (c.places.ensures.value
-    ∙ ap (λ (n : NetLists). n.places) c.net.ensures)) c.critical_count.ensures (rw c.from.ensures at c.date.ensures)
+    ∙ ap (λ (n : NetLists). n.places) c.net.ensures.net)) c.critical_count.ensures (rw c.from.ensures at c.date.ensures)
     (c.in_ok-text.ensures.told tt).kept c.in_ok-text.ensures.text
