@@ -289,7 +289,7 @@ spread_said : (period : ℕ) (limit : Option ℕ) (net : NetLists) (table : Time
 spread_said period limit net table verdict text h = let s = h.1 in (spread_told s.0, s.2, s.3)
 
 unspread_said : (period : ℕ) (limit : Option ℕ) (net : NetLists) (table : Timetable) (verdict : Verdict) (text : List ℕ) → SaysUnspread period limit net table verdict text → IsTimetableSaid net text
-unspread_said period limit net table verdict text h = some_said net (delay_told h.0) text h.3 h.4
+unspread_said period limit net table verdict text h = some_said net (delay_told h.0) text h.2.1 h.2.2
 
 delays_said : (period : ℕ) (limit : Option ℕ) (net : NetLists) (bytes : List ℕ) (verdict : Verdict) (text : List ℕ) →
     (table : Timetable) × (timetable_of net bytes ≡ Ok (lists_of_table table)) × IsTableOf net table × SaysDelays period limit net table verdict text → IsTimetableSaid net text

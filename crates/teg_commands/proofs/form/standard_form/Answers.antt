@@ -6,5 +6,5 @@ use Rattle.teg_commands.proofs.form.standard_form.Goals as goal
 
 pub returns-clause-within : goal.returns-clause-within
 returns-clause-within c =
-    rw (← c.net.ensures.net) (IfOk-weaker c.standard_form.result (IsStandardFormOf c.net.result.now) (HasEndsIn c.net.result.now)
-    (form_within c.net.result.now c.rules.ensures) c.standard_form.ensures.form)
+    IfOk-weaker c.standard_form.result (IsStandardFormOf c.args.net.now) (HasEndsIn c.args.net.now)
+    (form_within c.args.net.now (rw c.net.ensures.net at c.rules.ensures)) (rw c.net-2.ensures.net at c.standard_form.ensures.form)
