@@ -1,9 +1,9 @@
 use Rattle.std.proofs.Common.{◌≡◌, ◌<◌, ◌++◌, ◌∷◌, [], length, get_or, ◌∙◌, arith, rules}
-use Rattle.std.proofs.lemmas.List.{get_or_read}
 use Rattle.std.proofs.lemmas.List.Elements.{All-set}
 use Rattle.std.proofs.lemmas.Int.{to_z-of_z}
 use mir.Val.{SFits}
 use mir.Syntax.{w128}
+use Rattle.teg_net.specs.declared.entries.PlaceId.{PlaceId}
 use Rattle.teg_net.specs.Circuits.{from_of}
 use Rattle.teg_net.specs.Parts.{to_of}
 use Rattle.teg_howard.specs.Policies.{first_id, offer_of}
@@ -36,7 +36,8 @@ offer_from-requires-clause-within c =
     let few = c.requires.can.kept.few_transitions in
     rw c.deref-in-Some.ensures.value
     (held_at net c.args.part.now.parts.now c.args.part.now.number c.args.ratio.time c.args.ratio.tokens c.args.root
-    (policy_of c.route.policy) c.route.values.items h.valued (omega (arith, c.requires.can.count_parts)) (from_of net c.index-id.result.now))
+    (policy_of c.route.policy) c.route.values.items h.valued (omega (arith, c.requires.can.count_parts))
+    (from_of net (get_or c.args.part.now.ids.now c.in-Some.rank first_id)))
 
 pub route-preserved : goal.route-preserved
 route-preserved c =
@@ -50,18 +51,16 @@ route-preserved c =
     let joins = c.route.invariant.routed.0 in
     let h = c.route.invariant.routed.1 in
     let vs = c.route.values.items in
-    let p = c.index-id.result.now in
+    let p : PlaceId = get_or ids rank first_id in
     let first : IsFirstOn net vs ids rank = rw c.deref.ensures.value at c.in-Some.ensures.some in
-    let read : p ≡ get_or ids rank first_id = get_or_read ids rank p first.in_list c.index-id.ensures first_id in
-    let next : IsNextJoin net parts c.args.part.now.number vs p = rw read (first_is_next net ids parts c.args.part.now.number inner.lists vs rank first) in
+    let next : IsNextJoin net parts c.args.part.now.number vs p = first_is_next net ids parts c.args.part.now.number inner.lists vs rank first in
     let ends : c.end_of-member.result ≡ to_of net p = c.end_of-member.ensures in
     let member_in = next.join.inside.to_member.in_range in
     let exit_in : to_of net p < length exits = omega (arith, member_in, r.count_parts, inner.exits.count) in
-    let exit : c.index.result.now ≡ get_or exits (to_of net p) 0 = get_or_read exits (to_of net p) c.index.result.now exit_in (rw ends at c.index.ensures) 0 in
     let offered = c.offer_from.result in
     let fits : SFits w128 offered = search rules in
     let o : offered ≡ offer_of net c.args.ratio.time c.args.ratio.tokens (potentials vs) p = rw c.deref-in-Some.ensures.value at c.offer_from.ensures in
-    rw (ends, to_z-of_z w128 offered fits, c.min-from.ensures, exit)
+    rw (c.min-from.ensures, ends, to_z-of_z w128 offered fits)
     (record {
       in_range = All-set (λ q. q.index < length net.places) c.route.policy (to_of net p) p next.join.inside.in_range c.route.invariant.in_range;
       routed = (
