@@ -1,4 +1,4 @@
-use Rattle.std.proofs.Common.{◌≡◌}
+use Rattle.std.proofs.Common.{◌≡◌, refl}
 use Rattle.teg_net.specs.PartAnswers.{first_transition_of}
 use Rattle.teg_howard.specs.FoundCircuits.{policy_of}
 use Rattle.teg_howard.proofs.Turns.{root_member}
@@ -31,8 +31,8 @@ pub returns : goal.returns
 returns c =
     let root : c.root_of-root.result ≡ first_transition_of c.args.part.now.net.now c.args.circuit.items = rw c.deref.ensures.value at c.root_of-root.ensures in
     record {
-      ratio = c.in_ok-round.ensures.ratio;
-      circuit = c.in_ok-round.ensures.circuit;
-      made = rw c.deref-2.ensures.value at c.in_ok-round.ensures.made;
+      ratio = refl;
+      circuit = refl;
+      made = rw c.deref-2.ensures.value at c.in_ok-choices.ensures;
       members = rw root at c.in_ok-values.ensures;
     }
