@@ -10,5 +10,5 @@ returns-in-Accepted g c =
     second_accepted _ c.args.asked.command c.args.net.now _ _ c.args.asked.second _ _ (SaysFiles c.args.asked.command _ c.args.net.now) _ _ _ c.closed.ensures (rw (c.second_of.ensures, c.as_str.ensures) at c.in-Accepted.ensures)
     c.of_files.ensures.says c.of_files.ensures.shown
 
-pub returns-in-Lost : goal.returns-in-Lost
-returns-in-Lost g c = second_lost _ c.args.asked.command c.args.net.now _ c.args.asked.second _ _ (λ _ _ _. ⊥) (rw c.as_str.ensures at c.in-Lost.ensures)
+pub returns : goal.returns
+returns g c = second_lost _ c.args.asked.command c.args.net.now _ c.args.asked.second _ _ (λ _ _ _. ⊥) (rw c.as_str.ensures at c.in-Lost.ensures)
