@@ -2,8 +2,8 @@
 ghost use Rattle.std.specs.Prelude.{◌≡◌, All, IfOk, IfSome};
 ghost use Rattle.std.specs.Option.{option_copied, option_map};
 ghost use Rattle.teg_net.specs.Certificates.{IsCertificate};
-ghost use Rattle.teg_report.specs.AnswerMeanings.{cycle_lists, runs_lists};
-ghost use Rattle.teg_report.specs.RoundLines.{AreRoundsTold, IsRunKept};
+ghost use Rattle.teg_report.specs.teg_lines.CycleMeanings.{cycle_lists, runs_lists};
+ghost use Rattle.teg_report.specs.teg_lines.RoundLines.{AreRoundsTold, IsRunKept};
 ghost use Rattle.teg_commands.specs.Cycle.{SaysCycle, SaysRounds};
 ghost use Rattle.teg_commands.specs.CommandOutcomes.{Tells, outcome_of};
 ghost use Rattle.teg_commands.specs.CommandTexts.{cycle_text};

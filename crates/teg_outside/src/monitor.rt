@@ -4,6 +4,8 @@ ghost use Rattle.teg_outside.specs.declared.monitor.Firing.{Firing};
 ghost use Rattle.teg_outside.specs.Monitors.{IsOneLine};
 
 use std::alloc::{AllocError, AllocFailed, Global};
+use std::error::Error;
+use std::fmt;
 
 /// One firing of the token game, as monitors see it.
 #[derive(Clone, Copy, Debug, PartialEq, Eq)]
@@ -20,9 +22,17 @@ pub struct Firing {
     pub tokens: u64,
 }
 
-/// No memory was found.
+/// No memory was found for a line. Its line says so in words.
 #[derive(Clone, Copy, Debug, PartialEq, Eq)]
 pub struct OutOfMemory;
+
+impl fmt::Display for OutOfMemory {
+    fn fmt<W: fmt::Write>(&self, f: &mut fmt::Formatter<W>) -> fmt::Result {
+        f.write_str("out of memory")
+    }
+}
+
+impl Error for OutOfMemory {}
 
 impl<T: Drop> From<AllocFailed<T>> for OutOfMemory {
     fn from(_: AllocFailed<T>) -> Self {
@@ -36,13 +46,14 @@ impl From<AllocError> for OutOfMemory {
     }
 }
 
-/// Who sees the accepted firings of a replay, in order, and prints one line of them.
+/// Who sees the accepted firings of a replay, in order, and prints one line of them. Dates are in
+/// the user's unit of time.
 pub trait Monitor: Drop {
     /// The text that it would print after seeing these further firings.
     ghost line_text: { Self → List Firing → List ℕ };
 
     /// Sees one more firing: what it would print after further ones is what it would have printed
-    /// before after this one and those.
+    /// before after this one and those. It cannot fail.
     fn see(&mut self, firing: Firing)
         ensures { (more : List Firing) → line_text self.new more
             ≡ line_text self.old (firing ∷ more) };

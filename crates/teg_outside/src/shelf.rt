@@ -4,8 +4,10 @@ ghost use Rattle.teg_outside.specs.declared.shelf.ShelfFault.TheVariants.{OutOfM
 ghost use Rattle.teg_outside.specs.Shelves.{ShelfState, ReadAnswers, replied};
 
 use std::alloc::{AllocError, AllocFailed, Global};
+use std::error::Error;
+use std::fmt;
 
-/// Why a read gave no file.
+/// Why a read gave no file. Its line says the cause in words.
 #[derive(Clone, Copy, Debug, PartialEq, Eq)]
 pub enum ShelfFault {
     /// The file could not be read. Only where the count of faults rose.
@@ -15,6 +17,18 @@ pub enum ShelfFault {
     /// No memory was found.
     OutOfMemory,
 }
+
+impl fmt::Display for ShelfFault {
+    fn fmt<W: fmt::Write>(&self, f: &mut fmt::Formatter<W>) -> fmt::Result {
+        f.write_str(match self {
+            ShelfFault::Failed => "file cannot be read",
+            ShelfFault::TooLarge => "file past the limit",
+            ShelfFault::OutOfMemory => "out of memory",
+        })
+    }
+}
+
+impl Error for ShelfFault {}
 
 impl<T: Drop> From<AllocFailed<T>> for ShelfFault {
     ghost from_gives = { λ _ e. e ≡ OutOfMemory };
@@ -41,7 +55,7 @@ pub trait Shelf {
     /// What it tells of its files and its reads, and its two counts.
     ghost state: { Self → ShelfState };
 
-    /// The whole file of that name, which has at most `limit` bytes.
+    /// The whole file of that name, which has at most `limit` bytes. It takes memory for them.
     ///
     /// Where files are told, the answer is the first file of that name. Where reads are told, each
     /// call appends its name and limit; one that answers OutOfMemory may append nothing. Failed

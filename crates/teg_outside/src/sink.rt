@@ -2,12 +2,23 @@
 ghost use Rattle.std.specs.Prelude.{◌≤◌};
 ghost use Rattle.teg_outside.specs.Sinks.{SinkState, WriteAnswers};
 
-/// Why a write took no byte.
+use std::error::Error;
+use std::fmt;
+
+/// Why a write took no byte. Its line says the cause in words.
 #[derive(Clone, Copy, Debug, PartialEq, Eq)]
 pub enum SinkFault {
     /// The piece could not be written. Only where the count of faults rose.
     Failed,
 }
+
+impl fmt::Display for SinkFault {
+    fn fmt<W: fmt::Write>(&self, f: &mut fmt::Formatter<W>) -> fmt::Result {
+        f.write_str("piece cannot be written")
+    }
+}
+
+impl Error for SinkFault {}
 
 /// A sink of bytes.
 ///

@@ -52,7 +52,8 @@ fn initial_tokens(net: &Net) -> u64
 }
 
 impl Game {
-    /// No firing yet. `OutOfMemory` comes only where no memory is found.
+    /// No firing yet. `OutOfMemory` comes only where no memory is found. It takes time of order
+    /// n + p for n transitions and p places.
     pub fn new(alloc: Global, net: &Net) -> Result<Game, OutOfMemory>
         ensures empty { IfOk result (λ game. game.run ≡ []) }
         ensures stands { IfOk result (λ game. IsGameOf net.now game) }
@@ -111,11 +112,14 @@ impl Game {
         })
     }
 
-    /// Fires the transition at the date, where this may follow the accepted firings: the tokens of
-    /// the places into it are there, the date is not before that of the last firing, and an input
-    /// is released. Otherwise the first of these that fails is told, and nothing changes, as where
-    /// no memory is found. The transition is one of the net, the date at most 10^18, and fewer than
-    /// 2^40 firings were accepted. It takes time in proportion to the places into the transition.
+    /// Fires the transition at the date, in the user's unit of time, where this may follow the
+    /// accepted firings: the tokens of the places into it are there, the date is not before that of
+    /// the last firing, and an input is released.
+    ///
+    /// Otherwise the first of these that fails is told, and nothing changes, as where no memory is
+    /// found. The transition is one of the net for which the game was made, the date at most 10^18,
+    /// and fewer than 2^40 firings were accepted. It takes time in proportion to the places into
+    /// the transition.
     pub fn fire(
         &mut self,
         _alloc: Global,

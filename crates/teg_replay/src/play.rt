@@ -36,10 +36,13 @@ fn refused(row: &LogRow, accepted: u64, why: FireRefusal) -> Result<Replayed, Ou
 }
 
 /// Fires the rows in order up to the first that is refused, and shows each accepted firing to every
-/// monitor, in order, once. It answers how many were accepted, and the refused row with the first
-/// way in which it fails. There are fewer than 2^40 rows, each of a transition of the net and with
-/// a date of at most 10^18. `OutOfMemory` comes only where no memory is found; the monitors have
-/// then seen the firings of some first rows.
+/// monitor, in order, once (chapter 2, the token game). It answers how many were accepted, and the
+/// refused row with the first way in which it fails.
+///
+/// There are fewer than 2^40 rows, each of a transition of the net and with a date of at most
+/// 10^18, in the user's unit of time. `OutOfMemory` comes only where no memory is found; the
+/// monitors have then seen the firings of some first rows. It takes time of the order of the log
+/// and, for each row, of the places into its transition and of the monitors.
 pub fn replay(
     alloc: Global,
     net: &Net,

@@ -8,6 +8,8 @@ ghost use Rattle.teg_words.specs.CommandLineWords.{bare_command, command_rule, f
 use clap::error::ErrorKind;
 use clap::{Arg, ArgAction, ArgMatches, Command};
 use std::alloc::{AllocError, Global};
+use std::error::Error;
+use std::fmt;
 
 /// What the words give.
 #[derive(Debug, PartialEq, Eq, Drop)]
@@ -22,7 +24,7 @@ pub struct GivenWords<'a> {
     pub rounds: bool,
 }
 
-/// Why words give nothing.
+/// Why words give nothing. Its line says the cause in words.
 #[derive(Clone, Copy, Debug, PartialEq, Eq)]
 pub enum WordsRefusal {
     /// The simple command refuses the words.
@@ -30,6 +32,17 @@ pub enum WordsRefusal {
     /// No memory was found.
     OutOfMemory,
 }
+
+impl fmt::Display for WordsRefusal {
+    fn fmt<W: fmt::Write>(&self, f: &mut fmt::Formatter<W>) -> fmt::Result {
+        f.write_str(match self {
+            WordsRefusal::Refused => "words refused",
+            WordsRefusal::OutOfMemory => "out of memory",
+        })
+    }
+}
+
+impl Error for WordsRefusal {}
 
 impl From<AllocError> for WordsRefusal {
     ghost from_gives = { λ _ e. e ≡ OutOfMemory };
@@ -166,7 +179,8 @@ fn given<'a>(alloc: Global, matches: &ArgMatches<'a>) -> Result<GivenWords<'a>, 
 /// option `--limit VALUE` and the flag `--rounds`, without help and version.
 ///
 /// `words` are those after the name of the program. `--limit 5` and `--limit=5` mean the same, and
-/// after `--` every word is positional. `Refused` comes exactly where `clap` refuses the words.
+/// after `--` every word is positional. `Refused` comes exactly where `clap` refuses the words,
+/// `OutOfMemory` only where no memory is found. What is given borrows the words.
 pub fn read_words<'a>(alloc: Global, words: &'a [String]) -> Result<GivenWords<'a>, WordsRefusal>
     ensures ok { IfOk result (λ given. given_of (map string_bytes words.now) ≡ Some (given_by
         given)) }
