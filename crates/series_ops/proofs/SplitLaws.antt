@@ -139,12 +139,6 @@ stepped f x h e = ap (λ (z : ℤ). to_z w128 (of_z w128 z)) e ∙ to_z-of_z w12
 pub passed_form : (f : Form) (l : List Date) (n : ℕ) (x : ℤ) → IsSeries f → n ≡ f.period → x ≡ f.step → form_with l n (to_z w128 (of_z w128 x)) ≡ form_with l f.period f.step
 passed_form f l n x h en ex = ap (form_with l n) (stepped f x h ex) ∙ ap (λ (z : ℕ). form_with l z f.step) en
 
-pub passed_step : (f : Form) (x : ℤ) → IsSeries f → x ≡ f.step → unsigned_abs (to_z w128 (of_z w128 x)) ≤ greatest_value_ahead
-passed_step f x h e =
-    let small : unsigned_abs f.step ≤ greatest_value = h.small.step in
-    let same : unsigned_abs (to_z w128 (of_z w128 x)) ≡ unsigned_abs f.step = ap unsigned_abs (stepped f x h e) in
-    omega arith
-
 -- ---- bounds
 
 pub values_up_to : (f : Form) (l : List Date) → IsSeries f → l ≡ f.values → AreUpTo greatest_value_ahead l

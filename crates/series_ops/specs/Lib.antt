@@ -1,5 +1,6 @@
 pub mod Cells
 pub mod Gains
+pub mod LeftPlans
 pub mod ListFunctions
 pub mod Pieces
 pub mod Proved

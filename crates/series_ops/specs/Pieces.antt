@@ -5,8 +5,10 @@ use Rattle.dioid.specs.declared.dates.Date.{Date}
 use Rattle.dioid.specs.declared.dates.Date.TheVariants.{Early}
 use Rattle.dioid.specs.Dates.{later_of, date_product, move}
 use Rattle.series_ops.specs.declared.pieces.Piece.{Piece}
+use Rattle.series_ops.specs.declared.pieces.Span.{Span}
+use Rattle.series_form.specs.SeriesLimits.{greatest_value_ahead}
 use Rattle.series_laws.specs.SeriesForms.{table}
-use Rattle.series_ops.specs.ListFunctions.{value_listed}
+use Rattle.series_ops.specs.ListFunctions.{value_listed, AreUpTo}
 use Rattle.series_ops.specs.Splits.{greatest_from, split_of, places_to}
 
 -- the greatest sum of the splits of k whose first part is at one of the m places from p on, Early for none
@@ -40,3 +42,10 @@ pub record IsPiece (s : ℕ → Date) (p : ℕ) (piece : Piece) : Type 0 where
   pub turns : 0 < piece.turns
   pub step : unsigned_abs piece.step ≤ 40002000000000000000000
   pub repeats : RepeatsIn s p (piece.size * piece.turns) piece.size piece.step
+
+-- the places of the span are places of l, which has at most 20,000 values up to those that a list may have
+pub record IsSpanOf (l : List Date) (span : Span) : Type 0 where
+  pub fits : span.from + span.count ≤ length l
+  pub short : length l ≤ 20000
+  pub period : 0 < span.period
+  pub values : AreUpTo greatest_value_ahead l

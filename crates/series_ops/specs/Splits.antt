@@ -1,9 +1,11 @@
 -- Working definitions of the splits of a shift, some places at a time.
-use Rattle.std.specs.Prelude.{◌+◌, ◌-◌, ℕ, zero, suc, min}
+use Rattle.std.specs.Prelude.{◌<◌, ◌≤◌, ◌+◌, ◌-◌, ℕ, zero, suc, min}
+use Rattle.std.specs.Int.RustNames.{unsigned_abs}
 use Rattle.dioid.specs.Dates.{later_of, date_product}
 use Rattle.dioid.specs.declared.dates.Date.{Date}
 use Rattle.dioid.specs.declared.dates.Date.TheVariants.{Early}
-use Rattle.series_laws.specs.SeriesForms.{Form, repeat_start, value_at}
+use Rattle.series_laws.specs.SeriesForms.{Form, repeat_start, size_of, value_at}
+use Rattle.series_form.specs.SeriesLimits.{greatest_value_ahead}
 
 -- the greatest of the m values of f from p on, Early for none
 abbrev pub greatest_from : (ℕ → Date) → ℕ → ℕ → Date
@@ -29,3 +31,9 @@ tail_product f t = product_from (value_at f) t (repeat_start f)
 -- the later of d and of the splits of k whose first part is below p
 abbrev pub with_tail : (ℕ → Date) → (ℕ → Date) → ℕ → Date → ℕ → Date
 with_tail s t p d k = later_of (greatest_from (split_of s t k) 0 (places_to 0 p k)) d
+
+-- a form with a period from 1 to its length and a step up to those between two values of a list
+pub record IsTailed (f : Form) : Type 0 where
+  pub positive : 0 < f.period
+  pub fits : f.period ≤ size_of f
+  pub step : unsigned_abs f.step ≤ greatest_value_ahead

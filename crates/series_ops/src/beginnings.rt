@@ -1,12 +1,11 @@
 //! The greatest sums of two lists of which the second goes on: those with what there was of it are
 //! found at once, piece by piece, and the others as it goes on.
 ghost use Rattle.std.specs.Prelude.{◌≡◌, ◌≤◌, ◌<◌, [], IfOk, length};
-ghost use Rattle.series_form.specs.SeriesLimits.{greatest_value_ahead};
-ghost use Rattle.series_ops.specs.ListFunctions.{value_listed, AreUpTo};
-ghost use Rattle.series_ops.specs.Pieces.{window, IsPieceBegun};
+ghost use Rattle.series_ops.specs.ListFunctions.{value_listed};
+ghost use Rattle.series_ops.specs.Pieces.{window, IsPieceBegun, IsSpanOf};
 
 use crate::cells::{Cells, greatest_split};
-use crate::pieces::sums_in_few_pieces;
+use crate::pieces::{Span, sums_in_few_pieces};
 use crate::splits::places;
 use dioid::Date;
 use std::alloc::{AllocError, Global};
@@ -33,30 +32,27 @@ pub(crate) fn nothing_begun(alloc: Global) -> Beginning
     }
 }
 
-// The sums that were known, or where the second list has gone on by so many values those with all
-// of it.
+// The sums that were known over the first places, or where the second list has gone on by so many
+// values those with all of it.
 pub(crate) fn renewed(
     alloc: Global,
     old: Beginning,
     first: &Cells,
     second: &Cells,
-    most: usize,
-    period: usize,
+    span: Span,
 ) -> Result<Beginning, AllocError>
-    requires most { most ≤ length first.now }
-    requires short { length first.now ≤ 20000 }
+    requires span { IsSpanOf first.now span }
+    requires first_places { span.from ≡ 0 }
     requires long { length second.now ≤ 20001 }
-    requires period { 0 < period }
-    requires first { AreUpTo greatest_value_ahead first.now }
-    requires old { IsPieceBegun old.count old.sums.items first.now second.now most }
+    requires old { IsPieceBegun old.count old.sums.items first.now second.now span.count }
     ensures { IfOk result (λ begun. IsPieceBegun begun.count begun.sums.items first.now second.now
-        most) }
+        span.count) }
 {
     let count = second.len();
     if count % STRIDE != 1 {
         return Ok(old);
     }
-    let sums = sums_in_few_pieces(alloc, first, second, count + STRIDE, 0, most, period)?;
+    let sums = sums_in_few_pieces(alloc, first, second, count + STRIDE, span)?;
     Ok(Beginning { count, sums })
 }
 

@@ -13,6 +13,7 @@ use std::alloc::Global;
 /// series answers neither TooLong nor TooGreat.
 #[derive(Drop)]
 pub struct Gain {
+    /// The series.
     pub series: Series,
 }
 

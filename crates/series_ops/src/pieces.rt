@@ -9,7 +9,7 @@ ghost use Rattle.series_laws.specs.Periodic.{times};
 ghost use Rattle.series_laws.specs.SeriesForms.{table};
 ghost use Rattle.series_form.specs.NumberBounds.{IsMagnitudeUpTo};
 ghost use Rattle.series_form.specs.SeriesLimits.{greatest_listed, greatest_value_ahead, greatest_moderate, greatest_part_product};
-ghost use Rattle.series_ops.specs.Pieces.{carried_at, joined_at, window, ArePieceSums, IsPiece, RepeatsIn};
+ghost use Rattle.series_ops.specs.Pieces.{carried_at, joined_at, window, ArePieceSums, IsPiece, IsSpanOf, RepeatsIn};
 ghost use Rattle.series_ops.specs.ListFunctions.{value_listed, AreUpTo};
 
 use crate::anchors::many;
@@ -18,6 +18,15 @@ use crate::splits::added;
 use crate::tables::repeated;
 use dioid::Date;
 use std::alloc::{AllocError, Global};
+
+// Places of a list one after another, which may go on by equal steps from one to the place `period`
+// later.
+#[derive(Clone, Copy)]
+pub(crate) struct Span {
+    pub from: usize,
+    pub count: usize,
+    pub period: usize,
+}
 
 // Places of a list one after another: `turns` times `size` of them, each turn a step above the one
 // before.
@@ -213,17 +222,15 @@ const PLACES_A_PASS: usize = 40;
 const PLACES_A_PIECE: usize = 600;
 
 // Whether so many places have so few pieces that these take less time.
-fn is_short_in_pieces(first: &[Date], from: usize, count: usize, period: usize) -> bool
-    requires places { from + count ≤ length first.now }
-    requires short { length first.now ≤ 20000 }
-    requires period { 0 < period }
-    requires first { AreUpTo greatest_value_ahead first.now }
+fn is_short_in_pieces(first: &[Date], span: Span) -> bool
+    requires { IsSpanOf first.now span }
 {
+    let count = span.count;
     let mut done = 0;
     let mut work = 0;
     for _place in 0..count {
         if done < count && work < count {
-            let piece = piece_from(first, from + done, count - done, period);
+            let piece = piece_from(first, span.from + done, count - done, span.period);
             done += piece.size * piece.turns;
             work += PLACES_A_PASS * piece.size + PLACES_A_PIECE;
         }
@@ -244,29 +251,24 @@ fn with_piece(
     begun: PartialSums,
     first: &[Date],
     second: &[Date],
-    from: usize,
-    count: usize,
-    period: usize,
+    span: Span,
 ) -> Result<PartialSums, AllocError>
-    requires places { from + count ≤ length first.now }
-    requires short { length first.now ≤ 20000 }
-    requires period { 0 < period }
-    requires first { AreUpTo greatest_value_ahead first.now }
+    requires span { IsSpanOf first.now span }
     requires second { AreUpTo greatest_listed second.now }
     requires begun { begun.values.items ≡ table (window (value_listed first.now) (value_listed
-        second.now) from
+        second.now) span.from
         begun.places) (length second.now) }
-    requires within { begun.places ≤ count }
+    requires within { begun.places ≤ span.count }
     ensures values { IfOk result (λ next. next.values.items ≡ table (window (value_listed first.now)
-        (value_listed second.now) from next.places) (length second.now)) }
-    ensures within { IfOk result (λ next. next.places ≤ count) }
-    ensures more { IfOk result (λ next. min (begun.places + 1) count ≤ next.places) }
+        (value_listed second.now) span.from next.places) (length second.now)) }
+    ensures within { IfOk result (λ next. next.places ≤ span.count) }
+    ensures more { IfOk result (λ next. min (begun.places + 1) span.count ≤ next.places) }
 {
-    if begun.places >= count {
+    if begun.places >= span.count {
         return Ok(begun);
     }
-    let at = from + begun.places;
-    let piece = piece_from(first, at, count - begun.places, period);
+    let at = span.from + begun.places;
+    let piece = piece_from(first, at, span.count - begun.places, span.period);
     let more = sums_by_turns(alloc, first, second, at, piece)?;
     let known = begun.values.as_slice();
     let values = joined(alloc, known, more.as_slice(), 0, Date::At(0))?;
@@ -274,73 +276,70 @@ fn with_piece(
     Ok(PartialSums { places, values })
 }
 
-// The greatest sums whose first part is at one of `count` places from `from` on, piece by piece.
+// The greatest sums whose first part is at one of the places of the span, piece by piece.
 fn sums_by_pieces(
     alloc: Global,
     first: &[Date],
     second: &[Date],
-    from: usize,
-    count: usize,
-    period: usize,
+    span: Span,
 ) -> Result<Vec<Date>, AllocError>
-    requires places { from + count ≤ length first.now }
-    requires short { length first.now ≤ 20000 }
-    requires period { 0 < period }
-    requires first { AreUpTo greatest_value_ahead first.now }
+    requires span { IsSpanOf first.now span }
     requires second { AreUpTo greatest_listed second.now }
     ensures { IfOk result (λ values. values.items ≡ table (window (value_listed first.now)
-        (value_listed second.now) from count) (length second.now)) }
+        (value_listed second.now) span.from span.count) (length second.now)) }
 {
     let values = repeated(alloc, Date::Early, second.len())?;
     let mut begun = PartialSums { places: 0, values };
-    for _place in 0..count {
-        let next = with_piece(alloc, begun, first, second, from, count, period)?;
+    for _place in 0..span.count {
+        let next = with_piece(alloc, begun, first, second, span)?;
         begun = next;
     }
     Ok(begun.values)
 }
 
-// The stride of the few pieces of so many places: 1, or the period; none where there are many.
-fn stride_of(first: &[Date], from: usize, count: usize, period: usize) -> Option<usize>
-    requires places { from + count ≤ length first.now }
-    requires short { length first.now ≤ 20000 }
-    requires period { 0 < period }
-    requires first { AreUpTo greatest_value_ahead first.now }
-    ensures { IfSome result (λ stride. 0 < stride) }
+// The span by the stride of its few pieces: 1, or the period; none where there are many.
+fn in_few_pieces(first: &[Date], span: Span) -> Option<Span>
+    requires { IsSpanOf first.now span }
+    ensures from { IfSome result (λ own. own.from ≡ span.from) }
+    ensures count { IfSome result (λ own. own.count ≡ span.count) }
+    ensures stride { IfSome result (λ own. 0 < own.period) }
 {
-    if is_short_in_pieces(first, from, count, 1) {
-        return Some(1);
+    let each = Span {
+        from: span.from,
+        count: span.count,
+        period: 1,
+    };
+    if is_short_in_pieces(first, each) {
+        return Some(each);
     }
-    if is_short_in_pieces(first, from, count, period) {
-        return Some(period);
+    if is_short_in_pieces(first, span) {
+        return Some(span);
     }
     None
 }
 
-// The greatest sums whose first part is at one of `count` places from `from` on, at the first
-// `size` shifts, where the first list has few pieces, of equal steps from place to place or from
+// The greatest sums whose first part is at one of the places of the span, at the first `size`
+// shifts, where the first list has few pieces there, of equal steps from place to place or from
 // period to period; and else none.
 pub(crate) fn sums_in_few_pieces(
     alloc: Global,
     first: &Cells,
     second: &Cells,
     size: usize,
-    from: usize,
-    count: usize,
-    period: usize,
+    span: Span,
 ) -> Result<Vec<Date>, AllocError>
-    requires places { from + count ≤ length first.now }
-    requires short { length first.now ≤ 20000 }
-    requires period { 0 < period }
-    requires first { AreUpTo greatest_value_ahead first.now }
-    ensures { IfOk result (λ values. ArePieceSums values.items first.now second.now from count) }
+    requires { IsSpanOf first.now span }
+    ensures { IfOk result (λ values. ArePieceSums values.items first.now second.now span.from
+        span.count) }
 {
     let dates = dates_of(alloc, first, first.len())?;
     let own = dates.as_slice();
-    let Some(stride) = stride_of(own, from, count, period) else {
-        return Ok(Vec::new(alloc));
-    };
-    let others = dates_of(alloc, second, size)?;
-    let sums = sums_by_pieces(alloc, own, others.as_slice(), from, count, stride)?;
-    Ok(sums)
+    match in_few_pieces(own, span) {
+        None => Ok(Vec::new(alloc)),
+        Some(few) => {
+            let others = dates_of(alloc, second, size)?;
+            let sums = sums_by_pieces(alloc, own, others.as_slice(), few)?;
+            Ok(sums)
+        }
+    }
 }

@@ -15,8 +15,8 @@ ghost use Rattle.series_form.specs.SeriesLimits.{greatest_value_ahead, most_cove
 ghost use Rattle.series_ops.specs.ListFunctions.{IsNumberDate, value_listed, AreUpTo};
 
 use crate::cells::{Cells, collected};
-use crate::pieces::sums_in_few_pieces;
-use crate::splits::{tail_value, value_with_tail};
+use crate::pieces::{Span, sums_in_few_pieces};
+use crate::splits::{Tail, greatest_at};
 use crate::tables::{ended, first_values};
 use dioid::Date;
 use series_form::{
@@ -147,20 +147,11 @@ fn tail_list(
     ensures { IfOk result (λ values. values.items ≡ table
         (tail_product first.now (value_listed second.now)) count) }
 {
-    let (period, step) = (first.period(), first.step());
-    let from = start(first);
-    let known = sums_in_few_pieces(alloc, parts, second, count, from, period, period)?;
+    let tail = Tail::new(parts, first.period(), first.step());
+    let known = sums_in_few_pieces(alloc, parts, second, count, tail.span())?;
     let mut tails = Vec::new(alloc);
-    for shift in 0..count {
-        let next = tail_value(
-            parts,
-            period,
-            step,
-            second,
-            tails.as_slice(),
-            shift,
-            known.as_slice(),
-        );
+    for _shift in 0..count {
+        let next = tail.next_sum(second, tails.as_slice(), known.as_slice());
         tails.push(next)?;
     }
     Ok(tails)
@@ -181,13 +172,17 @@ fn product_list(
     ensures { IfOk result (λ values. values.items ≡ table
         (product_at (value_at first.now) (value_listed second.now)) (length tails.now)) }
 {
-    let from = start(first);
-    let (size, period) = (tails.len(), first.period());
-    let known = sums_in_few_pieces(alloc, parts, second, size, 0, from, period)?;
+    let span = Span {
+        from: 0,
+        count: start(first),
+        period: first.period(),
+    };
+    let known = sums_in_few_pieces(alloc, parts, second, tails.len(), span)?;
     let known = known.as_slice();
     let mut values = Vec::new(alloc);
     for shift in 0..tails.len() {
-        values.push(value_with_tail(parts, from, second, tails[shift], shift, known))?;
+        let head = greatest_at(known, parts, second, span, shift);
+        values.push(head.later(tails[shift]))?;
     }
     Ok(values)
 }
@@ -232,7 +227,8 @@ pub(crate) fn product_values(
 /// The product of two series (chapter 5): at each shift k the greatest sum of a value of the first
 /// at i and one of the second at k - i. TooLong exactly where its need exceeds 20,000; where not,
 /// TooGreat exactly where a number of the result has a magnitude above 10^18. `OutOfMemory` comes
-/// only where no memory is found.
+/// only where no memory is found. It takes time of the order of the need times the length of the
+/// shorter list at most, and less where that list goes on by equal steps in few pieces.
 pub fn product(alloc: Global, first: &Series, second: &Series) -> Result<Series, SeriesRefused>
     ensures answer { AnswersOf (λ r. HasValues r (product_at (value_at first.now)
         (value_at second.now))) (need_of (product_plan first.now second.now))

@@ -4,7 +4,7 @@ ghost use Rattle.std.specs.Int.RustNames.{unsigned_abs};
 ghost use Rattle.dioid.specs.declared.dates.Date.TheVariants.{Early};
 ghost use Rattle.dioid.specs.Dates.{date_left};
 ghost use Rattle.series_laws.specs.declared.plans.Slopes.TheVariants.{First};
-ghost use Rattle.series_laws.specs.SeriesForms.{size_of, repeat_start, value_at, table};
+ghost use Rattle.series_laws.specs.SeriesForms.{size_of, value_at, table};
 ghost use Rattle.series_form.specs.NumberBounds.{IsMagnitudeUpTo, IsSeries};
 ghost use Rattle.series_form.specs.SeriesAnswers.{AnswersOf, AnswersForm};
 ghost use Rattle.series_laws.specs.Needs.{need_of, tail_of};
@@ -12,11 +12,11 @@ ghost use Rattle.series_laws.specs.Residual.{IsLeftAt};
 ghost use Rattle.series_laws.specs.ProductNeeds.{offsets_of, left_over, OffsetsDecide, residual_at, long_left, short_left, left_plan, form_left};
 ghost use Rattle.series_form.specs.SeriesLimits.{greatest_value, greatest_value_far_ahead, most_covering_shifts, greatest_listed};
 ghost use Rattle.series_ops.specs.Cells.{conjugate_of, conjugates_reversed};
-ghost use Rattle.series_ops.specs.Pieces.{ArePieceSums};
-ghost use Rattle.series_ops.specs.ListFunctions.{AreEarlyTo, AreUpTo, left_listed, star_left_listed, IsStarLeft};
+ghost use Rattle.series_ops.specs.LeftPlans.{divided_forms};
+ghost use Rattle.series_ops.specs.ListFunctions.{AreEarlyTo, AreUpTo, star_left_listed, IsStarLeft};
 
 use crate::cells::{Cells, collected, conjugate, conjugates, conjugates_back};
-use crate::pieces::sums_in_few_pieces;
+use crate::pieces::{Span, sums_in_few_pieces};
 use crate::splits::greatest_at;
 use crate::tables::{ended, first_values, repeated};
 use dioid::Date;
@@ -25,6 +25,7 @@ use series_form::{
     tail,
 };
 use std::alloc::{AllocError, Global};
+use std::marker::Model;
 
 // The offsets that decide a residual.
 fn offsets(first: &Series, second: &Series) -> usize
@@ -142,157 +143,134 @@ fn places_begun(list: &[Date], most: usize) -> usize
     most
 }
 
-// Greatest sums that are known: of the places below the start of a series, and of the others.
+// The plan of a residual where the offsets decide. From its start on the first series is its last
+// period times the star of the monomial of that period and its step, and the residual by a product
+// is that by one factor of the residual by the other: so the places of its list are enough.
+//
+// A residual is the conjugate of the sum with the conjugate, so that it is found by greatest sums:
+// with the first values of the second series for the places below the start of the first, and with
+// their residual by that star for the others, both conjugated and in reverse. The places where the
+// first list is still Early bound nothing, and are passed over. Contracts see the two series.
 #[derive(Drop)]
-struct Known {
+struct LeftPlan<'a> {
+    first: &'a Series,
+    second: &'a Series,
+    parts: Cells,
+    list: Cells,
+    by_star: Cells,
+    below: Span,
+    others: Span,
     head: Vec<Date>,
     rest: Vec<Date>,
 }
 
-// The least residual at a shift, over the places of the first list: below `from` of the one list,
-// from there on of the other, both conjugated and in reverse. A residual is the conjugate of the
-// sum with the conjugate, so that it is found by a greatest sum. The places below `begun`, where
-// the first list is still Early, bound nothing, and are passed over.
-fn left_value(
-    first: &Cells,
-    begun: usize,
-    from: usize,
-    second: &Cells,
-    by_star: &Cells,
-    shift: usize,
-    known: &Known,
-) -> Date
-    requires begun { begun ≤ from }
-    requires from { from < length first.now }
-    requires early { AreEarlyTo begun first.now }
-    requires second { shift + length first.now ≤ length second.now }
-    requires by_star { shift + length first.now ≤ length by_star.now }
-    requires head { ArePieceSums known.now.head.items first.now second.now begun (from - begun) }
-    requires rest { ArePieceSums known.now.rest.items first.now by_star.now from
-        (length first.now - from) }
-    ensures { result ≡ left_listed first.now (conjugates_reversed second.now) (map conjugate_of
-        by_star.now) from
-        shift }
-{
-    let last = second.len() - 1 - shift;
-    let most = from - begun;
-    let head = greatest_at(known.head.as_slice(), first, second, last, begun, most);
-    let last = by_star.len() - 1 - shift;
-    let most = first.len() - from;
-    let rest = greatest_at(known.rest.as_slice(), first, by_star, last, from, most);
-    conjugate(head.later(rest))
+impl<'a> Model for LeftPlan<'a> {
+    ghost use Rattle.series_ops.specs.LeftPlans.{DividedForms, IsLeftPlan, divided_forms};
+
+    ghost Value = { DividedForms };
+
+    ghost view = { λ p. divided_forms p.first.now p.second.now };
+
+    ghost invariant = { λ p. IsLeftPlan p.first.now p.second.now p.parts p.list p.by_star p.below
+        p.others
+        p.head.items
+        p.rest.items };
 }
 
-// One more value of the residual where the offsets decide: over the list of the first series, and
-// past the list of the second by its period.
-fn next_left(
-    parts: &Cells,
-    begun: usize,
-    first: &Series,
-    second: &Series,
-    list: &Cells,
-    by_star: &Cells,
-    values: &[Date],
-    known: &Known,
-) -> Date
-    requires series { IsSeries first.now }
-    requires decide { OffsetsDecide first.now second.now }
-    requires parts { parts.now ≡ first.now.values }
-    requires begun { begun ≤ repeat_start first.now }
-    requires early { AreEarlyTo begun first.now.values }
-    requires few { offsets_of first.now second.now ≤ 40000 }
-    requires list { conjugates_reversed list.now ≡ table (value_at second.now)
-        (size_of second.now + offsets_of first.now second.now) }
-    requires by_star { IsStarLeft (conjugates_reversed list.now) (map conjugate_of by_star.now)
-        first.now.period
-        first.now.step }
-    requires values { values.now ≡ table (left_over first.now second.now) (length values.now) }
-    requires head { ArePieceSums known.now.head.items parts.now list.now begun
-        (repeat_start first.now - begun) }
-    requires rest { ArePieceSums known.now.rest.items parts.now by_star.now (repeat_start first.now)
-        (size_of first.now - repeat_start first.now) }
-    requires count { length values.now ≤ 20000 }
-    ensures { result ≡ left_over first.now second.now (length values.now) }
-{
-    let shift = values.len();
-    if shift < second.values().len() {
-        return left_value(parts, begun, start(first), list, by_star, shift, known);
-    }
-    subtracted(Date::At(-second.step()), values[shift - second.period()])
-}
-
-// The greatest sums of the two parts of a residual, where they are found piece by piece.
-fn known_sums(
-    alloc: Global,
-    first: &Series,
-    parts: &Cells,
-    begun: usize,
-    list: &Cells,
-    by_star: &Cells,
-) -> Result<Known, AllocError>
-    requires parts { parts.now ≡ first.now.values }
-    requires begun { begun ≤ repeat_start first.now }
-    ensures head { IfOk result (λ known. ArePieceSums known.head.items parts.now list.now begun
-        (repeat_start first.now - begun)) }
-    ensures rest { IfOk result (λ known. ArePieceSums known.rest.items parts.now by_star.now
-        (repeat_start first.now) (size_of first.now - repeat_start first.now)) }
-{
-    let (from, period) = (start(first), first.period());
-    let size = list.len();
-    let head = sums_in_few_pieces(alloc, parts, list, size, begun, from - begun, period)?;
-    let (size, count) = (by_star.len(), parts.len() - from);
-    let rest = sums_in_few_pieces(alloc, parts, by_star, size, from, count, period)?;
-    Ok(Known { head, rest })
-}
-
-// The first values of the residual where the offsets decide, from the first values of the second
-// series and their residual by the star of the first series' period, both conjugated and in
-// reverse.
-fn left_list(
-    alloc: Global,
-    first: &Series,
-    second: &Series,
-    list: &Cells,
-    by_star: &Cells,
-    count: usize,
-) -> Result<Vec<Date>, AllocError>
-    requires series { IsSeries first.now }
-    requires decide { OffsetsDecide first.now second.now }
-    requires few { offsets_of first.now second.now ≤ 40000 }
-    requires list { conjugates_reversed list.now ≡ table (value_at second.now)
-        (size_of second.now + offsets_of first.now second.now) }
-    requires by_star { IsStarLeft (conjugates_reversed list.now) (map conjugate_of by_star.now)
-        first.now.period
-        first.now.step }
-    requires count { count ≤ 20001 }
-    ensures { IfOk result (λ values. values.items ≡ table (left_over first.now second.now) count) }
-{
-    let parts = collected(alloc, first.values())?;
-    let from = start(first);
-    let begun = places_begun(first.values(), from);
-    let known = known_sums(alloc, first, &parts, begun, list, by_star)?;
-    let mut values = Vec::new(alloc);
-    for _shift in 0..count {
-        let next = next_left(
-            &parts,
-            begun,
+impl<'a> LeftPlan<'a> {
+    // The plan by the first values of the second series and their residual by the star, both
+    // conjugated and in reverse. The work grows with the product of the length of the second list
+    // and the places from the first number of the first list on.
+    fn new(
+        alloc: Global,
+        first: &'a Series,
+        second: &'a Series,
+        list: Cells,
+        by_star: Cells,
+    ) -> Result<LeftPlan<'a>, AllocError>
+        requires decide { OffsetsDecide first.now second.now }
+        requires few { offsets_of first.now second.now ≤ 40000 }
+        requires list { conjugates_reversed list ≡ table (value_at second.now) (size_of second.now
+            + offsets_of first.now second.now) }
+        requires by_star { IsStarLeft (conjugates_reversed list) (map conjugate_of by_star)
+            first.now.period
+            first.now.step }
+        ensures { IfOk result (λ plan. plan ≡ divided_forms first.now second.now) }
+    {
+        let parts = collected(alloc, first.values())?;
+        let (from, period) = (start(first), first.period());
+        let begun = places_begun(first.values(), from);
+        let below = Span {
+            from: begun,
+            count: from - begun,
+            period,
+        };
+        let others = Span {
+            from,
+            count: period,
+            period,
+        };
+        let head = sums_in_few_pieces(alloc, &parts, &list, list.len(), below)?;
+        let rest = sums_in_few_pieces(alloc, &parts, &by_star, by_star.len(), others)?;
+        let _series = second.period();
+        Ok(LeftPlan {
             first,
             second,
+            parts,
             list,
             by_star,
-            values.as_slice(),
-            &known,
-        );
-        values.push(next)?;
+            below,
+            others,
+            head,
+            rest,
+        })
     }
-    Ok(values)
+
+    // The residual at a shift of the second list.
+    fn listed_at(&self, shift: usize) -> Date
+        requires { shift < size_of self.now.second }
+        ensures { result ≡ left_over self.now.first self.now.second shift }
+    {
+        let last = self.list.len() - 1 - shift;
+        let known = self.head.as_slice();
+        let head = greatest_at(known, &self.parts, &self.list, self.below, last);
+        let last = self.by_star.len() - 1 - shift;
+        let known = self.rest.as_slice();
+        let rest = greatest_at(known, &self.parts, &self.by_star, self.others, last);
+        conjugate(head.later(rest))
+    }
+
+    // One more value: past the list of the second series by its period.
+    fn next(&self, values: &[Date]) -> Date
+        requires values { values.now ≡ table (left_over self.now.first self.now.second)
+            (length values.now) }
+        requires count { length values.now ≤ 20000 }
+        ensures { result ≡ left_over self.now.first self.now.second (length values.now) }
+    {
+        let shift = values.len();
+        let second = self.second;
+        if shift < second.values().len() {
+            return self.listed_at(shift);
+        }
+        subtracted(Date::At(-second.step()), values[shift - second.period()])
+    }
+
+    // The first values.
+    fn values(&self, alloc: Global, count: usize) -> Result<Vec<Date>, AllocError>
+        requires { count ≤ 20001 }
+        ensures { IfOk result (λ values. values.items ≡ table
+            (left_over self.now.first self.now.second) count) }
+    {
+        let mut values = Vec::new(alloc);
+        for _shift in 0..count {
+            let next = self.next(values.as_slice());
+            values.push(next)?;
+        }
+        Ok(values)
+    }
 }
 
-// The first values of the residual where the offsets decide. From its start on the first series is
-// its last period times the star of the monomial of that period and its step, and the residual by a
-// product is that by one factor of the residual by the other: so the places of its list are enough.
-// The work grows with the product of the length of the second list and the places from the first
-// number of the first list on.
+// The first values of the residual where the offsets decide.
 fn values_by_offsets(
     alloc: Global,
     first: &Series,
@@ -309,7 +287,8 @@ fn values_by_offsets(
     let by_star = left_by_star(alloc, list.as_slice(), first.period(), first.step())?;
     let ends = conjugates_back(alloc, list.as_slice())?;
     let ends_by_star = conjugates(alloc, by_star.as_slice())?;
-    left_list(alloc, first, second, &ends, &ends_by_star, count)
+    let plan = LeftPlan::new(alloc, first, second, ends, ends_by_star)?;
+    plan.values(alloc, count)
 }
 
 // The first values of the residual where the first series is not Early everywhere.
@@ -353,7 +332,8 @@ fn left_values(
 /// that is at most each residual of the second at k + i by the first at i, which is Early where
 /// these fall without bound. TooLong exactly where its need exceeds 20,000; where not, TooGreat
 /// exactly where a number of the result has a magnitude above 10^18. `OutOfMemory` comes only where
-/// no memory is found.
+/// no memory is found. It takes time of the order of the lengths of the two lists, multiplied, at
+/// most, and less where the first list goes on by equal steps in few pieces.
 pub fn left(alloc: Global, first: &Series, second: &Series) -> Result<Series, SeriesRefused>
     ensures answer { AnswersOf (λ r. (k : ℕ) → IsLeftAt (value_at first.now) (value_at second.now) k
         (value_at r k)) (need_of (left_plan first.now second.now))

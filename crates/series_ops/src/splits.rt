@@ -1,17 +1,18 @@
 //! Sums of a value of one list and a value of another, over the splits of a shift.
-ghost use Rattle.std.specs.Prelude.{◌≡◌, ◌≤◌, ◌<◌, ◌+◌, ◌-◌, length};
-ghost use Rattle.std.specs.Int.RustNames.{unsigned_abs};
+ghost use Rattle.std.specs.Prelude.{◌≡◌, ◌≤◌, ◌<◌, ◌+◌, length};
 ghost use Rattle.dioid.specs.Dates.{date_product};
-ghost use Rattle.series_laws.specs.SeriesForms.{form_with, table};
+ghost use Rattle.series_laws.specs.SeriesForms.{form_with, repeat_start, table};
 ghost use Rattle.series_form.specs.NumberBounds.{IsMagnitudeUpTo};
-ghost use Rattle.series_form.specs.SeriesLimits.{greatest_value_ahead, greatest_moderate, greatest_part_product};
+ghost use Rattle.series_form.specs.SeriesLimits.{greatest_moderate, greatest_part_product};
 ghost use Rattle.series_ops.specs.Cells.{far};
 ghost use Rattle.series_ops.specs.Pieces.{window, ArePieceSums};
-ghost use Rattle.series_ops.specs.Splits.{places_to, tail_product, with_tail};
+ghost use Rattle.series_ops.specs.Splits.{places_to, tail_product, IsTailed};
 ghost use Rattle.series_ops.specs.ListFunctions.{value_listed, AreUpTo};
 
 use crate::cells::{Cells, greatest_split};
+use crate::pieces::Span;
 use dioid::Date;
+use std::marker::Model;
 
 // The two dates added.
 pub(crate) fn added(first: Date, second: Date) -> Date
@@ -40,77 +41,91 @@ pub(crate) fn places(from: usize, most: usize, shift: usize) -> usize
     }
 }
 
-// The greatest sum at a shift whose first part is at one of `most` places from `from` on: one of
-// the known ones, else found by all splits.
+// The greatest sum at a shift whose first part is at one of the places of the span: one of the known
+// ones, else found by all splits.
 pub(crate) fn greatest_at(
     known: &[Date],
     first: &Cells,
     second: &Cells,
+    span: Span,
     shift: usize,
-    from: usize,
-    most: usize,
 ) -> Date
-    requires first { from + most ≤ length first.now }
+    requires first { span.from + span.count ≤ length first.now }
     requires second { shift < length second.now }
-    requires known { ArePieceSums known.now first.now second.now from most }
-    ensures value { result ≡ window (value_listed first.now) (value_listed second.now) from most
-        shift }
+    requires known { ArePieceSums known.now first.now second.now span.from span.count }
+    ensures value { result ≡ window (value_listed first.now) (value_listed second.now) span.from
+        span.count shift }
     ensures bound { IsMagnitudeUpTo far result }
 {
     let (_first, _second) = (first.len(), second.len());
     if shift < known.len() {
         return known[shift];
     }
-    greatest_split(first, second, shift, from, places(from, most, shift))
+    let count = places(span.from, span.count, shift);
+    greatest_split(first, second, shift, span.from, count)
 }
 
-// The greatest sum at a shift whose first part is in the tail of a list, of which the last `period`
-// values go on by `step`: of those in the list, and of those of a period before, a step later.
-pub(crate) fn tail_value(
-    values: &Cells,
+// The tail of a list, of which the last `period` values go on by `step`. Contracts see its form.
+#[derive(Drop)]
+pub(crate) struct Tail<'a> {
+    values: &'a Cells,
     period: usize,
     step: i128,
-    second: &Cells,
-    tails: &[Date],
-    shift: usize,
-    known: &[Date],
-) -> Date
-    requires positive { 0 < period }
-    requires period { period ≤ length values.now }
-    requires step { unsigned_abs step ≤ greatest_value_ahead }
-    requires second { shift < length second.now }
-    requires long { length tails.now ≡ shift }
-    requires tails_bound { AreUpTo greatest_moderate tails.now }
-    requires tails { tails.now ≡ table (tail_product (form_with values.now period step)
-        (value_listed second.now)) shift }
-    requires known { ArePieceSums known.now values.now second.now (length values.now - period)
-        period }
-    ensures { result ≡ tail_product (form_with values.now period step) (value_listed second.now)
-        shift }
-{
-    let from = values.len() - period;
-    let here = greatest_at(known, values, second, shift, from, period);
-    if shift < period {
-        return here;
-    }
-    here.later(added(Date::At(step), tails[shift - period]))
 }
 
-// The later of the sums at a shift whose first part is at a place below `from`, and of those whose
-// first part is in the tail.
-pub(crate) fn value_with_tail(
-    values: &Cells,
-    from: usize,
-    second: &Cells,
-    tail: Date,
-    shift: usize,
-    known: &[Date],
-) -> Date
-    requires from { from ≤ length values.now }
-    requires second { shift < length second.now }
-    requires known { ArePieceSums known.now values.now second.now 0 from }
-    ensures { result ≡ with_tail (value_listed values.now) (value_listed second.now) from tail
-        shift }
-{
-    greatest_at(known, values, second, shift, 0, from).later(tail)
+impl<'a> Model for Tail<'a> {
+    ghost use Rattle.series_laws.specs.SeriesForms.{Form, form_with};
+    ghost use Rattle.series_ops.specs.Splits.{IsTailed};
+
+    ghost Value = { Form };
+
+    ghost view = { λ t. form_with t.values.now t.period t.step };
+
+    ghost invariant = { λ t. IsTailed (form_with t.values.now t.period t.step) };
+}
+
+impl<'a> Tail<'a> {
+    // The tail of a list with this period and step.
+    pub(crate) fn new(values: &'a Cells, period: usize, step: i128) -> Tail<'a>
+        requires { IsTailed (form_with values.now period step) }
+        ensures { result ≡ form_with values.now period step }
+    {
+        Tail {
+            values,
+            period,
+            step,
+        }
+    }
+
+    // The places of the last period.
+    pub(crate) fn span(&self) -> Span
+        ensures from { result.from ≡ repeat_start self.now }
+        ensures count { result.count ≡ self.now.period }
+        ensures period { result.period ≡ self.now.period }
+    {
+        Span {
+            from: self.values.len() - self.period,
+            count: self.period,
+            period: self.period,
+        }
+    }
+
+    // The next greatest sum whose first part is in the tail, from those at the shifts before: of
+    // those in the list, and of those of a period before, a step later.
+    pub(crate) fn next_sum(&self, second: &Cells, tails: &[Date], known: &[Date]) -> Date
+        requires second { length tails.now < length second.now }
+        requires tails_bound { AreUpTo greatest_moderate tails.now }
+        requires tails { tails.now ≡ table (tail_product self.now (value_listed second.now))
+            (length tails.now) }
+        requires known { ArePieceSums known.now self.now.values second.now (repeat_start self.now)
+            self.now.period }
+        ensures { result ≡ tail_product self.now (value_listed second.now) (length tails.now) }
+    {
+        let shift = tails.len();
+        let here = greatest_at(known, self.values, second, self.span(), shift);
+        if shift < self.period {
+            return here;
+        }
+        here.later(added(Date::At(self.step), tails[shift - self.period]))
+    }
 }

@@ -17,7 +17,8 @@ ghost use Rattle.series_form.specs.SeriesLimits.{greatest_value_ahead, greatest_
 use crate::anchors::plan_of_parts;
 use crate::beginnings::{greatest_begun, nothing_begun, renewed};
 use crate::cells::Cells;
-use crate::splits::tail_value;
+use crate::pieces::Span;
+use crate::splits::Tail;
 use crate::tables::ended;
 use dioid::Date;
 use series_form::{
@@ -82,8 +83,12 @@ fn star_list(
     ensures { IfOk result (λ values. values.items ≡ table (parts_star (value_at first.now))
         (need + 1)) }
 {
-    let (period, step) = (first.period(), first.step());
-    let from = start(first);
+    let tail = Tail::new(rest, first.period(), first.step());
+    let span = Span {
+        from: 0,
+        count: start(first),
+        period: first.period(),
+    };
     let mut stars = Vec::new(alloc);
     let mut cells = Cells::new(alloc);
     let mut tails = Vec::new(alloc);
@@ -91,11 +96,11 @@ fn star_list(
     stars.push(Date::At(0))?;
     cells.push(Date::At(0))?;
     for shift in 0..need {
-        let more = renewed(alloc, begun, rest, &cells, from, period)?;
+        let more = renewed(alloc, begun, rest, &cells, span)?;
         begun = more;
-        let tail = tail_value(rest, period, step, &cells, tails.as_slice(), shift, &[]);
-        tails.push(tail)?;
-        let best = greatest_begun(&begun, rest, &cells, shift, from).later(tail);
+        let last = tail.next_sum(&cells, tails.as_slice(), &[]);
+        tails.push(last)?;
+        let best = greatest_begun(&begun, rest, &cells, shift, span.count).later(last);
         let next = Date::At(0).later(best);
         cells.push(next)?;
         stars.push(next)?;
@@ -198,7 +203,7 @@ fn is_above_zero(date: Date) -> bool
 /// TooLong exactly where its need exceeds 20,000; it carries the need of the sum with the monomial
 /// of shift 1 and date 0 where that exceeds 20,000 itself. Where it does not come, TooGreat comes
 /// exactly where a number of the result has a magnitude above 10^18. `OutOfMemory` comes only where
-/// no memory is found.
+/// no memory is found. It takes time of the order of the need times the length of the list at most.
 pub fn star(alloc: Global, first: &Series) -> Result<Series, SeriesRefused>
     ensures answer { AnswersOf (λ r. (k : ℕ) → IsStarOf (value_at first.now) k (value_at r k))
         (star_need first.now) (star_carried first.now) result }

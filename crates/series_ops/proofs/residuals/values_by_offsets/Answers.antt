@@ -65,15 +65,15 @@ conjugates-requires c =
     (omega arith) (c.as_slice.ensures.value ∙ c.in_ok-list.ensures.values))
     c.in_ok-by_star.ensures.at (omega arith))
 
-pub left_list-requires-clause-list : goal.left_list-requires-clause-list
-left_list-requires-clause-list c =
+pub new-requires-clause-list : goal.new-requires-clause-list
+new-requires-clause-list c =
     let first : length c.values.result.now ≡ size_of c.args.second.now = ap length c.values.ensures.value in
     let offsets = c.offsets.ensures.value in
     let size : length c.values.result.now + c.offsets.result ≡ size_of c.args.second.now + offsets_of c.args.first.now c.args.second.now = omega arith in
     c.in_ok-ends.ensures ∙ c.as_slice-2.ensures.value ∙ c.in_ok-list.ensures.values ∙ ap (table (value_at c.args.second.now)) size
 
-pub left_list-requires-clause-by_star : goal.left_list-requires-clause-by_star
-left_list-requires-clause-by_star c = star_same c.as_slice.result.now (conjugates_reversed c.in_ok-ends.ends) c.in_ok-by_star.by_star.items (map conjugate_of c.in_ok-ends_by_star.ends_by_star)
+pub new-requires-clause-by_star : goal.new-requires-clause-by_star
+new-requires-clause-by_star c = star_same c.as_slice.result.now (conjugates_reversed c.in_ok-ends.ends) c.in_ok-by_star.by_star.items (map conjugate_of c.in_ok-ends_by_star.ends_by_star)
     c.period.result c.args.first.now.period (to_z w128 (of_z w128 c.step.result)) c.args.first.now.step
     c.in_ok-by_star.ensures
     (c.in_ok-ends.ensures ∙ c.as_slice-2.ensures.value ∙ sym c.as_slice.ensures.value)
