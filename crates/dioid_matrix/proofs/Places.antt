@@ -1,9 +1,15 @@
 -- From places in a list to rows and columns.
-use Rattle.std.proofs.Common.{◌≡◌, ℕ, ◌<◌, ◌≤◌, ◌*◌, ◌+◌, ◌/◌, ◌%◌, ◌⊎◌, ap, arith, subst, ⊎_elim, List, get_or, mul_comm}
+use Rattle.std.proofs.Common.{◌≡◌, ℕ, ◌<◌, ◌≤◌, ◌*◌, ◌+◌, ◌/◌, ◌%◌, ◌⊎◌, ap, arith, subst, sym, ⊎_elim, List, get_or, mul_comm, Bool, Result, Ok, Err}
 use Rattle.std.proofs.Math.Nat.{mul-le-mul_right}
 use Rattle.std.proofs.lemmas.Nat.{div-mul-add, mod-mul-add, mul-add-lt, div-add-mod'}
 use Rattle.dioid.specs.declared.algebra.Dioid.{Ghosts as DioidOf}
+use Rattle.dioid.specs.declared.algebra.Refused.{Refused}
+use Rattle.dioid.specs.ElementAnswers.{Answers}
+use Rattle.dioid_matrix.specs.EntryLists.{AnswersCell, cell_of, cell_at}
 use Rattle.dioid_matrix.specs.Tables.{table_of, entry_of, IsFirstMisfit, StopsAt}
+use Rattle.dioid_matrix.specs.declared.refusals.Cell.{Cell}
+use Rattle.dioid_matrix.specs.declared.refusals.Cell.TheVariants.{Value, Misfit, NoMemoryLeft}
+use Rattle.dioid_matrix.specs.declared.refusals.MatrixRefused.{MatrixRefused}
 use Rattle.dioid_matrix.proofs.Cells.{row_below}
 use Rattle.dioid_matrix.proofs.Filled.{HoldsEach}
 
@@ -39,3 +45,29 @@ module _ {M : Type 0} (d : DioidOf M) (rows columns : ℕ) (fits : ℕ → ℕ �
 
   pub fits_held : (i j : ℕ) → i < rows → j < columns → fits i j
   fits_held i j hi hj = at_place fits i j columns hj (h.fit (i * columns + j) (within i j hi hj))
+
+-- what a cell gives at its row and column
+module _ {M : Type 0} (d : DioidOf M) (count : ℕ) (fits : ℕ → Type 0) (value : M) where
+  pub cell_value : (c : Cell M) (i j : ℕ) (v : M) → Ok v ≡ cell_at c i j → AnswersCell d count fits value c → AnswersCell d count fits value (Value v)
+  cell_value (Value w) i j v e h = let same : v ≡ w = cc in subst (λ (z : M). AnswersCell d count fits value (Value z)) (sym same) h
+  cell_value (Misfit step) i j v e h = absurd cc
+  cell_value NoMemoryLeft i j v e h = absurd cc
+
+  pub cell_refused : (P : MatrixRefused → Type 0) (c : Cell M) (i j : ℕ) (e : MatrixRefused) → Err e ≡ cell_at c i j → AnswersCell d count fits value c
+      → ((step : ℕ) → StopsAt count fits step → P (MatrixRefused.Range step i j)) → P MatrixRefused.OutOfMemory → P e
+  cell_refused P (Value w) i j e is h misfit none = absurd cc
+  cell_refused P (Misfit step) i j e is h misfit none = let same : e ≡ MatrixRefused.Range step i j = cc in subst P (sym same) (misfit step h)
+  cell_refused P NoMemoryLeft i j e is h misfit none = let same : e ≡ MatrixRefused.OutOfMemory = cc in subst P (sym same) none
+
+-- the same of an entry that one operation makes
+module _ {M : Type 0} (takes : Bool) (fits : Type 0) (value : M) where
+  pub made_value : (r : Result M Refused) (step i j : ℕ) (v : M) → Ok v ≡ cell_at (cell_of r step) i j → Answers takes fits value r → r ≡ Ok v
+  made_value (Ok w) step i j v e h = let same : v ≡ w = cc in ap Ok (sym same)
+  made_value (Err Refused.Range) step i j v e h = absurd cc
+  made_value (Err Refused.OutOfMemory) step i j v e h = absurd cc
+
+  pub made_refused : (P : MatrixRefused → Type 0) (r : Result M Refused) (step i j : ℕ) (e : MatrixRefused) → Err e ≡ cell_at (cell_of r step) i j → Answers takes fits value r
+      → (¬ fits → P (MatrixRefused.Range step i j)) → P MatrixRefused.OutOfMemory → P e
+  made_refused P (Ok w) step i j e is h misfit none = absurd cc
+  made_refused P (Err Refused.Range) step i j e is h misfit none = let same : e ≡ MatrixRefused.Range step i j = cc in subst P (sym same) (misfit h)
+  made_refused P (Err Refused.OutOfMemory) step i j e is h misfit none = let same : e ≡ MatrixRefused.OutOfMemory = cc in subst P (sym same) none

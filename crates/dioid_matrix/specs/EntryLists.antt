@@ -2,6 +2,7 @@
 use Rattle.std.specs.Prelude.{◌≡◌, ◌<◌, ◌≤◌, ◌+◌, ◌*◌, ℕ, cond, eqb, List, Vec, length, get_or, Result, Ok, Err, ⊤}
 use Rattle.dioid.specs.declared.algebra.Dioid.{Ghosts as DioidOf}
 use Rattle.dioid.specs.declared.algebra.Kleene.{Ghosts as KleeneOf}
+use Rattle.dioid.specs.declared.algebra.Refused.{Refused}
 use Rattle.dioid_matrix.specs.MatrixStars.{through}
 use Rattle.dioid_matrix.specs.Tables.{Table, table_of, entry_of, AreElements, IsFirstMisfit, StopsAt}
 use Rattle.dioid_matrix.specs.Turns.{loop_of, LoopFits, EntryFits, LastFits}
@@ -9,6 +10,18 @@ use Rattle.dioid_matrix.specs.declared.refusals.MatrixRefused.{MatrixRefused}
 use Rattle.dioid_matrix.specs.declared.refusals.MatrixRefused.TheVariants.{Count, Shape, Range, OutOfMemory}
 use Rattle.dioid_matrix.specs.declared.refusals.Cell.{Cell}
 use Rattle.dioid_matrix.specs.declared.refusals.Cell.TheVariants.{Value, Misfit, NoMemoryLeft}
+
+-- what became of an entry that one operation makes, at this step
+abbrev pub cell_of : {M : Type 0} → Result M Refused → ℕ → Cell M
+cell_of (Ok v) step = Value v
+cell_of (Err Refused.Range) step = Misfit step
+cell_of (Err Refused.OutOfMemory) step = NoMemoryLeft
+
+-- the entry in this row and column, or why there is none
+abbrev pub cell_at : {M : Type 0} → Cell M → ℕ → ℕ → Result M MatrixRefused
+cell_at (Value v) row column = Ok v
+cell_at (Misfit step) row column = Err (Range step row column)
+cell_at NoMemoryLeft row column = Err OutOfMemory
 
 module _ {M : Type 0} (d : DioidOf M) where
   -- one element, reached by this many steps, or the first step that does not fit

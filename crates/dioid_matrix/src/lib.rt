@@ -13,8 +13,10 @@ ghost use Rattle.dioid_matrix.specs.MatrixStars.{StarsAreLeast};
 mod grid;
 mod lists;
 mod passes;
+mod products;
 mod refusals;
 mod residues;
+mod stars;
 
 use dioid::Kleene;
 pub use grid::Matrix;

@@ -1,13 +1,11 @@
-//! Lists of entries: which are elements, the sums of two, and the products of two matrices.
-ghost use Rattle.std.specs.Prelude.{◌≡◌, IfOk, ◌≤◌, ◌<◌, ◌*◌, ℕ, length};
+//! Lists of entries: which are elements, and the sums of two.
+ghost use Rattle.std.specs.Prelude.{◌≡◌, IfOk, ◌≤◌, ◌*◌, length};
 ghost use Rattle.dioid.specs.ElementAnswers.{Answers};
-ghost use Rattle.dioid_matrix.specs.EntryLists.{AnswersCell, AnswersList};
-ghost use Rattle.dioid_matrix.specs.Products.{StepFits, IsProduct, ProductRefused};
-ghost use Rattle.dioid_matrix.specs.Sums.{dot, IsSum, SumRefused};
-ghost use Rattle.dioid_matrix.specs.Tables.{table_of, entry_of, AreElements};
+ghost use Rattle.dioid_matrix.specs.EntryLists.{AnswersList};
+ghost use Rattle.dioid_matrix.specs.Sums.{IsSum, SumRefused};
+ghost use Rattle.dioid_matrix.specs.Tables.{table_of, AreElements};
 ghost use Rattle.dioid_matrix.specs.Turns.{WayFits};
 
-use crate::grid::Matrix;
 use crate::refusals::{Cell, MatrixRefused};
 use dioid::{Dioid, Refused};
 use std::alloc::Global;
@@ -37,21 +35,9 @@ pub(crate) fn sums<D: Dioid>(
 {
     let mut values = Vec::new(alloc);
     for place in 0..left.len() {
-        match left[place].plus(alloc, &right[place]) {
-            Ok(value) => {
-                if values.push(value).is_err() {
-                    return Err(MatrixRefused::OutOfMemory);
-                }
-            }
-            Err(Refused::Range) => {
-                return Err(MatrixRefused::Range {
-                    step: 0,
-                    row: place / columns,
-                    column: place % columns,
-                });
-            }
-            Err(Refused::OutOfMemory) => return Err(MatrixRefused::OutOfMemory),
-        }
+        let sum = Cell::of(left[place].plus(alloc, &right[place]), 0);
+        let value = sum.at(place / columns, place % columns)?;
+        values.push(value)?;
     }
     Ok(values)
 }
@@ -69,70 +55,4 @@ pub(crate) fn plus_product<D: Dioid>(
 {
     let product = left.times(alloc, right)?;
     before.plus(alloc, &product)
-}
-
-// The entry in this row and column of a product.
-fn cell<D: Dioid>(
-    alloc: Global,
-    left: &Matrix<D>,
-    right: &Matrix<D>,
-    row: usize,
-    column: usize,
-) -> Cell<D>
-    requires goes { left.now.columns ≡ right.now.rows }
-    requires row { row < left.now.rows }
-    requires column { column < right.now.columns }
-    ensures { let a = entry_of D.Dioid left.now row in
-        let b = λ (k : ℕ). entry_of D.Dioid right.now k column in
-        AnswersCell D.Dioid left.now.columns (StepFits D.Dioid a b)
-        (dot D.Dioid left.now.columns a b) result }
-{
-    let count = left.columns();
-    let mut sum = match left.entry(row, 0).times(alloc, right.entry(0, column)) {
-        Ok(product) => product,
-        Err(Refused::Range) => return Cell::Misfit(0),
-        Err(Refused::OutOfMemory) => return Cell::NoMemoryLeft,
-    };
-    for middle in 1..count {
-        let here = left.entry(row, middle);
-        match plus_product(alloc, &sum, here, right.entry(middle, column)) {
-            Ok(value) => sum = value,
-            Err(Refused::Range) => return Cell::Misfit(middle),
-            Err(Refused::OutOfMemory) => return Cell::NoMemoryLeft,
-        }
-    }
-    Cell::Value(sum)
-}
-
-// The entries of the product of two matrices, by rows.
-pub(crate) fn products<D: Dioid>(
-    alloc: Global,
-    left: &Matrix<D>,
-    right: &Matrix<D>,
-) -> Result<Vec<D>, MatrixRefused>
-    requires { left.now.columns ≡ right.now.rows }
-    ensures { AnswersList D.Dioid left.now.rows right.now.columns
-        (IsProduct D.Dioid left.now right.now) (ProductRefused D.Dioid left.now right.now) result }
-{
-    let rows = left.rows();
-    let columns = right.columns();
-    let mut values = Vec::new(alloc);
-    for place in 0..rows * columns {
-        match cell(alloc, left, right, place / columns, place % columns) {
-            Cell::Value(value) => {
-                if values.push(value).is_err() {
-                    return Err(MatrixRefused::OutOfMemory);
-                }
-            }
-            Cell::Misfit(step) => {
-                return Err(MatrixRefused::Range {
-                    step,
-                    row: place / columns,
-                    column: place % columns,
-                });
-            }
-            Cell::NoMemoryLeft => return Err(MatrixRefused::OutOfMemory),
-        }
-    }
-    Ok(values)
 }

@@ -8,7 +8,7 @@ ghost use Rattle.dioid_matrix.specs.Tables.{entry_of, table_of, AreElements};
 ghost use Rattle.dioid_matrix.specs.Turns.{IsStar, StarRefused};
 
 use crate::lists::plus_product;
-use crate::refusals::MatrixRefused;
+use crate::refusals::{Cell, MatrixRefused};
 use dioid::{Dioid, Kleene, Refused};
 use std::alloc::{AllocError, Global};
 
@@ -42,8 +42,8 @@ pub(crate) fn loops<D: Kleene>(
     Ok(loops)
 }
 
-// Step `k + 1` of the recursion, by the loops of row `k`.
-pub(crate) fn turned<D: Kleene>(
+// Step `k + 1` of the recursion, which eliminates pivot `k`, by the loops of its row.
+pub(crate) fn eliminated<D: Kleene>(
     alloc: Global,
     entries: &[D],
     loops: &[D],
@@ -70,26 +70,10 @@ pub(crate) fn turned<D: Kleene>(
                 column,
             });
         }
-        match plus_product(
-            alloc,
-            &entries[place],
-            &entries[row * size + k],
-            &loops[column],
-        ) {
-            Ok(value) => {
-                if values.push(value).is_err() {
-                    return Err(MatrixRefused::OutOfMemory);
-                }
-            }
-            Err(Refused::Range) => {
-                return Err(MatrixRefused::Range {
-                    step: k + 1,
-                    row,
-                    column,
-                });
-            }
-            Err(Refused::OutOfMemory) => return Err(MatrixRefused::OutOfMemory),
-        }
+        let into = &entries[row * size + k];
+        let sum = plus_product(alloc, &entries[place], into, &loops[column]);
+        let value = Cell::of(sum, k + 1).at(row, column)?;
+        values.push(value)?;
     }
     Ok(values)
 }
@@ -108,10 +92,8 @@ pub(crate) fn pass<D: Kleene>(
         AnswersList D.Dioid size size (IsAfterPass D.Dioid D.Kleene.own size r k)
         (PassRefused D.Dioid D.Kleene.own size r k) result }
 {
-    let Ok(loops) = loops(alloc, entries, size, k) else {
-        return Err(MatrixRefused::OutOfMemory);
-    };
-    turned(alloc, entries, loops.as_slice(), size, k)
+    let loops = loops(alloc, entries, size, k)?;
+    eliminated(alloc, entries, loops.as_slice(), size, k)
 }
 
 // An entry's last value: one is added on the diagonal.
@@ -153,21 +135,9 @@ pub(crate) fn finish<D: Kleene>(
     for place in 0..size * size {
         let row = place / size;
         let column = place % size;
-        match ended(alloc, &entries[place], &one, row == column) {
-            Ok(value) => {
-                if values.push(value).is_err() {
-                    return Err(MatrixRefused::OutOfMemory);
-                }
-            }
-            Err(Refused::Range) => {
-                return Err(MatrixRefused::Range {
-                    step: size + 1,
-                    row,
-                    column,
-                });
-            }
-            Err(Refused::OutOfMemory) => return Err(MatrixRefused::OutOfMemory),
-        }
+        let last = ended(alloc, &entries[place], &one, row == column);
+        let value = Cell::of(last, size + 1).at(row, column)?;
+        values.push(value)?;
     }
     Ok(values)
 }

@@ -1,4 +1,9 @@
 //! Why a call on matrices gives none.
+ghost use Rattle.std.specs.Prelude.{◌≡◌};
+ghost use Rattle.dioid_matrix.specs.declared.refusals.MatrixRefused.TheVariants.{OutOfMemory};
+
+use dioid::Refused;
+use std::alloc::{AllocError, AllocFailed};
 use thiserror::Error;
 
 /// Why a call on matrices gives none. Rows, columns and middle indices are counted from 0.
@@ -37,10 +42,53 @@ pub enum MatrixRefused {
     OutOfMemory,
 }
 
+impl From<AllocError> for MatrixRefused {
+    ghost from_gives = { λ _ e. e ≡ OutOfMemory };
+
+    fn from(_error: AllocError) -> MatrixRefused {
+        MatrixRefused::OutOfMemory
+    }
+}
+
+impl<D: Drop> From<AllocFailed<D>> for MatrixRefused {
+    ghost from_gives = { λ _ e. e ≡ OutOfMemory };
+
+    fn from(_error: AllocFailed<D>) -> MatrixRefused {
+        MatrixRefused::OutOfMemory
+    }
+}
+
 // What became of an entry that is made step by step.
 #[derive(Drop)]
 pub(crate) enum Cell<D> {
     Value(D),
     Misfit(usize),
     NoMemoryLeft,
+}
+
+impl<D> Cell<D> {
+    ghost use Rattle.std.specs.Prelude.{◌≡◌};
+    ghost use Rattle.dioid_matrix.specs.EntryLists.{cell_of, cell_at};
+
+    // What became of an entry that one operation makes, at this step.
+    pub(crate) fn of(answer: Result<D, Refused>, step: usize) -> Cell<D>
+        ensures { result ≡ cell_of answer step }
+    {
+        match answer {
+            Ok(value) => Cell::Value(value),
+            Err(Refused::Range) => Cell::Misfit(step),
+            Err(Refused::OutOfMemory) => Cell::NoMemoryLeft,
+        }
+    }
+
+    // The entry in this row and column, or why there is none.
+    pub(crate) fn at(self, row: usize, column: usize) -> Result<D, MatrixRefused>
+        ensures { result ≡ cell_at self row column }
+    {
+        match self {
+            Cell::Value(value) => Ok(value),
+            Cell::Misfit(step) => Err(MatrixRefused::Range { step, row, column }),
+            Cell::NoMemoryLeft => Err(MatrixRefused::OutOfMemory),
+        }
+    }
 }

@@ -70,21 +70,46 @@ pub(crate) fn residue_list<D: Residuated>(
     let columns = right.columns();
     let mut values = Vec::new(alloc);
     for place in 0..middle * columns {
-        match residue(alloc, left, right, place / columns, place % columns) {
-            Cell::Value(value) => {
-                if values.push(value).is_err() {
-                    return Err(MatrixRefused::OutOfMemory);
-                }
-            }
-            Cell::Misfit(step) => {
-                return Err(MatrixRefused::Range {
-                    step,
-                    row: place / columns,
-                    column: place % columns,
-                });
-            }
-            Cell::NoMemoryLeft => return Err(MatrixRefused::OutOfMemory),
-        }
+        let (row, column) = (place / columns, place % columns);
+        let value = residue(alloc, left, right, row, column).at(row, column)?;
+        values.push(value)?;
     }
     Ok(values)
+}
+
+impl<D: Residuated> Matrix<D> {
+    ghost use Rattle.std.specs.Prelude.{IfOk};
+    ghost use Rattle.dioid_matrix.specs.Residuals.{AnswersResidual};
+    ghost use Rattle.dioid_matrix.specs.Tables.{IsTable};
+
+    /// The greatest `x` with `self x` at most `other`, entry by entry the meet over the rows of the
+    /// residuals (section 4.4).
+    ///
+    /// `Shape`, with the left's rows and then the right's, exactly where these are not as many.
+    /// `Range` names the first entry of `x` by rows that does not fit, and as step the first row of
+    /// the operands whose residual, or its meet with the meet of those before it, does not fit.
+    /// `OutOfMemory` comes only where no memory is found.
+    pub fn left_residual(
+        &self,
+        alloc: Global,
+        other: &Matrix<D>,
+    ) -> Result<Matrix<D>, MatrixRefused>
+        ensures answer { AnswersResidual D.Dioid D.Residuated.own self.now other.now result }
+        ensures table { IfOk result (IsTable D.Dioid) }
+        ensures left { IsTable D.Dioid self.now }
+        ensures right { IsTable D.Dioid other.now }
+    {
+        if self.rows != other.rows {
+            return Err(MatrixRefused::Shape {
+                left_columns: self.rows,
+                right_rows: other.rows,
+            });
+        }
+        let entries = residue_list(alloc, self, other)?;
+        Ok(Matrix {
+            rows: self.columns,
+            columns: other.columns,
+            entries,
+        })
+    }
 }

@@ -1,7 +1,7 @@
 //! A reader of expressions, byte by byte: the open brackets, and where the next byte stands.
-ghost use Rattle.std.specs.Prelude.{◌≡◌, ◌≢◌, IfSome, length};
+ghost use Rattle.std.specs.Prelude.{◌≡◌, ◌≢◌, ◌<◌, ◌↔◌, IfSome, IsTrue, length, slice_get};
 ghost use Rattle.teg_calc.specs.ExpressionTrees.{tree_of_expression};
-ghost use Rattle.teg_calc.specs.Readers.{Finishes, Goes, GoesOnByByte, HasFewDigits, IsAt, ReachesLevels, StandsWell, behind_step, close_step, comma_step, date_on, factor_of, factored, finish, gone_on, nested, operand_step, operator_by, operator_step, stand_of, start, state, state_of, step, term_of, tree_in, within, within_step};
+ghost use Rattle.teg_calc.specs.Readers.{Finishes, Goes, GoesOnByByte, HasFewDigits, IsAt, ReachesLevels, StandsWell, behind_step, close_step, comma_step, date_on, factor_of, factored, finish, gone_on, nested, operand_step, operator_by, operator_step, stand_of, start, state, state_of, step, letters_of, term_of, tree_in, within, within_step, word_on};
 
 use crate::brackets::{Bracket, Call, closed, joined, multiplied, opened, takes_comma};
 use crate::bytes::{Sign, digit_of, sign_of};
@@ -319,7 +319,12 @@ fn within(
     ensures { Goes (within_step part) outer.items inner byte result }
 {
     match part {
-        Part::Letters { word, read } => letter(alloc, outer, inner, word, read, byte),
+        Part::Letters { word, read } => {
+            if !is_next_letter(word, read, byte) {
+                return Err(Stop::Unexpected);
+            }
+            letter(alloc, outer, inner, word, read)
+        }
         Part::Name { call } => named(outer, inner, call, byte),
         _ => match gone_on(part, byte) {
             Some(part) => Ok(Reader {
@@ -456,22 +461,28 @@ fn date_on(shift: u64, minus: bool, count: u8, value: u64, byte: u8) -> Option<P
     }
 }
 
-// One byte more in a word.
+// Whether the byte is the next letter of the word.
+fn is_next_letter(word: Word, read: usize, byte: u8) -> bool
+    ensures value { IsTrue result ↔ (slice_get (letters_of word) read ≡ Some byte) }
+    ensures within { IsTrue result → read < length (letters_of word) }
+    ensures opens_none { IsTrue result → byte ≢ 40 }
+{
+    let letters = letters(word);
+    read < letters.len() && letters[read] == byte
+}
+
+// Behind one more letter of a word.
 fn letter(
     alloc: Global,
     outer: Vec<Bracket>,
     inner: Bracket,
     word: Word,
     read: usize,
-    byte: u8,
 ) -> Result<Reader, Stop>
-    ensures { Goes (within_step (Part.Letters word read)) outer.items inner byte result }
+    requires { read < length (letters_of word) }
+    ensures { ReachesLevels (λ o i. Some (word_on word read o i)) outer.items inner result }
 {
-    let letters = letters(word);
-    if read >= letters.len() || letters[read] != byte {
-        return Err(Stop::Unexpected);
-    }
-    if read + 1 < letters.len() {
+    if read + 1 < letters(word).len() {
         return Ok(Reader {
             outer,
             inner,

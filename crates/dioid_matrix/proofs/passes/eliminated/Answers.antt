@@ -1,11 +1,13 @@
 use Rattle.std.proofs.Common.{◌≡◌, ℕ, ◌*◌, ◌+◌, ◌/◌, ◌%◌, ◌≤◌, ◌<◌, ◌++◌, ◌∷◌, [], length, rules, arith, refl}
+use Rattle.std.proofs.lemmas.Result.{err_from_is_err_and}
+use Rattle.dioid_matrix.specs.EntryLists.{PassRefused}
 use Rattle.dioid_matrix.specs.MatrixStars.{through}
 use Rattle.dioid_matrix.specs.Tables.{entry_of, table_of}
 use Rattle.dioid_matrix.specs.Turns.{WayFits, EntryFits}
 use Rattle.dioid_matrix.proofs.Cells.{holds_more, elements_everywhere, pivot_within}
-use Rattle.dioid_matrix.proofs.Places.{first_misfit, entries_held, fits_held}
+use Rattle.dioid_matrix.proofs.Places.{first_misfit, entries_held, fits_held, made_value, made_refused}
 use Rattle.dioid_matrix.proofs.Turning.{at_turn, loop_misfits}
-use Rattle.dioid_matrix.proofs.passes.turned.Goals as goal
+use Rattle.dioid_matrix.proofs.passes.eliminated.Goals as goal
 
 pub offset_bounds-entries-row : goal.offset_bounds-entries-row
 offset_bounds-entries-row g c =
@@ -30,16 +32,19 @@ returns-then-loops-column g c =
           }),
     )
 
-pub returns-in-Err-Range : goal.returns-in-Err-Range
-returns-in-Err-Range g c =
+pub returns-in_err-value : goal.returns-in_err-value
+returns-in_err-value g c =
     let d = g.D.Dioid in
-    let refused = rw c.in-Err-Range.field-0-is at c.in-Err-Range.ensures.answer in
+    let r = entry_of d (table_of c.args.size c.args.size c.args.entries.now) in
+    let is = rw c.of.ensures at c.in_err-value.ensures in
+    let back = err_from_is_err_and c.from_residual.result c.from_residual.ensures.1 in
+    rw (back.1, back.2) (made_refused _ _ _ (PassRefused d g.D.Kleene c.args.size r c.args.k) _ (c.args.k + 1) _ _ _ is c.plus_product-sum.ensures.answer (λ refused.
     let some : 1 ≤ c.args.size = omega arith in
     let column : c.loop-place.place % c.args.size < length c.args.loops.now = search rules in
     let here = at_turn d g.D.Kleene c.args.size c.args.k c.args.entries.now c.args.loops.now c.requires.loops c.requires.step
     c.requires.filled (λ x y z. ¬ WayFits d x y z) c.loop-place.place _ _ _ c.loop-place-test.true column c.index-entries-place.is
     c.index-entries-row.is c.index-loops-column.is refused in
-    (refl, first_misfit c.args.size c.args.size c.loop-place.place _ some (record { within = c.loop-place-test.true; before = c.loop-place.invariant.fit; here = λ f. here f.1 }))
+    (refl, first_misfit c.args.size c.args.size c.loop-place.place _ some (record { within = c.loop-place-test.true; before = c.loop-place.invariant.fit; here = λ f. here f.1 }))) tt)
 
 pub loop-place-preserved : goal.loop-place-preserved
 loop-place-preserved g c =
@@ -48,10 +53,14 @@ loop-place-preserved g c =
     let read = λ (P : g.row.D.Denot → g.row.D.Denot → g.row.D.Denot
     → Type 0). at_turn d g.D.Kleene c.args.size c.args.k c.args.entries.now c.args.loops.now c.requires.loops c.requires.step
     c.requires.filled P c.loop-place.place _ _ _ c.loop-place-test.true column c.index-entries-place.is c.index-entries-row.is c.index-loops-column.is in
-    let items : c.push.new.self.items ≡ c.loop-place.values.items ++ (c.in-Ok.value ∷ []) = search rules in
-    rw items (holds_more _ _ _ _ _ _ c.loop-place.invariant
-    (c.requires.loops.fit (c.loop-place.place % c.args.size) column, read (λ x y z. WayFits d x y z) c.in-Ok.ensures.answer.1)
-    (read (λ x y z. c.in-Ok.value ≡ d.sum x (d.product y z)) c.in-Ok.ensures.answer.0) c.in-Ok.ensures.element)
+    let items : c.push.new.self.items ≡ c.loop-place.values.items ++ (c.in_ok-value.value ∷ []) = search rules in
+    let is = rw c.of.ensures at c.in_ok-value.ensures in
+    let made = made_value _ _ _ _ (c.args.k + 1) _ _ c.in_ok-value.value is c.plus_product-sum.ensures.answer in
+    let answer = rw made at c.plus_product-sum.ensures.answer in
+    let element = rw made at c.plus_product-sum.ensures.element in
+    rw items (holds_more d _ _ _ _ _ c.loop-place.invariant
+    (c.requires.loops.fit (c.loop-place.place % c.args.size) column, read (λ x y z. WayFits d x y z) answer.1)
+    (read (λ x y z. c.in_ok-value.value ≡ d.sum x (d.product y z)) answer.0) element)
 
 pub returns : goal.returns
 returns g c =

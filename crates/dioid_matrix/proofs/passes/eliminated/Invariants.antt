@@ -2,7 +2,7 @@ use Rattle.std.proofs.Common.{◌/◌, ◌%◌}
 use Rattle.dioid_matrix.specs.MatrixStars.{through}
 use Rattle.dioid_matrix.specs.Tables.{entry_of, table_of}
 use Rattle.dioid_matrix.specs.Turns.{EntryFits}
-use Rattle.dioid_matrix.proofs.passes.turned.Given as goal
+use Rattle.dioid_matrix.proofs.passes.eliminated.Given as goal
 use Rattle.dioid_matrix.proofs.Filled.{HoldsEach}
 
 abbrev pub invariant-loop-place : goal.invariant-loop-place

@@ -2,7 +2,7 @@ use Rattle.std.proofs.Common.{◌≡◌, ℕ, arith, below_more, below_none}
 use Rattle.dioid_matrix.specs.Products.{StepFits}
 use Rattle.dioid_matrix.specs.Tables.{entry_of}
 use Rattle.dioid_matrix.proofs.Cells.{dot_more, first_dot, step_fits, first_fits, first_misfits, step_misfits}
-use Rattle.dioid_matrix.proofs.lists.cell.Goals as goal
+use Rattle.dioid_matrix.proofs.products.cell.Goals as goal
 
 pub returns-in-Err-Range : goal.returns-in-Err-Range
 returns-in-Err-Range g c =

@@ -2,7 +2,7 @@ use Rattle.std.proofs.Common.{◌≡◌, ◌<◌, ℕ}
 use Rattle.dioid_matrix.specs.Products.{StepFits}
 use Rattle.dioid_matrix.specs.Sums.{dot}
 use Rattle.dioid_matrix.specs.Tables.{entry_of}
-use Rattle.dioid_matrix.proofs.lists.cell.Given as goal
+use Rattle.dioid_matrix.proofs.products.cell.Given as goal
 
 abbrev pub invariant-loop-middle : goal.invariant-loop-middle
 invariant-loop-middle g l =

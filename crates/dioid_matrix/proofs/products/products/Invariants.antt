@@ -2,7 +2,7 @@ use Rattle.std.proofs.Common.{◌/◌, ◌%◌}
 use Rattle.dioid_matrix.specs.Products.{CellFits}
 use Rattle.dioid_matrix.specs.Sums.{dot}
 use Rattle.dioid_matrix.specs.Tables.{entry_of}
-use Rattle.dioid_matrix.proofs.lists.products.Given as goal
+use Rattle.dioid_matrix.proofs.products.products.Given as goal
 use Rattle.dioid_matrix.proofs.Filled.{HoldsEach}
 
 abbrev pub invariant-loop-place : goal.invariant-loop-place
