@@ -1,6 +1,6 @@
 use Rattle.std.proofs.Common.{ℕ, Option, None, subst}
 use Rattle.teg_net.specs.GreatestRatios.{IsFirstGreatest}
-use Rattle.teg_report.proofs.Certified.{certificate_told}
+use Rattle.teg_report.proofs.teg_lines_proofs.Certified.{certificate_told}
 use Rattle.teg_commands.proofs.CycleTold.{no_rounds_kept, of_each_result}
 use Rattle.teg_commands.proofs.cycle.text_of_times.Goals as goal
 
