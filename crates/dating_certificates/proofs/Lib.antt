@@ -4,3 +4,4 @@ pub mod WholeRows
 pub mod LeastRows
 pub mod SolvedRows
 pub mod SettledWindows
+pub mod ListedDues

@@ -5,6 +5,7 @@ use Rattle.dioid.specs.declared.dates.Date.TheVariants.{Never}
 use Rattle.teg_net.specs.Nets.{NetLists, IsNet}
 use Rattle.teg_net.specs.Circuits.{IsLive}
 use Rattle.teg_due.specs.declared.rows.DueRow.{DueRow}
+use Rattle.teg_due.specs.RowRules.{IsDueOf}
 use Rattle.due_laws.specs.LatestDates.{AreLatestDates}
 use Rattle.latest_laws.specs.BackwardSolutions.{SolveBackwards}
 use Rattle.dating_certificates.specs.CheckedRows.{date_in_rows, AreRowsOf}
@@ -18,6 +19,14 @@ pub record IsRowOf (r : DueRow) (t k d : ℕ) : Type 0 where
 -- what is due is just what the rows say
 abbrev pub ListsDues : List DueRow → (ℕ → ℕ → Option ℕ) → Type 0
 ListsDues rows due = (t k d : ℕ) → (due t k ≡ Some d) ↔ Any (λ r. IsRowOf r t k d) rows
+
+-- the rows of a due list say what is due
+abbrev pub DuesAreListed : Type 0
+DuesAreListed = (net : NetLists) (rows : List DueRow) → IsDueOf net rows → (due : ℕ → ℕ → Option ℕ) × ListsDues rows due
+
+-- and they say one thing of each firing
+abbrev pub DuesAreOne : Type 0
+DuesAreOne = (rows : List DueRow) (due other : ℕ → ℕ → Option ℕ) → ListsDues rows due → ListsDues rows other → (t k : ℕ) → due t k ≡ other t k
 
 -- the date of firing k of transition t in rows of this many dates up to a number, and never past it
 abbrev pub date_up_to : ℕ → ℕ → List Date → ℕ → ℕ → Date

@@ -1,7 +1,7 @@
 //! What conditions on single dates tell of the least dating.
 ghost use Rattle.dating_certificates.specs.TightRows.{FirstRowsAreLeast};
 ghost use Rattle.dating_certificates.specs.CheckedRows.{TightRowsAreFirstRows};
-ghost use Rattle.dating_certificates.specs.LatestRows.{LocallyLatestRowsAreLatest};
+ghost use Rattle.dating_certificates.specs.LatestRows.{DuesAreListed, DuesAreOne, LocallyLatestRowsAreLatest};
 ghost use Rattle.dating_certificates.specs.SettledWindows.{WindowsGoOn};
 
 /// In a live net, dates that up to a number are each the latest of what the firing waits for are
@@ -28,6 +28,15 @@ pub fn tight_rows_are_first_rows()
 /// of what is ahead, though nothing is due.
 pub fn locally_latest_rows_are_latest()
     ensures { LocallyLatestRowsAreLatest }
+{}
+
+/// The rows of a due list say what is due (`listed`): there are due dates, at most one for each
+/// firing, that are just those of the rows; and there is one such answer alone (`one`). So what
+/// [`check_latest`](crate::check_latest) tells of all due dates that the rows list is said of some,
+/// and of no others. It does nothing when it runs.
+pub fn due_rows_are_listed()
+    ensures listed { DuesAreListed }
+    ensures one { DuesAreOne }
 {}
 
 /// Where the least dating of a live net, under any releases, moves by steps in a window, it moves by

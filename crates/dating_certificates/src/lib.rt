@@ -5,10 +5,11 @@
 //! dating. It is [`first_rows_are_least`] for the releases of the net's own input lists.
 //! [`check_latest`] tells whether a whole table of dates solves the backward equations for the due
 //! dates of a list. The law [`locally_latest_rows_are_latest`]: such a table of a live net is that
-//! of its latest dates, and no other is. The law [`windows_go_on`]: where the least dating moves by
-//! steps in a window of its rows, it does so for ever. The crate stands on `teg_model` for what a
-//! least dating is, on `teg_due` for the rows of due dates, on `due_laws` and `latest_laws` for
-//! latest dates, and on `settled_laws` for dates that go on.
+//! of its latest dates, and no other is; and [`due_rows_are_listed`]: a list says what is due. The
+//! law [`windows_go_on`]: where the least dating moves by steps in a window of its rows, it does so
+//! for ever. The crate stands on `teg_model` for what a least dating is, on `teg_due` for the rows
+//! of due dates, on `due_laws` and `latest_laws` for latest dates, and on `settled_laws` for dates
+//! that go on.
 //! Its examples stand in `library_examples`.
 #![tactic(auto)]
 
@@ -20,6 +21,7 @@ mod waits;
 
 pub use latest::check_latest;
 pub use laws::{
-    first_rows_are_least, locally_latest_rows_are_latest, tight_rows_are_first_rows, windows_go_on,
+    due_rows_are_listed, first_rows_are_least, locally_latest_rows_are_latest,
+    tight_rows_are_first_rows, windows_go_on,
 };
 pub use rows::check_rows;

@@ -26,6 +26,8 @@ mod kept_delays;
 #[cfg(test)]
 mod latest_tables;
 #[cfg(test)]
+mod lines_alone;
+#[cfg(test)]
 mod made_nets;
 #[cfg(test)]
 mod matrices;

@@ -22,8 +22,8 @@ use Rattle.teg_parts.specs.Partitions.{AreParts, PartLists}
 use Rattle.teg_cycle.specs.LastRounds.{AreRunsFrom, rounds_of_runs}
 use Rattle.teg_net.specs.Ratios.{Fraction}
 use Rattle.teg_howard.specs.PolicyRounds.{IsRound, IsPolicyRun, choice_of_member, chosen_place}
-use Rattle.teg_report.specs.AnswerMeanings.{cycle_lists, part_lists, round_lists, runs_lists}
-use Rattle.teg_report.specs.RoundLines.{RoundLists, IsRoundIn, IsRunIn, IsRunKept, AreRoundsTold, AreRunsTold, circuits_in}
+use Rattle.teg_report.specs.teg_lines.CycleMeanings.{cycle_lists, part_lists, round_lists, runs_lists}
+use Rattle.teg_report.specs.teg_lines.RoundLines.{RoundLists, IsRoundIn, IsRunIn, IsRunKept, AreRoundsTold, AreRunsTold, circuits_in}
 use Rattle.teg_report.specs.teg_text.Lines.{written}
 use Rattle.teg_commands.specs.Cycle.{IsCycleAnswer}
 use Rattle.teg_commands.specs.CommandTexts.{cycle_text, no_circuit_text, times_lines}

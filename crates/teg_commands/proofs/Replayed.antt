@@ -78,7 +78,7 @@ pub run_shown : (before now : List Firing → List (List ℕ)) (net other : NetL
 run_shown before now net other rows firings replayed true e of shown = (firings, replayed, subst (λ (n : NetLists). IsReplayOf n rows firings replayed) e of, shown)
 run_shown before now net other rows firings replayed false e of shown = (firings, subst (λ (n : NetLists). AreFiringsOf n rows firings) e of.told, shown)
 
--- monitors that come back as they were handed in
+-- monitors that stay as they were
 pub nothing_shown : (lines : List Firing → List (List ℕ)) → ShowsNothing lines lines
 nothing_shown lines = record { further = λ more. refl; lines = refl }
 

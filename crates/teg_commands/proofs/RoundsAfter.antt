@@ -18,10 +18,10 @@ use Rattle.teg_howard.specs.OnePolicyRun.{PolicyRunsAreOne, AreSameRounds, AreSa
 use Rattle.teg_howard.specs.PolicyRuns.{IsAnswerOf, IsAnswerOfLast, potential_of}
 use Rattle.teg_howard.specs.PolicyRounds.{last_policy_round}
 use Rattle.teg_cycle.specs.LastRounds.{AreLastOfRuns, AreRunsFrom, IsLastOfRun}
-use Rattle.teg_report.specs.Cycles.{CycleLists, ToldPart, NoCircuitIn, BestOf, cycle_lines}
-use Rattle.teg_report.specs.AnswerMeanings.{cycle_lists, part_lists, round_lists}
+use Rattle.teg_report.specs.teg_lines.CycleLines.{CycleLists, ToldPart, NoCircuitIn, BestOf, cycle_lines}
+use Rattle.teg_report.specs.teg_lines.CycleMeanings.{cycle_lists, part_lists, round_lists}
 use Rattle.teg_report.specs.ShortAnswers.{no_circuit_line}
-use Rattle.teg_report.specs.RoundLines.{RoundLists, runs_lines, told_runs}
+use Rattle.teg_report.specs.teg_lines.RoundLines.{RoundLists, runs_lines, told_runs}
 use Rattle.teg_report.specs.teg_text.Lines.{written}
 use Rattle.teg_report.proofs.teg_text_proofs.Joining.{written_append}
 use Rattle.teg_commands.specs.SpecialCases.{RoundsFollowTimes}

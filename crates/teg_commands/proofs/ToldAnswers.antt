@@ -70,14 +70,15 @@ use Rattle.teg_replay.specs.declared.replayed.Refused.{Refused as RefusedRow}
 use Rattle.teg_replay.specs.declared.replayed.Replayed.{Replayed as Replay}
 use Rattle.teg_replay.specs.Replays.{IsReplayOf}
 use Rattle.teg_report.specs.declared.answer.Failure.{Failure}
-use Rattle.teg_report.specs.AnswerMeanings.{cycle_lists, late_lists, round_lists}
+use Rattle.teg_report.specs.AnswerMeanings.{late_lists}
+use Rattle.teg_report.specs.teg_lines.CycleMeanings.{cycle_lists, round_lists}
 use Rattle.teg_report.specs.AnswerValues.{Cycle, Refused}
 use Rattle.teg_report.specs.FileRows.{IsDueKept, IsFailureIn, IsLogKept}
 use Rattle.teg_report.specs.KeptAnswers.{IsAnswerTold}
-use Rattle.teg_report.specs.RoundLines.{IsRunKept}
+use Rattle.teg_report.specs.teg_lines.RoundLines.{IsRunKept}
 use Rattle.teg_report.specs.Series.{IsParseKept, IsSeriesRefusalKept}
-use Rattle.teg_report.specs.Widths.{IsWord32}
-use Rattle.teg_report.proofs.Certified.{certificate_told}
+use Rattle.teg_report.specs.teg_lines.Widths.{IsWord32}
+use Rattle.teg_report.proofs.teg_lines_proofs.Certified.{certificate_told}
 use Rattle.teg_settle.proofs.teg_loops_proofs.Through.{pass_back}
 use Rattle.teg_sizing.specs.SizingTexts.{SaidSizing, SizingSaid, NoPlaceSaid, IsSizingSaid, IsSizingTold, said_lines, told_sizing}
 use Rattle.teg_sizing.proofs.Reading.{circuit_in_net}
@@ -289,7 +290,7 @@ spread_said : (period : ℕ) (limit : Option ℕ) (net : NetLists) (table : Time
 spread_said period limit net table verdict text h = let s = h.1 in (spread_told s.0, s.2, s.3)
 
 unspread_said : (period : ℕ) (limit : Option ℕ) (net : NetLists) (table : Timetable) (verdict : Verdict) (text : List ℕ) → SaysUnspread period limit net table verdict text → IsTimetableSaid net text
-unspread_said period limit net table verdict text h = some_said net (delay_told h.0) text h.3 h.4
+unspread_said period limit net table verdict text h = some_said net (delay_told h.0) text h.2.1 h.2.2
 
 delays_said : (period : ℕ) (limit : Option ℕ) (net : NetLists) (bytes : List ℕ) (verdict : Verdict) (text : List ℕ) →
     (table : Timetable) × (timetable_of net bytes ≡ Ok (lists_of_table table)) × IsTableOf net table × SaysDelays period limit net table verdict text → IsTimetableSaid net text

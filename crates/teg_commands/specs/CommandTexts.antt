@@ -6,13 +6,14 @@ use Rattle.teg_net.specs.declared.entries.PlaceId.{PlaceId}
 use Rattle.teg_net.specs.Nets.{NetLists}
 use Rattle.teg_reader.specs.declared.refusals.ReadRefusal.{ReadRefusal}
 use Rattle.teg_report.specs.declared.answer.Which.{Which}
-use Rattle.teg_report.specs.Cycles.{CycleLists, cycle_lines}
+use Rattle.teg_report.specs.teg_lines.CycleLines.{CycleLists, cycle_lines}
 use Rattle.teg_report.specs.UsageLines.{usage_lines}
-use Rattle.teg_report.specs.ShortAnswers.{no_circuit_line, too_large_line, read_fault_line, token_free_line, too_long_line}
+use Rattle.teg_report.specs.ShortAnswers.{no_circuit_line, too_large_line, read_fault_line, too_long_line}
+use Rattle.teg_report.specs.teg_lines.CircuitLines.{token_free_line}
 use Rattle.teg_report.specs.FileRefusalLines.{read_line}
 use Rattle.teg_report.specs.DateLists.{list_lines}
-use Rattle.teg_report.specs.AnswerMeanings.{cycle_lists}
-use Rattle.teg_report.specs.RoundLines.{RoundLists, runs_lines, told_runs}
+use Rattle.teg_report.specs.teg_lines.CycleMeanings.{cycle_lists}
+use Rattle.teg_report.specs.teg_lines.RoundLines.{RoundLists, runs_lines, told_runs}
 use Rattle.teg_report.specs.teg_text.Lines.{written}
 
 -- what is written where words are refused

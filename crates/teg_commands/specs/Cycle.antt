@@ -11,8 +11,8 @@ use Rattle.teg_parts.specs.Partitions.{AreParts}
 use Rattle.teg_commands.specs.declared.outcome.Verdict.{Verdict}
 use Rattle.teg_commands.specs.declared.outcome.Verdict.TheVariants.{Done as VerdictDone}
 use Rattle.teg_commands.specs.CommandTexts.{cycle_text}
-use Rattle.teg_report.specs.AnswerMeanings.{round_lists}
-use Rattle.teg_report.specs.RoundLines.{IsRunKept}
+use Rattle.teg_report.specs.teg_lines.CycleMeanings.{round_lists}
+use Rattle.teg_report.specs.teg_lines.RoundLines.{IsRunKept}
 
 -- the numbers are those of the strong parts of the net in their order, with an answer for each
 abbrev pub HasStrongParts : NetLists → CycleAnswer → Type 0

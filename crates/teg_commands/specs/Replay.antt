@@ -19,7 +19,7 @@ use Rattle.teg_commands.specs.declared.outcome.Verdict.TheVariants.{Done as Verd
 use Rattle.teg_commands.specs.CommandOutcomes.{TellsWhy}
 use Rattle.teg_report.specs.FileRows.{IsLogKept, log_line, refused_lines, replayed_lines}
 use Rattle.teg_report.specs.teg_text.Lines.{written}
-use Rattle.teg_report.specs.Widths.{IsWord32, IsWord64}
+use Rattle.teg_report.specs.teg_lines.Widths.{IsWord32, IsWord64}
 
 -- the first fault of the log is said
 abbrev pub SaysBadLog : NetLists → List ℕ → Verdict → List ℕ → Type 0

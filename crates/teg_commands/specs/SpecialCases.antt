@@ -6,7 +6,7 @@ use Rattle.teg_net.specs.declared.answers.CycleAnswer.{CycleAnswer}
 use Rattle.teg_net.specs.GreatestRatios.{HasNoCircuit, IsAnyPlace}
 use Rattle.teg_net.specs.Nets.{NetLists, IsNet}
 use Rattle.teg_report.specs.declared.answer.Which.TheVariants.{Due as DueFile, Timetable as TimetableFile}
-use Rattle.teg_report.specs.RoundLines.{RoundLists}
+use Rattle.teg_report.specs.teg_lines.RoundLines.{RoundLists}
 use Rattle.teg_report.specs.teg_text.Lines.{written}
 use Rattle.teg_timetable.specs.TimetableTexts.{LongFileTold, UnreadFileTold, told_lines}
 use Rattle.teg_commands.specs.declared.outcome.Verdict.{Verdict}

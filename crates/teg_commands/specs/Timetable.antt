@@ -35,11 +35,15 @@ EndsUnspread (Unworkable place) verdict = verdict ≡ VerdictSchedule
 EndsUnspread (TooLong limit) verdict = verdict ≡ VerdictTooLong
 EndsUnspread OutOfMemory verdict = ⊥
 
+-- it is told why it is not said how delays spread
+abbrev pub TellsUnspread : NetLists → DelayRefusal → Verdict → List ℕ → Type 0
+TellsUnspread net refusal verdict text =
+    EndsUnspread refusal verdict × IfSome (delay_told refusal) (IsTimetableTold net) × IsTimetableText net (delay_told refusal) text
+
 -- of a timetable is said why it is not told how its delays spread
 abbrev pub SaysUnspread : ℕ → Option ℕ → NetLists → Timetable → Verdict → List ℕ → Type 0
 SaysUnspread period limit net table verdict text =
-    (refusal : DelayRefusal) × EndsUnspread refusal verdict × IsDelayRefusal net period table limit refusal × IfSome (delay_told refusal) (IsTimetableTold net)
-    × IsTimetableText net (delay_told refusal) text
+    (refusal : DelayRefusal) × IsDelayRefusal net period table limit refusal × TellsUnspread net refusal verdict text
 
 -- of a timetable is said how its delays spread, or why not
 abbrev pub SaysDelays : ℕ → Option ℕ → NetLists → Timetable → Verdict → List ℕ → Type 0

@@ -29,7 +29,8 @@ use Rattle.teg_outside.specs.Monitors.{IsOneLine}
 use Rattle.teg_replay.specs.declared.replayed.Refused.{Refused as RefusedRow}
 use Rattle.teg_replay.specs.declared.replayed.Replayed.{Replayed as Replay}
 use Rattle.teg_replay.specs.Replays.{IsReplayOf}
-use Rattle.teg_report.specs.AnswerMeanings.{cycle_lists, late_lists, round_lists}
+use Rattle.teg_report.specs.AnswerMeanings.{late_lists}
+use Rattle.teg_report.specs.teg_lines.CycleMeanings.{cycle_lists, round_lists}
 use Rattle.teg_report.specs.AnswerValues.{Listed, Form, Cycle, Dates, Date, Jit, Late, Slack, Transfer, Replayed, Refused, Trial, NoTransition, Due, Log, Parse, Series}
 use Rattle.teg_report.specs.declared.answer.Failure.{Failure}
 use Rattle.teg_report.specs.FileRows.{IsDueKept, IsLogKept}
@@ -38,13 +39,13 @@ use Rattle.teg_report.specs.KeptAnswers.{IsAnswerTold}
 use Rattle.teg_report.specs.Reports.{text_of}
 use Rattle.teg_report.specs.teg_model.Datings.{IsLeastDating}
 use Rattle.teg_report.specs.PlanLines.{AreLatestKept, IsLateKept}
-use Rattle.teg_report.specs.RoundLines.{IsRunKept}
+use Rattle.teg_report.specs.teg_lines.RoundLines.{IsRunKept}
 use Rattle.teg_report.specs.Series.{IsParseKept, IsSeriesRefusalKept}
 use Rattle.teg_report.specs.SettledTexts.{TimesFrom, AreTimesKept, IsSettledKept}
 use Rattle.teg_report.specs.SlackLines.{IsRatioKept, IsSlackKept, IsTrialKept}
 use Rattle.teg_report.specs.teg_text.Lines.{written}
 use Rattle.teg_report.specs.teg_text.ValueWords.{AreBytes, IsDate}
-use Rattle.teg_report.specs.Widths.{IsWord32, IsWord64}
+use Rattle.teg_report.specs.teg_lines.Widths.{IsWord32, IsWord64}
 use Rattle.teg_sizing.specs.SizingTexts.{SaidSizing, IsSizingSaid, said_lines}
 use Rattle.teg_timetable.specs.TimetableTexts.{ToldTimetable, IsTimetableTold, told_lines}
 use Rattle.teg_commands.specs.declared.outcome.Verdict.{Verdict}

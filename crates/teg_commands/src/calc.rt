@@ -44,7 +44,7 @@ impl Expression {
         Ok(Expression { text })
     }
 
-    /// The text.
+    /// The text. It takes no memory.
     pub fn as_str(&self) -> &str
         ensures value { result.now ≡ self.now }
         ensures few { length result.now ≤ most_expression }

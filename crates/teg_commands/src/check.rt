@@ -2,13 +2,13 @@
 ghost use Rattle.teg_commands.specs.Check.{SaysCheck};
 ghost use Rattle.teg_commands.specs.CommandOutcomes.{Tells, outcome_of};
 
-use crate::live_net::LiveNet;
 use crate::outcome::{CommandOutcome, Verdict};
 use std::alloc::Global;
+use teg_check::LiveNet;
 use teg_net::OutOfMemory;
 use teg_report::{Answer, report};
 
-/// The size of a live net.
+/// That a net is live, and how many transitions and places it has (chapter 2).
 pub fn tell_check(alloc: Global, net: &LiveNet) -> Result<CommandOutcome, OutOfMemory>
     ensures { Tells (SaysCheck net.now) (outcome_of result) }
 {

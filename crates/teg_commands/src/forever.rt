@@ -7,12 +7,12 @@ ghost use Rattle.teg_commands.specs.CommandOutcomes.{Tells, TellsWhy, outcome_of
 ghost use Rattle.teg_forever.specs.EndlessTexts.{Faulty, IsFaultTold, answer_lines};
 ghost use Rattle.teg_forever.specs.LatestReleases.{ForeverRefused};
 
-use crate::live_net::LiveNet;
 use crate::outcome::{CommandOutcome, Verdict};
 use std::alloc::Global;
+use teg_check::LiveNet;
 use teg_forever::{
-    EndlessRefusal, EndlessRow, ForeverRefusal, endless_refusal_text, forever_refusal_text,
-    read_endless, releases_text,
+    EndlessRefusal, EndlessRow, ForeverRefusal, endless_refusal_text, forever,
+    forever_refusal_text, read_endless, releases_text,
 };
 use teg_net::OutOfMemory;
 
@@ -78,7 +78,7 @@ fn tell_endless(
     requires { IsEndlessOf net.now rows.now }
     ensures { Tells (SaysEndless net.now rows.now) (outcome_of result) }
 {
-    match net.releases(alloc, rows) {
+    match forever(alloc, net.net(), net.live(), rows) {
         Ok(releases) => {
             let text = releases_text(alloc, net.net(), &releases)?;
             Ok(CommandOutcome::told(Verdict::Done, text))
@@ -88,10 +88,10 @@ fn tell_endless(
 }
 
 /// The latest inputs of a live net by which the dates of a file of due dates without end are met,
-/// as a series for each input; or the first row that comes late whatever the inputs are, with its
-/// least late number; or the first input whose series are too long; or the first faulty row of the
-/// file. It takes the time of the search for the settled forms of the dates and of the times from
-/// each input.
+/// as a series for each input (chapter 5); or the first row that comes late whatever the inputs
+/// are, with its least late number; or the first input whose series are too long; or the first
+/// faulty row of the file. It takes the time of the search for the settled forms of the dates and
+/// of the times from each input.
 pub fn tell_forever(
     alloc: Global,
     net: &LiveNet,

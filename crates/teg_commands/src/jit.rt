@@ -8,12 +8,12 @@ ghost use Rattle.teg_due.specs.RowRules.{IsDueOf};
 ghost use Rattle.teg_jit.specs.LateRefusals.{LateIsRight};
 ghost use Rattle.teg_net.specs.Circuits.{IsLive};
 
-use crate::live_net::LiveNet;
 use crate::outcome::{CommandOutcome, Verdict};
 use due_laws::zero_inputs_meet;
 use std::alloc::Global;
+use teg_check::LiveNet;
 use teg_due::{Due, DueRefusal, read_due};
-use teg_jit::{JitRefusal, late_excludes_meet, plans_lead};
+use teg_jit::{JitRefusal, late_excludes_meet, latest_inputs, plans_lead};
 use teg_net::OutOfMemory;
 use teg_report::{Answer, report};
 
@@ -66,7 +66,7 @@ fn tell_latest(alloc: Global, net: &LiveNet, due: &Due) -> Result<CommandOutcome
     requires { IsDueOf net.now due.now.rows.items }
     ensures { Tells (SaysLatest net.now due.now.rows.items) (outcome_of result) }
 {
-    match net.latest(alloc, due) {
+    match latest_inputs(alloc, net.net(), net.live(), due) {
         Ok(plan) => {
             // The rules of the net, and that the steps of its plans lead to due firings.
             net.net().rules();
@@ -80,9 +80,9 @@ fn tell_latest(alloc: Global, net: &LiveNet, due: &Due) -> Result<CommandOutcome
 }
 
 /// The latest inputs of a live net by which the due dates of a due file are met, with the latest
-/// date of each firing; or the first row that comes late whatever the inputs are; or the first
-/// faulty row of the file. It takes time of order `N (n + p)` for numbers up to N, n transitions
-/// and p places, and `r log r` for r rows.
+/// date of each firing (chapter 5); or the first row that comes late whatever the inputs are; or
+/// the first faulty row of the file. It takes time of order `N (n + p)` for numbers up to N, n
+/// transitions and p places, and `r log r` for r rows.
 pub fn tell_jit(alloc: Global, net: &LiveNet, bytes: &[u8]) -> Result<CommandOutcome, OutOfMemory>
     requires { length bytes.now ≤ most_file_bytes }
     ensures { Tells (SaysJit net.now bytes.now) (outcome_of result) }

@@ -7,32 +7,36 @@ ghost use Rattle.teg_commands.specs.SpecialCases.{NoCircuitIsTold, RoundsFollowT
 use teg_howard::policy_runs_are_one;
 use teg_parts::parts_are_one;
 
-/// Of a net without a circuit `cycle` tells just that, with the rounds or without.
+/// The law that of a net without a circuit `cycle` tells just that, with the rounds or without. It
+/// does nothing when it runs.
 pub fn no_circuit_is_told()
     ensures { NoCircuitIsTold }
 {}
 
-/// Of a live net `cycle` with the rounds writes what it writes without them, and then the rounds.
+/// The law that of a live net `cycle` with the rounds writes what it writes without them, and then
+/// the rounds. It does nothing when it runs.
 pub fn rounds_follow_times()
     ensures { RoundsFollowTimes }
 {
+    // That a net has one split into parts, and each part one run of policy iteration.
     parts_are_one();
     policy_runs_are_one();
 }
 
-/// That a due file or a timetable is too long or cannot be read has the text of which the laws
-/// `texts_of_endless_differ` and `texts_of_timetables_differ` speak.
+/// The law that a due file or a timetable which is too long or cannot be read has the text of which
+/// the laws `texts_of_endless_differ` and `texts_of_timetables_differ` speak. It does nothing when
+/// it runs.
 pub fn unread_files_are_told()
     ensures { UnreadFilesAreTold }
 {}
 
-/// That the answers of the commands are told, by what these say of them: of `list`, `form`, `cycle`
-/// with the rounds or without, `dates`, `date`, `slack`, `transfer`, `jit`, `replay` and `trial`,
-/// and the refusals of due files, logs and expressions. So the law `answers_are_read` of
+/// The law that the answers of the commands are told, by what these say of them: of `list`, `form`,
+/// `cycle` with the rounds or without, `dates`, `date`, `slack`, `transfer`, `jit`, `replay` and
+/// `trial`, and the refusals of due files, logs and expressions. So the law `answers_are_read` of
 /// `teg_report` holds of them: each is read back from the bytes that are written, and other answers
 /// about the net have other bytes. What `size`, `forever`, `timetable` and `bound` say is told in
 /// the sense of the laws `texts_of_sizings_differ`, `texts_of_endless_differ`,
-/// `texts_of_timetables_differ` and `texts_of_bounds_differ`.
+/// `texts_of_timetables_differ` and `texts_of_bounds_differ`. It does nothing when it runs.
 pub fn answers_of_commands_are_told()
     ensures { AnswersOfCommandsAreTold }
 {}

@@ -9,10 +9,15 @@
 //! monitors.
 //! Its examples stand in `worked_examples`.
 //!
-//! [`LiveNet`] holds a net and its ranks. The numbers and the text that commands take are types
-//! with their bounds: [`UpTo`] is a number from 1 on, [`Target`] a time of at most 10^12 to tokens
-//! from 1 to 10^6, [`Expression`] a text of at most 4,096 bytes. Each case of what a command says
-//! has its cause, so no two hold of one net.
+//! Each command takes the allocator first, and answers `OutOfMemory` only where no memory is found.
+//! Dates and holding times are whole numbers in the user's unit, firings are numbered from 1.
+//!
+//! A command takes its net as `teg_check::LiveNet`, a net with its ranks, and asks the crates that
+//! answer by both. The numbers and the text that commands take are types with their bounds:
+//! `teg_net::UpTo` is a number from 1 on, of which [`Count`], [`Limit`], [`Period`] and
+//! [`Machines`] are named here, [`Target`] a time of at most 10^12 to tokens from 1 to 10^6,
+//! [`Expression`] a text of at most 4,096 bytes. Each case of what a command says has its cause, so
+//! no two hold of one net.
 #![tactic(auto)]
 
 mod bound;
@@ -24,7 +29,6 @@ mod forever;
 mod form;
 mod jit;
 mod laws;
-mod live_net;
 mod migrate;
 mod numbers;
 mod outcome;
@@ -46,11 +50,9 @@ pub use jit::tell_jit;
 pub use laws::{
     answers_of_commands_are_told, no_circuit_is_told, rounds_follow_times, unread_files_are_told,
 };
-pub use live_net::LiveNet;
 pub use migrate::tell_migrate;
 pub use numbers::{
-    Count, FiringNumber, GREATEST_TARGET_TIME, Limit, MOST_TARGET_TOKENS, Machines, Period, Target,
-    UpTo,
+    Count, GREATEST_TARGET_TIME, Limit, MOST_TARGET_TOKENS, Machines, Period, Target,
 };
 pub use outcome::{CommandOutcome, Verdict};
 pub use replay::tell_replay;

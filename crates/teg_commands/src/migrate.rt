@@ -2,9 +2,9 @@
 ghost use Rattle.teg_commands.specs.Migrate.{SaysMigrate};
 ghost use Rattle.teg_commands.specs.CommandOutcomes.{Tells, outcome_of};
 
-use crate::live_net::LiveNet;
 use crate::outcome::{CommandOutcome, Verdict};
 use std::alloc::Global;
+use teg_check::LiveNet;
 use teg_net::OutOfMemory;
 use teg_reader::write_net;
 

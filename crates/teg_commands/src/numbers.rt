@@ -4,43 +4,7 @@ ghost use Rattle.teg_net.specs.Limits.{greatest_target_time, most_target_tokens}
 ghost use Rattle.teg_settle.specs.LimitRefusals.{greatest_limit};
 
 use std::marker::Model;
-use teg_net::GREATEST_FIRING_NUMBER;
-
-/// A number from 1 to `MOST`. Contracts see the number.
-#[derive(Debug, Drop)]
-pub struct UpTo<const MOST: u64> {
-    number: u64,
-}
-
-impl<const MOST: u64> Model for UpTo<MOST> {
-    ghost use Rattle.std.specs.Prelude.{ℕ, ◌≤◌};
-
-    ghost Value = { ℕ };
-
-    ghost view = { λ n. n.number };
-
-    ghost invariant = { λ n. (1 ≤ n.number) × (n.number ≤ MOST) };
-}
-
-impl<const MOST: u64> UpTo<MOST> {
-    /// This number.
-    pub fn new(number: u64) -> UpTo<MOST>
-        requires first { 1 ≤ number }
-        requires last { number ≤ MOST }
-        ensures { result ≡ number }
-    {
-        UpTo { number }
-    }
-
-    /// The number.
-    pub fn get(&self) -> u64
-        ensures value { result ≡ self.now }
-        ensures first { 1 ≤ result }
-        ensures last { result ≤ MOST }
-    {
-        self.number
-    }
-}
+use teg_net::UpTo;
 
 // The most firing numbers that a list has.
 const MOST_NUMBERS: u64 = 10_000;
@@ -56,9 +20,6 @@ const MOST_MACHINES: u64 = 400;
 
 /// How many firing numbers a list has, from 1 to 10,000.
 pub type Count = UpTo<MOST_NUMBERS>;
-
-/// The number of a firing, from 1 to 10^18.
-pub type FiringNumber = UpTo<GREATEST_FIRING_NUMBER>;
 
 /// The greatest length that a settled form may have, from 1 to 200,000.
 pub type Limit = UpTo<GREATEST_LIMIT>;

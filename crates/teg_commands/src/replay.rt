@@ -7,9 +7,9 @@ ghost use Rattle.teg_commands.specs.Replay.{CanTellRefusal, IsToldAs, SaysEnd, S
 ghost use Rattle.teg_due.specs.RowRules.{IsLogOf};
 ghost use Rattle.teg_report.specs.FileRows.{IsFailureIn, IsLogKept, log_line};
 
-use crate::live_net::LiveNet;
 use crate::outcome::{CommandOutcome, Verdict};
 use std::alloc::Global;
+use teg_check::LiveNet;
 use teg_due::{LogRefusal, LogRow, read_log};
 use teg_net::OutOfMemory;
 use teg_outside::Monitor;
@@ -128,47 +128,45 @@ fn tell_seen(
     tell_end(alloc, net, replayed, lines.as_slice())
 }
 
-// How the rows of a log are replayed, and the monitors, which saw it.
+// How the rows of a log are replayed, which the monitors see.
 fn tell_run(
     alloc: Global,
     net: &LiveNet,
     rows: &[LogRow],
-    mut monitors: Vec<Box<dyn Monitor>>,
-) -> (Result<CommandOutcome, OutOfMemory>, Vec<Box<dyn Monitor>>)
+    monitors: &mut [Box<dyn Monitor>],
+) -> Result<CommandOutcome, OutOfMemory>
     requires few { length rows.now ≤ most_file_bytes }
     requires rows { IsLogOf net.now rows.now }
-    ensures says { Tells (SaysRun (lines_by line_text monitors.items) net.now rows.now)
-        (outcome_of result.0) }
-    ensures shown { ShowsRun net.now rows.now (lines_by line_text monitors.items)
-        (lines_by line_text result.1.items) (is_ok result.0) }
+    ensures says { Tells (SaysRun (lines_by line_text monitors.old) net.now rows.now)
+        (outcome_of result) }
+    ensures shown { ShowsRun net.now rows.now (lines_by line_text monitors.old)
+        (lines_by line_text monitors.new) (is_ok result) }
 {
-    let run = replay(alloc, net.net(), rows, &mut monitors);
-    let seen = monitors.as_slice();
-    match run {
-        Ok(replayed) => (tell_seen(alloc, net, &replayed, seen), monitors),
-        Err(_) => (Err(OutOfMemory), monitors),
+    match replay(alloc, net.net(), rows, monitors) {
+        Ok(replayed) => tell_seen(alloc, net, &replayed, monitors),
+        Err(_) => Err(OutOfMemory),
     }
 }
 
-/// How the log of a recorded run is replayed on a live net: how many firings it has, or its first
-/// faulty row, or the first row that the net does not allow. After a replay the line of each
-/// monitor follows. The monitors come back: they were shown just the accepted firings, in order,
-/// each once, those of some first rows where no memory was found. It takes time of the order of the
-/// log and, for each row, of the places into its transition.
+/// How the log of a recorded run is replayed on a live net by the token game (chapter 2): how many
+/// firings it has, or its first faulty row, or the first row that the net does not allow. After a
+/// replay the line of each monitor follows. The monitors are shown just the accepted firings, in
+/// order, each once, those of some first rows where no memory is found. It takes time of the order
+/// of the log and, for each row, of the places into its transition.
 pub fn tell_replay(
     alloc: Global,
     net: &LiveNet,
     bytes: &[u8],
-    monitors: Vec<Box<dyn Monitor>>,
-) -> (Result<CommandOutcome, OutOfMemory>, Vec<Box<dyn Monitor>>)
+    monitors: &mut [Box<dyn Monitor>],
+) -> Result<CommandOutcome, OutOfMemory>
     requires { length bytes.now ≤ most_file_bytes }
-    ensures says { Tells (SaysReplay (lines_by line_text monitors.items) net.now bytes.now)
-        (outcome_of result.0) }
-    ensures shown { ShowsReplay net.now bytes.now (lines_by line_text monitors.items)
-        (lines_by line_text result.1.items) (is_ok result.0) }
+    ensures says { Tells (SaysReplay (lines_by line_text monitors.old) net.now bytes.now)
+        (outcome_of result) }
+    ensures shown { ShowsReplay net.now bytes.now (lines_by line_text monitors.old)
+        (lines_by line_text monitors.new) (is_ok result) }
 {
     match read_log(alloc, net.net(), bytes) {
         Ok(rows) => tell_run(alloc, net, rows.as_slice(), monitors),
-        Err(refusal) => (refuse_log(alloc, &refusal), monitors),
+        Err(refusal) => refuse_log(alloc, &refusal),
     }
 }

@@ -4,12 +4,12 @@ ghost use Rattle.teg_commands.specs.CommandOutcomes.{Tells, outcome_of};
 ghost use Rattle.teg_commands.specs.Size.{SaysSize, SaysSizeOf, TellsNoPlace};
 ghost use Rattle.teg_sizing.specs.ValueRounds.{IsTarget};
 
-use crate::live_net::LiveNet;
 use crate::numbers::Target;
 use crate::outcome::{CommandOutcome, Verdict};
 use std::alloc::Global;
+use teg_check::LiveNet;
 use teg_net::{OutOfMemory, PlaceId, Ratio};
-use teg_sizing::{no_place_text, sizing_text};
+use teg_sizing::{no_place_text, size, sizing_text};
 
 // The answer about this place, and its text.
 fn tell_size_of(
@@ -22,7 +22,7 @@ fn tell_size_of(
     requires target { IsTarget target }
     ensures { Tells (SaysSizeOf place target net.now) (outcome_of result) }
 {
-    let sizing = net.sizing(alloc, place, &target)?;
+    let sizing = size(alloc, net.net(), net.live(), place, &target)?;
     let text = sizing_text(alloc, net.net(), place, &target, &sizing)?;
     Ok(CommandOutcome::told(Verdict::Done, text))
 }
@@ -36,8 +36,8 @@ fn tell_no_place(alloc: Global, word: &str) -> Result<CommandOutcome, OutOfMemor
 }
 
 /// The fewest further tokens of the place of this name with which no circuit of a live net has a
-/// greater ratio than the target, told in lowest terms, with a circuit that shows it; or that no
-/// place has the name. It takes time of order n p for n transitions and p places.
+/// greater ratio than the target (chapter 3), told in lowest terms, with a circuit that shows it;
+/// or that no place has the name. It takes time of order n p for n transitions and p places.
 pub fn tell_size(
     alloc: Global,
     net: &LiveNet,

@@ -3,19 +3,19 @@ ghost use Rattle.std.specs.Prelude.{◌≡◌, ◌≤◌, IfNone, IfSome, length
 ghost use Rattle.teg_report.specs.csv_records.Records.{most_file_bytes};
 ghost use Rattle.teg_timetable.specs.delay_laws.PlannedTimetables.{IsTableOf};
 ghost use Rattle.teg_commands.specs.CommandOutcomes.{Tells, outcome_of};
-ghost use Rattle.teg_commands.specs.Timetable.{EndsUnspread, SaysDelays, SaysTimetable, SaysUnspread, TellsBadTable};
+ghost use Rattle.teg_commands.specs.Timetable.{EndsUnspread, SaysDelays, SaysTimetable, TellsBadTable, TellsUnspread};
 ghost use Rattle.teg_settle.specs.LimitRefusals.{greatest_limit};
-ghost use Rattle.teg_timetable.specs.DelayAnswers.{IsDelayRefusal};
+ghost use Rattle.teg_timetable.specs.DelayAnswers.{IsDelayRefusalIn};
 ghost use Rattle.teg_timetable.specs.Spreads.{greatest_period};
 ghost use Rattle.teg_timetable.specs.TimetableFiles.{IsTableRefusalIn};
 
-use crate::live_net::LiveNet;
 use crate::numbers::{Limit, Period, most_of};
 use crate::outcome::{CommandOutcome, Verdict};
 use std::alloc::Global;
+use teg_check::LiveNet;
 use teg_net::OutOfMemory;
 use teg_timetable::{
-    DelayRefusal, TableRefusal, Timetable, delay_refusal_text, read_timetable, spread_text,
+    DelayRefusal, TableRefusal, Timetable, delay_refusal_text, read_timetable, spread, spread_text,
     table_refusal_text,
 };
 
@@ -49,13 +49,10 @@ fn verdict_of(refusal: &DelayRefusal) -> Option<Verdict>
 fn tell_unspread(
     alloc: Global,
     net: &LiveNet,
-    period: u64,
-    table: &Timetable,
-    limit: Option<u32>,
     refusal: &DelayRefusal,
 ) -> Result<CommandOutcome, OutOfMemory>
-    requires { IsDelayRefusal net.now period table.now limit refusal.now }
-    ensures { Tells (SaysUnspread period limit net.now table.now) (outcome_of result) }
+    requires { IsDelayRefusalIn net.now refusal.now }
+    ensures { Tells (TellsUnspread net.now refusal.now) (outcome_of result) }
 {
     let Some(verdict) = verdict_of(refusal) else {
         return Err(OutOfMemory);
@@ -78,12 +75,12 @@ fn tell_delays(
     requires limit { IfSome limit (λ most. most ≤ greatest_limit) }
     ensures { Tells (SaysDelays period limit net.now table.now) (outcome_of result) }
 {
-    match net.spread(alloc, period, table, limit) {
+    match spread(alloc, net.net(), net.live(), period, table, limit) {
         Ok(delayed) => {
             let text = spread_text(alloc, net.net(), &delayed)?;
             Ok(CommandOutcome::told(Verdict::Done, text))
         }
-        Err(refusal) => tell_unspread(alloc, net, period, table, limit, &refusal),
+        Err(refusal) => tell_unspread(alloc, net, &refusal),
     }
 }
 

@@ -8,13 +8,13 @@ ghost use Rattle.teg_net.specs.Nets.{IsInput};
 ghost use Rattle.teg_report.specs.AnswerMeanings.{times_from, times_to};
 ghost use Rattle.teg_settle.specs.LimitRefusals.{IsRightSettleRefusal, greatest_limit};
 
-use crate::live_net::LiveNet;
 use crate::numbers::Limit;
 use crate::outcome::{CommandOutcome, Verdict};
 use std::alloc::{AllocError, Global};
+use teg_check::LiveNet;
 use teg_net::{Net, OutOfMemory, Role, TransitionId};
 use teg_report::{Answer, TransferFrom, TransferLine, report};
-use teg_settle::{SettleRefusal, Settled};
+use teg_settle::{SettleRefusal, Settled, transfer};
 
 // Puts something at the end of a list.
 fn keep<T: Drop>(list: &mut Vec<T>, item: T) -> Result<(), AllocError>
@@ -89,7 +89,7 @@ fn times_from(
     ensures times { IfOk result (λ from. IsTimesFrom net.now limit (times_from from)) }
     ensures too_long { IfErr result (IsRightSettleRefusal (TimesSettlePast net.now limit) limit) }
 {
-    let settled = net.transfer(alloc, input, limit)?;
+    let settled = transfer(alloc, net.net(), net.live(), input, limit)?;
     let lines = times_to_all(alloc, &settled, outputs)?;
     Ok(TransferFrom {
         from: input,
@@ -136,8 +136,8 @@ fn tell_too_long(
 }
 
 /// The greatest times of walks from the first firing of each input of a live net to the firings of
-/// each output, as the shortest settled form over all transitions; or that such a form is longer
-/// than the limit. It takes the time of the search for a form for each input.
+/// each output, as the shortest settled form over all transitions (chapter 5); or that such a form
+/// is longer than the limit. It takes the time of the search for a form for each input.
 pub fn tell_transfer(
     alloc: Global,
     net: &LiveNet,

@@ -10,14 +10,16 @@ ghost use Rattle.trial_net.specs.Trials.{trial};
 ghost use Rattle.teg_net.specs.Circuits.{IsLive};
 ghost use Rattle.teg_net.specs.Limits.{most_places};
 
-use crate::live_net::LiveNet;
+use crate::cycle::cycle_times;
 use crate::numbers::Machines;
 use crate::outcome::{CommandOutcome, Verdict};
-use crate::slack::best_ratio;
+use crate::slack::{best_ratio, slacks_by};
 use std::alloc::Global;
-use teg_check::ranks_of;
+use teg_check::LiveNet;
 use teg_critical::{Slack, Slacks};
+use teg_dates::first_dates;
 use teg_net::{CycleAnswer, Net, OutOfMemory, PlaceId, Ratio, TransitionId};
+use teg_parts::split;
 use teg_report::{Answer, report};
 use trial_net::make_trial;
 
@@ -39,32 +41,33 @@ fn critical_count(slacks: &Slacks, places: u32) -> u32
     count
 }
 
-// A net that is live, with its ranks.
+// A net that is live, with its ranks. It is refused for want of memory alone.
 fn with_ranks(alloc: Global, net: Net) -> Result<LiveNet, OutOfMemory>
     requires { IsLive net }
     ensures { IfOk result (λ live. live ≡ net) }
 {
-    let live = ranks_of(alloc, &net)?;
-    Ok(LiveNet::new(net, live))
+    match LiveNet::new(alloc, net) {
+        Ok(live) => Ok(live),
+        Err(_) => Err(OutOfMemory),
+    }
 }
 
 // What is told of the line with these slacks and this greatest ratio.
 fn tell_line(
     alloc: Global,
-    machines: u32,
+    machines: &Machines,
     net: &LiveNet,
     ratio: &Ratio,
     slacks: &Slacks,
 ) -> Result<CommandOutcome, OutOfMemory>
-    requires some { 1 ≤ machines }
-    requires few { machines ≤ 400 }
-    requires net { net.now ≡ trial machines }
+    requires net { net.now ≡ trial machines.now }
     requires ratio { IsBestRatio net.now ratio.now }
     requires slacks { AreSlacks net.now ratio.now slacks.now }
     requires each { length slacks.now ≡ length net.now.places }
-    ensures { Tells (SaysTrial machines) (outcome_of result) }
+    ensures { Tells (SaysTrial machines.now) (outcome_of result) }
 {
-    let table = net.first_dates(alloc, NUMBER)?;
+    let machines = machines.get() as u32;
+    let table = first_dates(alloc, net.net(), net.live(), NUMBER)?;
     let last = TransitionId {
         index: machines - 1,
     };
@@ -84,21 +87,20 @@ fn tell_line(
 // What is told of the line by the cycle times of its net.
 fn tell_answer(
     alloc: Global,
-    machines: u32,
+    machines: &Machines,
     net: &LiveNet,
     answer: &CycleAnswer,
 ) -> Result<CommandOutcome, OutOfMemory>
-    requires some { 1 ≤ machines }
-    requires few { machines ≤ 400 }
-    requires net { net.now ≡ trial machines }
+    requires some { 1 ≤ machines.now }
+    requires net { net.now ≡ trial machines.now }
     requires answer { IsCycleAnswer net.now answer.now }
     requires certificate { IsCertificate net.now answer.now }
-    ensures { Tells (SaysTrial machines) (outcome_of result) }
+    ensures { Tells (SaysTrial machines.now) (outcome_of result) }
 {
     let Some(ratio) = best_ratio(net, answer) else {
         unreachable!()
     };
-    let slacks = net.slacks(alloc, answer)?;
+    let slacks = slacks_by(alloc, net, answer)?;
     tell_line(alloc, machines, net, &ratio, &slacks)
 }
 
@@ -107,27 +109,30 @@ fn answer_of(alloc: Global, net: &LiveNet) -> Result<CycleAnswer, OutOfMemory>
     ensures answer { IfOk result (λ answer. IsCycleAnswer net.now answer) }
     ensures certificate { IfOk result (λ answer. IsCertificate net.now answer) }
 {
-    let parts = net.parts(alloc)?;
-    net.cycle(alloc, &parts)
+    let parts = split(alloc, net.net())?;
+    cycle_times(alloc, net, &parts)
 }
 
 // What is told of the line, by its net.
-fn tell_net(alloc: Global, machines: u32, net: &LiveNet) -> Result<CommandOutcome, OutOfMemory>
-    requires some { 1 ≤ machines }
-    requires few { machines ≤ 400 }
-    requires net { net.now ≡ trial machines }
-    ensures { Tells (SaysTrial machines) (outcome_of result) }
+fn tell_net(
+    alloc: Global,
+    machines: &Machines,
+    net: &LiveNet,
+) -> Result<CommandOutcome, OutOfMemory>
+    requires some { 1 ≤ machines.now }
+    requires net { net.now ≡ trial machines.now }
+    ensures { Tells (SaysTrial machines.now) (outcome_of result) }
 {
     let answer = answer_of(alloc, net)?;
     tell_answer(alloc, machines, net, &answer)
 }
 
 /// The cycle time of the line of so many machines, how many of its places are critical, and the
-/// date of the 1,000th firing of its last machine.
+/// date of the 1,000th firing of its last machine. It takes the time of policy iteration on its net
+/// and of 1,000 rows of dates.
 pub fn tell_trial(alloc: Global, machines: Machines) -> Result<CommandOutcome, OutOfMemory>
     ensures { Tells (SaysTrial machines) (outcome_of result) }
 {
-    let machines = machines.get() as u32;
-    let net = with_ranks(alloc, make_trial(alloc, machines)?)?;
-    tell_net(alloc, machines, &net)
+    let net = with_ranks(alloc, make_trial(alloc, machines.get() as u32)?)?;
+    tell_net(alloc, &machines, &net)
 }

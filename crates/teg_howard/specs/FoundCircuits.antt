@@ -5,7 +5,6 @@ use Rattle.teg_net.specs.Nets.{NetLists, IsNet}
 use Rattle.teg_net.specs.Circuits.{IsCircuit, time_of, tokens_of, from_of}
 use Rattle.teg_howard.specs.declared.policy_circuits.FoundCircuit.{FoundCircuit}
 use Rattle.teg_net.specs.Ratios.{Fraction, IsRatioOf}
-use Rattle.teg_net.specs.declared.rounds.Round.{Round}
 use Rattle.teg_net.specs.declared.rounds.Choice.{Choice}
 use Rattle.teg_howard.specs.declared.settling.RoundState.{RoundState}
 use Rattle.teg_parts.specs.Partitions.{AreStrong}
@@ -20,6 +19,12 @@ use Rattle.teg_howard.specs.PolicyRounds.{IsLowestInto, choice_of_member}
 -- the policy that a list gives by transition
 abbrev pub policy_of : List PlaceId → Policy
 policy_of ps t = slice_index_or ps t first_id
+
+-- the list gives a policy of places of the net
+pub record ListsPolicy (net : NetLists) (parts : List ℕ) (part : ℕ) (ps : List PlaceId) : Type 0 where
+  pub count : length ps ≡ length parts
+  pub is_policy : IsPolicy net parts part (policy_of ps)
+  pub in_range : All (λ p. p.index < length net.places) ps
 
 -- the list gives each transition its lowest numbered place of the part, and place 0 where none enters it
 pub record AreLowest (net : NetLists) (parts : List ℕ) (part : ℕ) (ps : List PlaceId) : Type 0 where
@@ -114,11 +119,11 @@ pub record ListsChoices (parts : List ℕ) (part : ℕ) (cs : List Choice) : Typ
   pub order : AllPairs (λ c d. c.transition.index < d.transition.index) cs
   pub all : (t : ℕ) → IsMember parts part t → choice_of_member cs t ≢ None
 
--- a round that has the places and the values of the members
-pub record IsRoundMade (parts : List ℕ) (part : ℕ) (policy : Policy) (values : List (Option ℤ)) (r : Round) : Type 0 where
-  pub lists : ListsChoices parts part r.choices.items
-  pub inside : (t : ℕ) → IsMember parts part t → choice_of_member r.choices.items t ≡ Some (record { transition = record { index = t }; place = policy t; value = value_or_zero (value_held values t) })
-  pub outside : (t : ℕ) → (IsMember parts part t → ⊥) → choice_of_member r.choices.items t ≡ None
+-- choices that have the places and the values of the members
+pub record AreChoicesMade (parts : List ℕ) (part : ℕ) (policy : Policy) (values : List (Option ℤ)) (cs : List Choice) : Type 0 where
+  pub lists : ListsChoices parts part cs
+  pub inside : (t : ℕ) → IsMember parts part t → choice_of_member cs t ≡ Some (record { transition = record { index = t }; place = policy t; value = value_or_zero (value_held values t) })
+  pub outside : (t : ℕ) → (IsMember parts part t → ⊥) → choice_of_member cs t ≡ None
 
 -- what `settle` needs of a policy and one of its circuits
 pub record CanSettle (net : NetLists) (parts : List ℕ) (part : ℕ) (policy : List PlaceId) (r : Fraction) (c : List PlaceId) : Type 0 where
@@ -151,7 +156,7 @@ pub record AreRouted (net : NetLists) (parts : List ℕ) (part : ℕ) (policy ro
 pub record IsSettled (net : NetLists) (parts : List ℕ) (part : ℕ) (policy routed : List PlaceId) (r : Fraction) (c : List PlaceId) (s : RoundState) : Type 0 where
   pub ratio : s.round.ratio ≡ r
   pub circuit : s.round.circuit.places.items ≡ c
-  pub made : IsRoundMade parts part (policy_of routed) s.values.items s.round
+  pub made : AreChoicesMade parts part (policy_of routed) s.values.items s.round.choices.items
   pub members : AreRouted net parts part policy routed r (first_transition_of net c) s.values.items
 
 -- what an offer to the transition has to exceed: the greatest so far, and before that its potential

@@ -4,7 +4,6 @@ use Rattle.teg_net.specs.declared.entries.PlaceId.{PlaceId}
 use Rattle.teg_net.specs.Nets.{NetLists}
 use Rattle.teg_net.specs.Circuits.{from_of}
 use Rattle.teg_net.specs.Parts.{IsPlaceOfPart}
-use Rattle.teg_howard.specs.declared.inside.InnerPlaces.{InnerPlaces}
 use Rattle.teg_howard.specs.Policies.{first_id}
 
 -- the list has each place of the part once, in order of number
@@ -25,6 +24,6 @@ pub record AreFirstExits (net : NetLists) (ids : List PlaceId) (exits : List ℕ
   pub first : (t : ℕ) → t < length exits → IsFirstExit net ids t (slice_index_or exits t 0)
 
 -- the places of the part, and for each transition the first of them that leaves it
-pub record AreInner (net : NetLists) (parts : List ℕ) (part : ℕ) (inner : InnerPlaces) : Type 0 where
-  pub lists : ListsPlaces net parts part inner.ids.items
-  pub exits : AreFirstExits net inner.ids.items inner.exits.items
+pub record AreInner (net : NetLists) (parts : List ℕ) (part : ℕ) (ids : List PlaceId) (ranks : List ℕ) : Type 0 where
+  pub lists : ListsPlaces net parts part ids
+  pub exits : AreFirstExits net ids ranks

@@ -85,7 +85,7 @@ IsLastRound net parts part r = (t : ℕ) (p : PlaceId) → Improves net parts pa
 
 -- the rounds stand at one that stands
 pub record IsIteration (net : NetLists) (parts : List ℕ) (part : ℕ) (at : Iteration) : Type 0 where
-  pub inner : AreInner net parts part at.inner
+  pub inner : AreInner net parts part at.inner.ids.items at.inner.exits.items
   pub standing : IsRoundState net parts part at.policy.items at.state
 
 -- they go on from the round before to the one that follows

@@ -1,10 +1,9 @@
 //! Where the circuits of a policy begin, by one walk that marks what it has passed.
-ghost use Rattle.std.specs.Prelude.{ℕ, ◌≡◌, ◌↔◌, ◌<◌, length, All, IsTrue, IfOk, IfSome, IfNone, Some};
-ghost use Rattle.teg_net.specs.Nets.{IsNet};
-ghost use Rattle.teg_howard.specs.Policies.{IsPolicy};
-ghost use Rattle.teg_howard.specs.FoundCircuits.{policy_of, IsOnPolicy};
+ghost use Rattle.std.specs.Prelude.{ℕ, ◌≡◌, ◌↔◌, ◌<◌, length, IsTrue, IfOk, IfSome, IfNone, Some};
+ghost use Rattle.teg_howard.specs.FoundCircuits.{policy_of, ListsPolicy, IsOnPolicy};
 ghost use Rattle.teg_howard.specs.CircuitStarts.{ComesAgain, IsLowestBack, HasWalkPassed, AreStarts, walk_at};
 
+use crate::inside::Part;
 use crate::steps::place_into;
 use std::alloc::{AllocError, Global};
 use teg_net::{Net, PlaceId};
@@ -84,23 +83,24 @@ fn fresh_end(
 // For each transition whether it is the lowest numbered one of a circuit of the policy.
 pub(crate) fn circuit_starts(
     alloc: Global,
-    net: &Net,
-    parts: &[u32],
-    part: u32,
+    part: &Part,
     policy: &[PlaceId],
 ) -> Result<Vec<bool>, AllocError>
-    requires kept { IsNet net.now }
-    requires parts { length parts.now ≡ length net.now.transitions }
-    requires count { length policy.now ≡ length parts.now }
-    requires policy { IsPolicy net.now parts.now part (policy_of policy.now) }
-    requires in_range { All (λ p. p.index < length net.now.places) policy.now }
-    ensures { IfOk result (λ starts. AreStarts net.now parts.now part (policy_of policy.now)
-        starts.items) }
+    requires { ListsPolicy part.now.net.now part.now.parts.now part.now.number policy.now }
+    ensures { IfOk result (λ starts. AreStarts part.now.net.now part.now.parts.now part.now.number
+        (policy_of policy.now) starts.items) }
 {
+    let Part {
+        net,
+        parts,
+        number,
+        ..
+    } = *part;
+    net.rules();
     let mut starts = vec![in alloc; false; parts.len()]?;
     let mut passed = vec![in alloc; None; parts.len()]?;
     for start in 0..parts.len() {
-        if parts[start] == part {
+        if parts[start] == number {
             if let Some(end) = fresh_end(net, policy, start, &mut passed) {
                 starts[lowest_back(net, policy, end)] = true;
             }

@@ -4,9 +4,10 @@ ghost use Rattle.std.specs.Prelude.{◌≡◌, ◌<◌, ◌++◌, ℕ, length, s
 ghost use Rattle.teg_howard.specs.FoundCircuits.{policy_of, IsFollower};
 ghost use Rattle.teg_howard.specs.Following.{AreFollowers, HasRootAlone, Followed, CanFollow, listed_member};
 
+use crate::inside::Part;
 use crate::offers::offer_from;
 use std::alloc::{AllocError, Global};
-use teg_net::{Net, PlaceId, Ratio};
+use teg_net::{PlaceId, Ratio};
 
 // The followers of each transition, the members whose policy places start there, but for the root:
 // the highest numbered one, and for each member the next lower one that has the same start.
@@ -19,22 +20,26 @@ pub(crate) struct Followers {
 // The followers of each transition, by one pass.
 fn link_followers(
     alloc: Global,
-    net: &Net,
-    parts: &[u32],
-    part: u32,
+    part: &Part,
     policy: &[PlaceId],
     root: usize,
 ) -> Result<Followers, AllocError>
-    requires count_parts { length parts.now ≡ length net.now.transitions }
-    requires count { length policy.now ≡ length parts.now }
-    requires in_range { All (λ p. p.index < length net.now.places) policy.now }
-    ensures { IfOk result (λ f. AreFollowers net.now parts.now part (policy_of policy.now) root f) }
+    requires count { length policy.now ≡ length part.now.parts.now }
+    requires in_range { All (λ p. p.index < length part.now.net.now.places) policy.now }
+    ensures { IfOk result (λ f. AreFollowers part.now.net.now part.now.parts.now part.now.number
+        (policy_of policy.now) root f) }
 {
+    let Part {
+        net,
+        parts,
+        number,
+        ..
+    } = *part;
     let places = net.places();
     let mut highest = vec![in alloc; None; parts.len()]?;
     let mut lower = vec![in alloc; None; parts.len()]?;
     for member in 0..parts.len() {
-        if parts[member] == part && member != root {
+        if parts[member] == number && member != root {
             let from = places[policy[member].index as usize].from.index as usize;
             lower[member] = highest[from];
             highest[from] = Some(member);
@@ -85,25 +90,23 @@ fn root_alone(alloc: Global, count: usize, root: usize) -> Result<Vec<Option<i12
 // elsewhere what the policy's place offers.
 pub(crate) fn follow(
     alloc: Global,
-    net: &Net,
-    parts: &[u32],
-    part: u32,
+    part: &Part,
     policy: &[PlaceId],
     ratio: Ratio,
     root: usize,
 ) -> Result<Vec<Option<i128>>, AllocError>
-    requires { CanFollow net.now parts.now part policy.now ratio root }
-    ensures followed { IfOk result (λ values. Followed net.now parts.now part ratio.time
-        ratio.tokens root (policy_of policy.now) values.items) }
-    ensures all { IfOk result (λ values. (t : ℕ) → IsFollower net.now parts.now part
-        (policy_of policy.now) values.items t → ⊥) }
+    requires { CanFollow part.now.net.now part.now.parts.now part.now.number policy.now ratio root }
+    ensures followed { IfOk result (λ values. Followed part.now.net.now part.now.parts.now
+        part.now.number ratio.time ratio.tokens root (policy_of policy.now) values.items) }
+    ensures all { IfOk result (λ values. (t : ℕ) → IsFollower part.now.net.now part.now.parts.now
+        part.now.number (policy_of policy.now) values.items t → ⊥) }
 {
-    let followers = link_followers(alloc, net, parts, part, policy, root)?;
-    let mut values = root_alone(alloc, parts.len(), root)?;
+    let followers = link_followers(alloc, part, policy, root)?;
+    let mut values = root_alone(alloc, part.parts.len(), root)?;
     let mut waiting = Vec::new(alloc);
     add(&mut waiting, followers.highest[root])?;
     'follow: while let Some(member) = waiting.pop() {
-        values[member] = Some(offer_from(net, ratio, &values, policy[member]));
+        values[member] = Some(offer_from(part.net, ratio, &values, policy[member]));
         add_followers(&mut waiting, &followers, member)?;
     }
     Ok(values)

@@ -1,4 +1,5 @@
-//! Which places lie in a part, and where in their list the first stands that leaves a transition.
+//! A part of a net with the places that lie in it, and where in their list the first stands that
+//! leaves a transition.
 ghost use Rattle.std.specs.Prelude.{◌≡◌, ◌<◌, ◌↔◌, length, IsTrue, IfOk};
 ghost use Rattle.teg_net.specs.Circuits.{AreInRange};
 ghost use Rattle.teg_net.specs.Parts.{IsMember};
@@ -14,6 +15,18 @@ use teg_net::{Net, Place, PlaceId};
 pub(crate) struct InnerPlaces {
     pub(crate) ids: Vec<PlaceId>,
     pub(crate) exits: Vec<usize>,
+}
+
+// A part of a net: the net, the number of each transition's part, that of this one, its places in
+// order of number, and for each transition the rank of the first of them that leaves it.
+#[derive(Debug, Drop)]
+pub(crate) struct Part<'a> {
+    pub(crate) net: &'a Net,
+    pub(crate) parts: &'a [u32],
+    pub(crate) number: u32,
+    pub(crate) ids: &'a [PlaceId],
+    pub(crate) exits: &'a [usize],
+    ghost count: { length parts.now ≡ length net.now.transitions },
 }
 
 // Whether both ends of the place lie in the part.
@@ -69,7 +82,8 @@ pub(crate) fn inner_places(
     part: u32,
 ) -> Result<InnerPlaces, AllocError>
     requires { length parts.now ≡ length net.now.transitions }
-    ensures { IfOk result (AreInner net.now parts.now part) }
+    ensures { IfOk result (λ inner. AreInner net.now parts.now part inner.ids.items
+        inner.exits.items) }
 {
     let ids = list_places(alloc, net, parts, part)?;
     let exits = first_exits(alloc, net, &ids)?;

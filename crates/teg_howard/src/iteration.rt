@@ -7,7 +7,7 @@ ghost use Rattle.teg_howard.specs.FoundCircuits.{AreLowest};
 ghost use Rattle.teg_howard.specs.InnerPlaces.{AreInner};
 ghost use Rattle.teg_howard.specs.RoundStates.{IsRoundState, HasCircuit, SettlesTo, IsFirstState, IsImproved, IsNextRoundState, IsLastRound, IsIteration, GoesOn, StaysAtLast};
 
-use crate::inside::{InnerPlaces, inner_places};
+use crate::inside::{InnerPlaces, Part, inner_places};
 use crate::policies::{improve, is_any, lowest_places};
 use crate::policy_circuits::best_circuit;
 use crate::settling::{RoundState, settle};
@@ -18,56 +18,50 @@ use teg_net::{Choice, Circuit, Net, PartAnswer, PlaceId, Potential, Ratio, Round
 // The ratio and the circuit of the first round, where each member takes its lowest numbered place.
 fn first_circuit(
     alloc: Global,
-    net: &Net,
-    parts: &[u32],
-    part: u32,
+    part: &Part,
     policy: &[PlaceId],
 ) -> Result<(Ratio, Vec<PlaceId>), AllocError>
-    requires circuit { HasCircuit net.now parts.now part }
-    requires lowest { AreLowest net.now parts.now part policy.now }
-    ensures { IfOk result (λ w. SettlesTo net.now parts.now part policy.now w.0 w.1.items
-        (IsFirstState net.now parts.now part)) }
+    requires circuit { HasCircuit part.now.net.now part.now.parts.now part.now.number }
+    requires lowest { AreLowest part.now.net.now part.now.parts.now part.now.number policy.now }
+    ensures { IfOk result (λ w. SettlesTo part.now.net.now part.now.parts.now part.now.number
+        policy.now w.0 w.1.items (IsFirstState part.now.net.now part.now.parts.now
+        part.now.number)) }
 {
-    let everywhere = vec![in alloc; true; parts.len()]?;
-    let found = best_circuit(alloc, net, parts, part, policy, &everywhere)?.unwrap();
+    let everywhere = vec![in alloc; true; part.parts.len()]?;
+    let found = best_circuit(alloc, part, policy, &everywhere)?.unwrap();
     Ok((Ratio::of(found.time, found.tokens), found.places))
 }
 
 // The first round: each member takes its lowest numbered place.
-fn first_state(
-    alloc: Global,
-    net: &Net,
-    parts: &[u32],
-    part: u32,
-    inner: &InnerPlaces,
-    policy: &mut [PlaceId],
-) -> Result<RoundState, AllocError>
-    requires inner { AreInner net.now parts.now part inner.now }
-    requires circuit { HasCircuit net.now parts.now part }
-    requires lowest { AreLowest net.now parts.now part policy.old }
-    ensures { IfOk result (IsFirstState net.now parts.now part policy.new) }
+fn first_state(alloc: Global, part: &Part, policy: &mut [PlaceId]) -> Result<RoundState, AllocError>
+    requires inner { AreInner part.now.net.now part.now.parts.now part.now.number part.now.ids.now
+        part.now.exits.now }
+    requires circuit { HasCircuit part.now.net.now part.now.parts.now part.now.number }
+    requires lowest { AreLowest part.now.net.now part.now.parts.now part.now.number policy.old }
+    ensures { IfOk result (IsFirstState part.now.net.now part.now.parts.now part.now.number
+        policy.new) }
 {
-    let (ratio, circuit) = first_circuit(alloc, net, parts, part, policy)?;
-    settle(alloc, net, parts, part, inner, policy, ratio, circuit)
+    let (ratio, circuit) = first_circuit(alloc, part, policy)?;
+    settle(alloc, part, policy, ratio, circuit)
 }
 
 // The ratio and the circuit of the next round: those of the better policy's best circuit through a
 // changed member, and where it has none those of the round before.
 fn next_circuit(
     alloc: Global,
-    net: &Net,
-    parts: &[u32],
-    part: u32,
+    part: &Part,
     state: &RoundState,
     policy: &[PlaceId],
     changed: &[bool],
 ) -> Result<(Ratio, Vec<PlaceId>), AllocError>
-    requires circuit { HasCircuit net.now parts.now part }
-    requires improved { IsImproved net.now parts.now part state.now policy.now changed.now }
-    ensures { IfOk result (λ w. SettlesTo net.now parts.now part policy.now w.0 w.1.items
-        (λ routed next. IsNextRoundState net.now parts.now part routed state.now next)) }
+    requires circuit { HasCircuit part.now.net.now part.now.parts.now part.now.number }
+    requires improved { IsImproved part.now.net.now part.now.parts.now part.now.number state.now
+        policy.now changed.now }
+    ensures { IfOk result (λ w. SettlesTo part.now.net.now part.now.parts.now part.now.number
+        policy.now w.0 w.1.items (λ routed next. IsNextRoundState part.now.net.now
+        part.now.parts.now part.now.number routed state.now next)) }
 {
-    match best_circuit(alloc, net, parts, part, policy, changed)? {
+    match best_circuit(alloc, part, policy, changed)? {
         Some(found) => Ok((Ratio::of(found.time, found.tokens), found.places)),
         None => {
             let circuit = state.round.circuit.places.clone()?;
@@ -79,37 +73,26 @@ fn next_circuit(
 // The round that follows, unless no place improves.
 fn next_state(
     alloc: Global,
-    net: &Net,
-    parts: &[u32],
-    part: u32,
-    inner: &InnerPlaces,
+    part: &Part,
     state: &RoundState,
     policy: &mut [PlaceId],
 ) -> Result<Option<RoundState>, AllocError>
-    requires inner { AreInner net.now parts.now part inner.now }
-    requires circuit { HasCircuit net.now parts.now part }
-    requires standing { IsRoundState net.now parts.now part policy.old state.now }
-    ensures some { IfOk result (λ o. IfSome o (λ next. IsNextRoundState net.now parts.now part
-        policy.new
-        state.now next)) }
-    ensures none { IfOk result (λ o. IfNone o (IsLastRound net.now parts.now part
-        state.now.round)) }
+    requires inner { AreInner part.now.net.now part.now.parts.now part.now.number part.now.ids.now
+        part.now.exits.now }
+    requires circuit { HasCircuit part.now.net.now part.now.parts.now part.now.number }
+    requires standing { IsRoundState part.now.net.now part.now.parts.now part.now.number policy.old
+        state.now }
+    ensures some { IfOk result (λ o. IfSome o (λ next. IsNextRoundState part.now.net.now
+        part.now.parts.now part.now.number policy.new state.now next)) }
+    ensures none { IfOk result (λ o. IfNone o (IsLastRound part.now.net.now part.now.parts.now
+        part.now.number state.now.round)) }
 {
-    let changed = improve(
-        alloc,
-        net,
-        parts,
-        part,
-        &inner.ids,
-        state.round.ratio,
-        &state.values,
-        policy,
-    )?;
+    let changed = improve(alloc, part, state.round.ratio, &state.values, policy)?;
     if !is_any(&changed) {
         return Ok(None);
     }
-    let (ratio, circuit) = next_circuit(alloc, net, parts, part, state, policy, &changed)?;
-    let next = settle(alloc, net, parts, part, inner, policy, ratio, circuit)?;
+    let (ratio, circuit) = next_circuit(alloc, part, state, policy, &changed)?;
+    let next = settle(alloc, part, policy, ratio, circuit)?;
     Ok(Some(next))
 }
 
@@ -155,7 +138,14 @@ fn begin(alloc: Global, net: &Net, parts: &[u32], part: u32) -> Result<Iteration
 {
     let inner = inner_places(alloc, net, parts, part)?;
     let mut policy = lowest_places(alloc, net, parts, part)?;
-    let state = first_state(alloc, net, parts, part, &inner, &mut policy)?;
+    let own = Part {
+        net,
+        parts,
+        number: part,
+        ids: &inner.ids,
+        exits: &inner.exits,
+    };
+    let state = first_state(alloc, &own, &mut policy)?;
     Ok(Iteration {
         inner,
         policy,
@@ -177,15 +167,14 @@ fn advance(
     ensures some { IfOk result (λ o. IfSome o (GoesOn net.now parts.now part at.old at.new)) }
     ensures none { IfOk result (λ o. IfNone o (StaysAtLast net.now parts.now part at.old at.new)) }
 {
-    match next_state(
-        alloc,
+    let own = Part {
         net,
         parts,
-        part,
-        &at.inner,
-        &at.state,
-        &mut at.policy,
-    )? {
+        number: part,
+        ids: &at.inner.ids,
+        exits: &at.inner.exits,
+    };
+    match next_state(alloc, &own, &at.state, &mut at.policy)? {
         Some(next) => {
             let RoundState {
                 round,

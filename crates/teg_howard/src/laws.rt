@@ -2,7 +2,8 @@
 //! law.
 ghost use Rattle.teg_howard.specs.OnePolicyRun.{PolicyRunsAreOne};
 
-/// A part of a live net has one policy run only: what two calls tell of it is the same.
+/// A part of a live net has one policy run only: what two calls tell of it is the same (chapter
+/// 3).
 pub fn policy_runs_are_one()
     ensures { PolicyRunsAreOne }
 {}

@@ -33,8 +33,9 @@ fn numbers_of(net: &Net, live: &Live, parts: &Parts, part: u32) -> Result<Vec<u3
 /// The rounds are the policy run of the part: each follows from the one before, no place improves
 /// the last, and in each step the pair of ratio and sum of potentials rises: the ratio where a
 /// better circuit is found, and else the sum. A part has one policy run only. The answer has the
-/// last round's ratio, circuit and potentials. Values stand for the net. It answers `OutOfMemory`
-/// only where no memory is found.
+/// last round's ratio, in the user's unit for a token, its circuit, and its potentials, in the
+/// user's unit times the tokens of the ratio. Values stand for the net. A round takes time of order
+/// n p at most, for n transitions and p places. `OutOfMemory` comes only where no memory is found.
 pub fn howard(
     alloc: Global,
     net: &Net,
@@ -57,9 +58,9 @@ pub fn howard(
     Ok(run)
 }
 
-/// The greatest ratio of a part that has a circuit, as `howard` gives it (chapter 3). One round is
-/// kept at a time: the answer is that of the last of the part's policy run. It answers
-/// `OutOfMemory` only where no memory is found.
+/// The greatest ratio of a part that has a circuit, as `howard` gives it (chapter 3), with its
+/// units and in its time. One round is kept at a time: the answer is that of the last of the part's
+/// policy run. `OutOfMemory` comes only where no memory is found.
 pub fn last_round(
     alloc: Global,
     net: &Net,

@@ -5,7 +5,7 @@ ghost use Rattle.teg_parts.specs.Components.{IsMarked};
 ghost use Rattle.teg_howard.specs.InnerPlaces.{ListsPlaces};
 ghost use Rattle.teg_howard.specs.FoundCircuits.{AreLowest, IsBar, CanImprove, IsBetterPolicy, value_held, potentials};
 
-use crate::inside::is_inside;
+use crate::inside::{Part, is_inside};
 use crate::offers::{end_of, offer_from};
 use std::alloc::{AllocError, Global};
 use teg_net::{Net, PlaceId, Ratio};
@@ -51,23 +51,27 @@ fn bar_of(values: &[Option<i128>], greatest: &[i128], changed: &[bool], member: 
 // it.
 pub(crate) fn improve(
     alloc: Global,
-    net: &Net,
-    parts: &[u32],
-    part: u32,
-    inner: &[PlaceId],
+    part: &Part,
     ratio: Ratio,
     values: &[Option<i128>],
     policy: &mut [PlaceId],
 ) -> Result<Vec<bool>, AllocError>
-    requires inner { ListsPlaces net.now parts.now part inner.now }
-    requires can { CanImprove net.now parts.now part ratio values.now policy.old }
-    ensures { IfOk result (λ changed. IsBetterPolicy net.now parts.now part ratio values.now
-        policy.old
-        policy.new changed.items) }
+    requires inner { ListsPlaces part.now.net.now part.now.parts.now part.now.number
+        part.now.ids.now }
+    requires can { CanImprove part.now.net.now part.now.parts.now part.now.number ratio values.now
+        policy.old }
+    ensures { IfOk result (λ changed. IsBetterPolicy part.now.net.now part.now.parts.now
+        part.now.number ratio values.now policy.old policy.new changed.items) }
 {
+    let Part {
+        net,
+        parts,
+        ids,
+        ..
+    } = *part;
     let mut greatest = vec![in alloc; 0i128; parts.len()]?;
     let mut changed = vec![in alloc; false; parts.len()]?;
-    for id in inner {
+    for id in ids {
         let member = end_of(net, *id);
         let offered = offer_from(net, ratio, values, *id);
         if offered > bar_of(values, &greatest, &changed, member) {

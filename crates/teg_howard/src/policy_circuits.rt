@@ -1,14 +1,14 @@
 //! The circuits of a policy, and the best of them.
-ghost use Rattle.std.specs.Prelude.{◌≡◌, ◌<◌, ◌↔◌, List, length, All, Any, IsTrue, IfOk, IfSome, IfNone, Some};
-ghost use Rattle.teg_net.specs.Nets.{IsNet};
+ghost use Rattle.std.specs.Prelude.{◌≡◌, ◌<◌, ◌↔◌, List, length, Any, IsTrue, IfOk, IfSome, IfNone, Some};
 ghost use Rattle.teg_net.specs.Circuits.{IsLive, AreInRange};
 ghost use Rattle.teg_net.specs.Parts.{to_of};
-ghost use Rattle.teg_howard.specs.Policies.{IsPolicy, IsPolicyCircuit};
+ghost use Rattle.teg_howard.specs.Policies.{IsPolicyCircuit};
 ghost use Rattle.teg_net.specs.declared.entries.PlaceId.{PlaceId};
 ghost use Rattle.teg_parts.specs.Components.{IsMarked};
-ghost use Rattle.teg_howard.specs.FoundCircuits.{policy_of, IsOnPolicy, IsFoundAt, IsAbove, IsFoundSmall, IsBetterOf, IsBestFound, GoesBelow};
+ghost use Rattle.teg_howard.specs.FoundCircuits.{policy_of, ListsPolicy, IsOnPolicy, IsFoundAt, IsAbove, IsFoundSmall, IsBetterOf, IsBestFound, GoesBelow};
 
 use crate::circuit_starts::circuit_starts;
+use crate::inside::Part;
 use crate::steps::place_into;
 use std::alloc::{AllocError, Global};
 use teg_net::{Net, PlaceId};
@@ -115,26 +115,22 @@ fn better_of(
 // the one with the lowest numbered transition.
 pub(crate) fn best_circuit(
     alloc: Global,
-    net: &Net,
-    parts: &[u32],
-    part: u32,
+    part: &Part,
     policy: &[PlaceId],
     marked: &[bool],
 ) -> Result<Option<FoundCircuit>, AllocError>
-    requires kept { IsNet net.now }
-    requires live { IsLive net.now }
-    requires parts { length parts.now ≡ length net.now.transitions }
-    requires count { length policy.now ≡ length parts.now }
-    requires count_marked { length marked.now ≡ length parts.now }
-    requires policy { IsPolicy net.now parts.now part (policy_of policy.now) }
-    requires in_range { All (λ p. p.index < length net.now.places) policy.now }
-    ensures some { IfOk result (λ found. IfSome found (λ f. IsBestFound net.now parts.now part
-        (policy_of policy.now) marked.now f)) }
+    requires live { IsLive part.now.net.now }
+    requires policy { ListsPolicy part.now.net.now part.now.parts.now part.now.number policy.now }
+    requires count_marked { length marked.now ≡ length part.now.parts.now }
+    ensures some { IfOk result (λ found. IfSome found (λ f. IsBestFound part.now.net.now
+        part.now.parts.now part.now.number (policy_of policy.now) marked.now f)) }
     ensures none { IfOk result (λ found. IfNone found ((d : List PlaceId)
-        → IsPolicyCircuit net.now parts.now part (policy_of policy.now) d
-        → Any (λ p. IsMarked marked.now (to_of net.now p)) d → ⊥)) }
+        → IsPolicyCircuit part.now.net.now part.now.parts.now part.now.number (policy_of policy.now)
+        d → Any (λ p. IsMarked marked.now (to_of part.now.net.now p)) d → ⊥)) }
 {
-    let starts = circuit_starts(alloc, net, parts, part, policy)?;
+    let Part { net, parts, .. } = *part;
+    net.rules();
+    let starts = circuit_starts(alloc, part, policy)?;
     let mut best = None;
     for start in 0..parts.len() {
         if starts[start] {

@@ -7,10 +7,10 @@ ghost use Rattle.teg_net.specs.PartAnswers.{first_transition_of};
 ghost use Rattle.teg_parts.specs.Partitions.{AreStrong};
 ghost use Rattle.teg_howard.specs.InnerPlaces.{AreInner};
 ghost use Rattle.teg_howard.specs.Following.{CanFollow};
-ghost use Rattle.teg_howard.specs.FoundCircuits.{policy_of, value_held, LeadsOn, NoneLeadsOn, IsFirstOn, IsRoundMade, CanSettle, AreRouted, IsSettled};
+ghost use Rattle.teg_howard.specs.FoundCircuits.{policy_of, value_held, LeadsOn, NoneLeadsOn, IsFirstOn, AreChoicesMade, CanSettle, AreRouted, IsSettled};
 
 use crate::following::follow;
-use crate::inside::InnerPlaces;
+use crate::inside::Part;
 use crate::offers::{end_of, offer_from, start_of};
 use std::alloc::{AllocError, Global};
 use teg_net::{Choice, Circuit, Net, PlaceId, Ratio, Round, TransitionId};
@@ -57,55 +57,50 @@ fn next_join(net: &Net, ids: &[PlaceId], values: &[Option<i128>], from: usize) -
 // where it stood and the first exit of that transition.
 fn route(
     alloc: Global,
-    net: &Net,
-    parts: &[u32],
-    part: u32,
-    inner: &InnerPlaces,
+    part: &Part,
     policy: &mut [PlaceId],
     ratio: Ratio,
     root: usize,
 ) -> Result<Vec<Option<i128>>, AllocError>
-    requires inner { AreInner net.now parts.now part inner.now }
-    requires strong { AreStrong net.now parts.now }
-    requires can { CanFollow net.now parts.now part policy.old ratio root }
-    ensures { IfOk result (λ values. AreRouted net.now parts.now part policy.old policy.new ratio
-        root values.items) }
+    requires inner { AreInner part.now.net.now part.now.parts.now part.now.number part.now.ids.now
+        part.now.exits.now }
+    requires strong { AreStrong part.now.net.now part.now.parts.now }
+    requires can { CanFollow part.now.net.now part.now.parts.now part.now.number policy.old ratio
+        root }
+    ensures { IfOk result (λ values. AreRouted part.now.net.now part.now.parts.now part.now.number
+        policy.old policy.new ratio root values.items) }
 {
-    let mut values = follow(alloc, net, parts, part, policy, ratio, root)?;
+    let mut values = follow(alloc, part, policy, ratio, root)?;
     let mut from = 0;
-    'route: while let Some(rank) = next_join(net, &inner.ids, &values, from) {
-        let id = inner.ids[rank];
-        let member = end_of(net, id);
+    'route: while let Some(rank) = next_join(part.net, part.ids, &values, from) {
+        let id = part.ids[rank];
+        let member = end_of(part.net, id);
         policy[member] = id;
-        values[member] = Some(offer_from(net, ratio, &values, id));
-        from = rank.min(inner.exits[member]);
+        values[member] = Some(offer_from(part.net, ratio, &values, id));
+        from = rank.min(part.exits[member]);
     }
     Ok(values)
 }
 
-// A round: the members' places and potentials.
-fn round_of(
+// The choices of a round: the members' places and potentials, in order of member.
+fn choices_of(
     alloc: Global,
-    parts: &[u32],
-    part: u32,
-    ratio: Ratio,
-    circuit: Vec<PlaceId>,
+    part: &Part,
     policy: &[PlaceId],
     values: &[Option<i128>],
-) -> Result<Round, AllocError>
-    requires few { length parts.now ≤ 400 }
-    requires count { length policy.now ≡ length parts.now }
-    requires count_values { length values.now ≡ length parts.now }
-    requires has { (t : ℕ) → IsMember parts.now part t → value_held values.now t ≢ None }
-    ensures ratio { IfOk result (λ round. round.ratio ≡ ratio) }
-    ensures circuit { IfOk result (λ round. round.circuit.places.items ≡ circuit.items) }
-    ensures made { IfOk result (λ round. IsRoundMade parts.now part (policy_of policy.now)
-        values.now
-        round) }
+) -> Result<Vec<Choice>, AllocError>
+    requires few { length part.now.parts.now ≤ 400 }
+    requires count { length policy.now ≡ length part.now.parts.now }
+    requires count_values { length values.now ≡ length part.now.parts.now }
+    requires has { (t : ℕ) → IsMember part.now.parts.now part.now.number t → value_held values.now t
+        ≢ None }
+    ensures { IfOk result (λ choices. AreChoicesMade part.now.parts.now part.now.number (policy_of
+        policy.now) values.now choices.items) }
 {
+    let Part { parts, number, .. } = *part;
     let mut choices = Vec::new(alloc);
     for member in 0..parts.len() {
-        if parts[member] == part {
+        if parts[member] == number {
             choices.push(Choice {
                 transition: TransitionId {
                     index: member as u32,
@@ -115,11 +110,7 @@ fn round_of(
             })?;
         }
     }
-    Ok(Round {
-        ratio,
-        circuit: Circuit { places: circuit },
-        choices,
-    })
+    Ok(choices)
 }
 
 // The number of the transition at which the circuit begins.
@@ -135,21 +126,25 @@ fn root_of(net: &Net, circuit: &[PlaceId]) -> usize
 // and gets its potential.
 pub(crate) fn settle(
     alloc: Global,
-    net: &Net,
-    parts: &[u32],
-    part: u32,
-    inner: &InnerPlaces,
+    part: &Part,
     policy: &mut [PlaceId],
     ratio: Ratio,
     circuit: Vec<PlaceId>,
 ) -> Result<RoundState, AllocError>
-    requires inner { AreInner net.now parts.now part inner.now }
-    requires can { CanSettle net.now parts.now part policy.old ratio circuit.items }
-    ensures { IfOk result (λ state. IsSettled net.now parts.now part policy.old policy.new ratio
-        circuit.items state) }
+    requires inner { AreInner part.now.net.now part.now.parts.now part.now.number part.now.ids.now
+        part.now.exits.now }
+    requires can { CanSettle part.now.net.now part.now.parts.now part.now.number policy.old ratio
+        circuit.items }
+    ensures { IfOk result (λ state. IsSettled part.now.net.now part.now.parts.now part.now.number
+        policy.old policy.new ratio circuit.items state) }
 {
-    let root = root_of(net, &circuit);
-    let values = route(alloc, net, parts, part, inner, policy, ratio, root)?;
-    let round = round_of(alloc, parts, part, ratio, circuit, policy, &values)?;
+    let root = root_of(part.net, &circuit);
+    let values = route(alloc, part, policy, ratio, root)?;
+    let choices = choices_of(alloc, part, policy, &values)?;
+    let round = Round {
+        ratio,
+        circuit: Circuit { places: circuit },
+        choices,
+    };
     Ok(RoundState { round, values })
 }

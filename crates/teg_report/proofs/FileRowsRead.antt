@@ -14,7 +14,7 @@ use Rattle.teg_report.specs.declared.answer.Failure.TheVariants.{Illegal, BackIn
 use Rattle.teg_report.specs.Answering.{IsNamedBy}
 use Rattle.teg_report.specs.AnswerValues.{Due, Log, Replayed, Refused}
 use Rattle.teg_report.specs.FileRows.{IsFailureIn, due_line, log_line, refused_lines, replayed_lines, IsDueKept, IsLogKept}
-use Rattle.teg_report.specs.Widths.{IsWord32, IsWord64}
+use Rattle.teg_lines.specs.Widths.{IsWord32, IsWord64}
 use Rattle.teg_report.specs.Reports.{names_from}
 use Rattle.teg_report.proofs.IsRead.{IsRead, with_net}
 use Rattle.teg_text.proofs.NamesRead.{place_back, place_is_word}

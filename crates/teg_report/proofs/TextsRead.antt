@@ -6,10 +6,12 @@ use Rattle.teg_net.specs.Nets.{NetLists, IsNet}
 use Rattle.teg_report.specs.declared.answer.Which.{Which}
 use Rattle.teg_report.specs.declared.answer.Which.TheVariants.{Net as NetFile, Due as DueFile, Log as LogFile, Timetable as TimetableFile}
 use Rattle.teg_report.specs.AnswerValues.{Live, Date, TooLarge, TokenFree, NoTransition, TooLong, Fault}
-use Rattle.teg_report.specs.Widths.{IsWord64, IsWord32}
-use Rattle.teg_report.specs.ShortAnswers.{date_line, token_free_line, live_lines, too_large_line, read_fault_line, no_transition_line, too_long_line}
+use Rattle.teg_lines.specs.Widths.{IsWord64, IsWord32}
+use Rattle.teg_report.specs.ShortAnswers.{date_line, live_lines, too_large_line, read_fault_line, no_transition_line, too_long_line}
+use Rattle.teg_lines.specs.CircuitLines.{token_free_line}
+use Rattle.teg_lines.proofs.CircuitsRead.{circuit_back}
 use Rattle.teg_report.proofs.IsRead.{IsRead}
-use Rattle.teg_text.proofs.NamesRead.{transition_back, transition_is_word, circuits}
+use Rattle.teg_text.proofs.NamesRead.{transition_back, transition_is_word}
 use Rattle.teg_text.specs.WordsOfNames.{name_of_transition}
 use Rattle.teg_text.specs.ValueWords.{IsDate, AreBytes}
 use Rattle.teg_text.proofs.Back.{word32_back, word64_back, date_back, label_back}
@@ -51,6 +53,4 @@ date_read transition number date kept net rules l = record {
 
 -- a circuit
 pub circuit_read : (circuit : List PlaceId) (net : NetLists) → IsNet net → AreInRange net circuit → IsRead net (token_free_line net circuit ∷ []) (TokenFree circuit)
-circuit_read circuit net rules h =
-    let places = circuits net rules in
-    record { words = rw (places.passes circuit h) refl; back = ap TokenFree (places.back circuit h) }
+circuit_read circuit net rules h = let read = circuit_back net circuit rules h in record { words = read.words; back = ap TokenFree read.back }

@@ -1,11 +1,6 @@
 -- What values of the code mean.
 use Rattle.std.specs.Prelude.{List, Option, Some, None, map, string_bytes}
-use Rattle.std.specs.Global.{Vec}
 use Rattle.std.specs.Option.{option_copied, option_map}
-use Rattle.teg_net.specs.declared.answers.CycleAnswer.{CycleAnswer}
-use Rattle.teg_net.specs.declared.answers.PartAnswer.{PartAnswer}
-use Rattle.teg_net.specs.declared.answers.PartAnswer.TheVariants.{NoCircuit as CodedNoCircuitIn, Best as CodedBest}
-use Rattle.teg_net.specs.declared.rounds.Round.{Round}
 use Rattle.teg_report.specs.declared.answer.Answer.{Answer as CodedAnswer}
 use Rattle.teg_report.specs.declared.answer.Answer.TheVariants.{Usage as CodedUsage, Live as CodedLive, List as CodedList, Form as CodedForm}
 use Rattle.teg_report.specs.declared.answer.Answer.TheVariants.{NoCircuit as CodedNoCircuit, Cycle as CodedCycle, Dates as CodedDates}
@@ -15,33 +10,15 @@ use Rattle.teg_report.specs.declared.answer.Answer.TheVariants.{Calc as CodedCal
 use Rattle.teg_report.specs.declared.answer.Answer.TheVariants.{TokenFree as CodedTokenFree, NoTransition as CodedNoTransition, Due as CodedDue}
 use Rattle.teg_report.specs.declared.answer.Answer.TheVariants.{Log as CodedLog, TooLong as CodedTooLong, Parse as CodedParse, Series as CodedSeries}
 use Rattle.teg_report.specs.declared.answer.Answer.TheVariants.{Fault as CodedFault}
-use Rattle.teg_report.specs.Cycles.{ToldPart, NoCircuitIn, BestOf, CycleLists}
+use Rattle.teg_lines.specs.CycleMeanings.{cycle_lists, runs_lists}
 use Rattle.teg_report.specs.declared.answer.TransferFrom.{TransferFrom}
 use Rattle.teg_report.specs.declared.answer.TransferLine.{TransferLine}
 use Rattle.teg_jit.specs.declared.answers.JitRefusal.{JitRefusal}
 use Rattle.teg_jit.specs.declared.answers.JitRefusal.TheVariants.{Late as LateThere, OutOfMemory}
 use Rattle.teg_report.specs.PlanLines.{LateLists}
-use Rattle.teg_report.specs.RoundLines.{RoundLists}
 use Rattle.teg_report.specs.SettledTexts.{TimesFrom, TimesTo}
 use Rattle.teg_report.specs.AnswerValues.{Answer, Usage, Live, Listed, Form, NoCircuit, Cycle, Dates, Date, Jit, Late, Slack, Transfer, Replayed}
 use Rattle.teg_report.specs.AnswerValues.{Refused, Calc, Trial, Read, TooLarge, TokenFree, NoTransition, Due, Log, TooLong, Parse, Series, Fault}
-
--- what is told of a part
-abbrev pub part_lists : PartAnswer → ToldPart
-part_lists CodedNoCircuitIn = NoCircuitIn
-part_lists (CodedBest ratio circuit potentials) = BestOf ratio circuit.places.items potentials.items
-
--- cycle times
-abbrev pub cycle_lists : CycleAnswer → CycleLists
-cycle_lists answer = record { part_of = answer.part_of.items; parts = map part_lists answer.parts.items; best = answer.best }
-
--- a round
-abbrev pub round_lists : Round → RoundLists
-round_lists r = record { ratio = r.ratio; circuit = r.circuit.places.items; choices = r.choices.items }
-
--- rounds, a list for each part with a circuit
-abbrev pub runs_lists : List (Vec Round) → List (List RoundLists)
-runs_lists runs = map (λ run. map round_lists run.items) runs
 
 -- the times to an output
 abbrev pub times_to : TransferLine → TimesTo

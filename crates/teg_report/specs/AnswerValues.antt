@@ -16,10 +16,10 @@ use Rattle.teg_settle.specs.series_laws.SeriesForms.{Form as SeriesForm}
 use Rattle.teg_calc.specs.declared.refusals.ParseRefused.{ParseRefused}
 use Rattle.teg_report.specs.declared.answer.Failure.{Failure}
 use Rattle.teg_report.specs.declared.answer.Which.{Which}
-use Rattle.teg_report.specs.Cycles.{CycleLists}
+use Rattle.teg_lines.specs.CycleLines.{CycleLists}
 use Rattle.teg_jit.specs.Plans.{PlanDates}
 use Rattle.teg_report.specs.PlanLines.{LateLists}
-use Rattle.teg_report.specs.RoundLines.{RoundLists}
+use Rattle.teg_lines.specs.RoundLines.{RoundLists}
 use Rattle.teg_report.specs.SettledTexts.{TimesFrom}
 
 -- an answer

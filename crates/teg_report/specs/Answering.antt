@@ -5,10 +5,11 @@ use Rattle.teg_net.specs.Nets.{NetLists}
 use Rattle.teg_report.specs.PlanLines.{plan_in, late_in}
 use Rattle.teg_report.specs.AnswerValues.{Answer, Usage, Listed, Form, NoCircuit, Cycle, Dates, Jit, Late, Slack, Transfer, Calc, Read, TooLarge}
 use Rattle.teg_report.specs.AnswerValues.{TokenFree, NoTransition, Due, TooLong, Parse, Series, Fault}
-use Rattle.teg_report.specs.Cycles.{cycle_in}
-use Rattle.teg_report.specs.RoundLines.{rounds_in_lines}
+use Rattle.teg_lines.specs.CircuitLines.{token_free_in}
+use Rattle.teg_lines.specs.CycleLines.{cycle_in}
+use Rattle.teg_lines.specs.RoundLines.{rounds_in_lines}
 use Rattle.teg_report.specs.SettledTexts.{settled_in, transfer_in}
-use Rattle.teg_text.specs.WordsOfNames.{place_named, ratio_of_word}
+use Rattle.teg_text.specs.WordsOfNames.{ratio_of_word}
 use Rattle.teg_text.specs.WordReading.{lines_in, line_at, word, stands_at, number_in, label_in}
 use Rattle.teg_report.specs.Series.{series_in, parse_in, series_refused_in}
 use Rattle.teg_report.specs.FormLines.{form_in}
@@ -47,7 +48,7 @@ answer_of net lines =
     else if begins lines (codes "series") then Calc (series_in (line_at 0 lines))
     else if begins lines (codes "fault:") then Fault (file_in (word 4 (line_at 0 lines)))
     else if second_word_is lines (codes "the") then TooLarge (file_in (word 2 (line_at 0 lines)))
-    else if second_word_is lines (codes "token-free") then TokenFree (map (place_named net) (drop 3 (line_at 0 lines)))
+    else if second_word_is lines (codes "token-free") then TokenFree (token_free_in net lines)
     else if second_word_is lines (codes "syntax") || second_word_is lines (codes "too") then Parse (parse_in (line_at 0 lines))
     else if second_word_is lines (codes "series") || second_word_is lines (codes "number") then Series (series_refused_in (line_at 0 lines))
     else if second_word_is lines (codes "due") then Due (due_refusal_in (line_at 0 lines))

@@ -17,7 +17,7 @@ use Rattle.teg_reader.specs.declared.keys.Key.TheVariants.{Duration, From, To, H
 use Rattle.teg_text.specs.WordReading.{word, stands_at, number_in, is_numeral, label_in}
 use Rattle.teg_net.specs.Names.{is_name}
 use Rattle.teg_reader.specs.RefusalSpots.{IsPlainSpot}
-use Rattle.teg_report.specs.Widths.{IsWord32}
+use Rattle.teg_lines.specs.Widths.{IsWord32}
 
 -- a table of the file: its section, and its position there but at the top
 abbrev pub table_words : Section → ℕ → List (List ℕ)

@@ -13,7 +13,7 @@ use Rattle.teg_text.specs.Lines.{phrase}
 use Rattle.teg_text.specs.WordsOfNames.{name_of_place, place_named}
 use Rattle.teg_report.specs.AnswerValues.{Answer, Replayed, Refused, Log}
 use Rattle.teg_text.specs.WordReading.{line_at, word, stands_at, number_in, phrase_in}
-use Rattle.teg_report.specs.Widths.{IsWord32}
+use Rattle.teg_lines.specs.Widths.{IsWord32}
 
 -- why a file is no due file; nothing is told of want of memory
 abbrev pub due_line : DueRefusal → List (List ℕ)

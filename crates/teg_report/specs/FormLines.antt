@@ -8,7 +8,7 @@ use Rattle.teg_net.specs.Nets.{NetLists}
 use Rattle.teg_text.specs.WordsOfNames.{name_of_transition, transition_in}
 use Rattle.teg_text.specs.WordReading.{word, stands_at, number_in}
 use Rattle.teg_text.specs.LineBlocks.{those}
-use Rattle.teg_report.specs.Widths.{IsWord32, IsWord64}
+use Rattle.teg_lines.specs.Widths.{IsWord32, IsWord64}
 
 -- how many entries there are
 abbrev pub sizes_line : FormLists → List (List ℕ)

@@ -7,7 +7,7 @@ use Rattle.teg_report.specs.AnswerValues.{Answer, Usage, Live, Listed, Form, NoC
 use Rattle.teg_report.specs.AnswerValues.{Refused, Calc, Trial, Read, TooLarge, TokenFree, NoTransition, Due, Log, TooLong, Parse, Series, Fault}
 use Rattle.teg_report.specs.Reports.{IsAbout}
 use Rattle.teg_report.specs.PlanLines.{AreLatestKept, IsLateKept}
-use Rattle.teg_report.specs.RoundLines.{IsRunKept}
+use Rattle.teg_lines.specs.RoundLines.{IsRunKept}
 use Rattle.teg_report.specs.SettledTexts.{IsSettledKept, AreTimesKept}
 use Rattle.teg_text.specs.ValueWords.{AreBytes, IsDate}
 use Rattle.teg_report.specs.Series.{IsSeriesKept, IsParseKept, IsSeriesRefusalKept}
@@ -15,7 +15,7 @@ use Rattle.teg_report.specs.FormLines.{IsStarKept, IsEntryKept}
 use Rattle.teg_report.specs.FileRefusalLines.{IsReadRefusalKept}
 use Rattle.teg_report.specs.SlackLines.{IsRatioKept, IsSlackKept, IsTrialKept}
 use Rattle.teg_report.specs.FileRows.{IsDueKept, IsLogKept}
-use Rattle.teg_report.specs.Widths.{IsWord32, IsWord64}
+use Rattle.teg_lines.specs.Widths.{IsWord32, IsWord64}
 
 -- what the values of an answer keep
 abbrev pub IsAnswerKept : Answer → Type 0

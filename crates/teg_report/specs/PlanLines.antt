@@ -19,7 +19,7 @@ use Rattle.teg_net.specs.Nets.{NetLists}
 use Rattle.teg_net.specs.Walks.{Walks, numbers_of}
 use Rattle.teg_text.specs.WordsOfNames.{name_of_place, name_of_transition, no_transition, transition_in, place_named}
 use Rattle.teg_text.specs.WordReading.{line_at, word, stands_at, number_in, is_numeral}
-use Rattle.teg_report.specs.Widths.{IsWord32, IsWord64}
+use Rattle.teg_lines.specs.Widths.{IsWord32, IsWord64}
 
 -- the first step of a walk by which a latest date is attained
 abbrev pub onward_words : NetLists → Onward → List (List ℕ)

@@ -13,8 +13,8 @@ use Rattle.teg_reader.specs.declared.refusals.ReadRefusal.TheVariants.{OutOfMemo
 use Rattle.teg_report.specs.Series.{parse_line, series_refused_line}
 use Rattle.teg_report.specs.AnswerValues.{Answer, Usage, Live, Listed, Form, NoCircuit, Cycle, Dates, Date, Jit, Late, Slack, Transfer, Replayed}
 use Rattle.teg_report.specs.AnswerValues.{Refused, Calc, Trial, Read, TooLarge, TokenFree, NoTransition, Due, Log, TooLong, Parse, Series, Fault}
-use Rattle.teg_report.specs.Cycles.{IsCycleTold, cycle_lines}
-use Rattle.teg_report.specs.RoundLines.{AreRoundsTold, runs_lines, told_runs}
+use Rattle.teg_lines.specs.CycleLines.{IsCycleTold, cycle_lines}
+use Rattle.teg_lines.specs.RoundLines.{AreRoundsTold, runs_lines, told_runs}
 use Rattle.teg_report.specs.FileRows.{IsFailureIn, due_line, log_line, refused_lines, replayed_lines}
 use Rattle.teg_report.specs.FormLines.{HasEndsIn, form_lines}
 use Rattle.teg_report.specs.PlanLines.{IsLatePlanTold, IsPlanIn, late_lines, plan_lines}
@@ -25,7 +25,8 @@ use Rattle.teg_text.specs.WordsOfNames.{name_of_transition}
 use Rattle.teg_report.specs.DateLists.{list_lines}
 use Rattle.teg_report.specs.FileRefusalLines.{read_line}
 use Rattle.teg_report.specs.UsageLines.{usage_lines}
-use Rattle.teg_report.specs.ShortAnswers.{live_lines, no_circuit_line, too_large_line, read_fault_line, token_free_line, no_transition_line, too_long_line, date_line}
+use Rattle.teg_report.specs.ShortAnswers.{live_lines, no_circuit_line, too_large_line, read_fault_line, no_transition_line, too_long_line, date_line}
+use Rattle.teg_lines.specs.CircuitLines.{token_free_line}
 
 -- the net whose names are told; no names where none is given
 abbrev pub names_from : Option NetLists → NetLists

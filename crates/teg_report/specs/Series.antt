@@ -10,7 +10,7 @@ use Rattle.teg_settle.specs.series_laws.SeriesForms.{Form as SeriesForm}
 use Rattle.teg_text.specs.WordReading.{word, stands_at, number_in, signed_in, date_of_word}
 use Rattle.std.specs.Int.RustNames.{unsigned_abs}
 use Rattle.teg_text.specs.ValueWords.{IsDate}
-use Rattle.teg_report.specs.Widths.{IsWord32, IsWord64}
+use Rattle.teg_lines.specs.Widths.{IsWord32, IsWord64}
 
 -- where a text is no expression, or too deep; nothing is told of want of memory
 abbrev pub parse_line : ParseRefused → List (List ℕ)

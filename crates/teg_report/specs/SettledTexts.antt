@@ -14,7 +14,7 @@ use Rattle.teg_text.specs.ValueWords.{date_word, IsDate}
 use Rattle.teg_text.specs.WordReading.{line_at, word, stands_at, number_in, signed_in, date_of_word}
 use Rattle.teg_text.specs.LineBlocks.{blocks_in}
 use Rattle.std.specs.Int.RustNames.{unsigned_abs}
-use Rattle.teg_report.specs.Widths.{IsWord64}
+use Rattle.teg_lines.specs.Widths.{IsWord64}
 
 -- from one input to one output: the greatest times of walks from its first firing, and by how much they go on in a period
 pub record TimesTo : Type 0 where

@@ -1,13 +1,12 @@
 -- The short answers: their lines, and how they are read back.
-use Rattle.std.specs.Prelude.{ℕ, List, [], ◌∷◌, ◌++◌, map, codes, bytes_eq, if◌then◌else◌}
+use Rattle.std.specs.Prelude.{ℕ, List, [], ◌∷◌, ◌++◌, codes, bytes_eq, if◌then◌else◌}
 use Rattle.std.specs.Fmt.{decimal}
 use Rattle.dioid.specs.declared.dates.Date.{Date as DateOf}
-use Rattle.teg_net.specs.declared.entries.PlaceId.{PlaceId}
 use Rattle.teg_net.specs.Nets.{NetLists}
 use Rattle.teg_report.specs.declared.answer.Which.{Which}
 use Rattle.teg_report.specs.declared.answer.Which.TheVariants.{Net as NetFile, Due as DueFile, Log as LogFile, Timetable as TimetableFile}
 use Rattle.teg_text.specs.Lines.{phrase}
-use Rattle.teg_text.specs.WordsOfNames.{name_of_place, transition_in}
+use Rattle.teg_text.specs.WordsOfNames.{transition_in}
 use Rattle.teg_text.specs.ValueWords.{date_word, label_word}
 use Rattle.teg_report.specs.AnswerValues.{Answer, Live, Date}
 use Rattle.teg_text.specs.WordReading.{line_at, word, number_in, date_of_word}
@@ -38,10 +37,6 @@ too_large_line file = phrase (codes "refused:") ++ (file_words file ++ phrase (c
 -- that a file could not be read
 abbrev pub read_fault_line : Which → List (List ℕ)
 read_fault_line file = phrase (codes "fault: cannot read") ++ file_words file
-
--- a circuit without tokens, as the names of its places in order
-abbrev pub token_free_line : NetLists → List PlaceId → List (List ℕ)
-token_free_line net circuit = phrase (codes "refused: token-free circuit") ++ map (name_of_place net) circuit
 
 -- that no transition has a name
 abbrev pub no_transition_line : List ℕ → List (List ℕ)

@@ -13,7 +13,7 @@ use Rattle.teg_text.specs.WordsOfNames.{name_of_place, ratio_of_word}
 use Rattle.teg_text.specs.ValueWords.{date_word, ratio_word, IsDate}
 use Rattle.teg_report.specs.AnswerValues.{Answer, Trial}
 use Rattle.teg_text.specs.WordReading.{line_at, word, stands_at, number_in, date_of_word}
-use Rattle.teg_report.specs.Widths.{IsWord32, IsWord64}
+use Rattle.teg_lines.specs.Widths.{IsWord32, IsWord64}
 
 -- the greatest ratio of a net
 abbrev pub cycle_time_line : Fraction → List (List ℕ)

@@ -10,7 +10,7 @@ use Rattle.teg_net.specs.Nets.{NetLists, IsNet}
 use Rattle.teg_report.specs.Answering.{AreOfOneNet, IsReadFrom}
 use Rattle.teg_report.specs.AnswerValues.{Answer, Calc, Cycle, Live, TokenFree}
 use Rattle.teg_report.specs.KeptAnswers.{IsAnswerTold}
-use Rattle.teg_report.specs.AnswerMeanings.{cycle_lists}
+use Rattle.teg_lines.specs.CycleMeanings.{cycle_lists}
 use Rattle.teg_report.specs.Reports.{text_of}
 
 -- each answer that is told is read back from its text, by the names of its net

@@ -5,7 +5,7 @@ ghost use Rattle.teg_due.specs.declared.rows.DueRefusal.TheVariants.{OutOfMemory
 ghost use Rattle.teg_due.specs.declared.rows.LogRefusal.TheVariants.{OutOfMemory as NoLogRoom};
 ghost use Rattle.teg_report.specs.FileRows.{IsDueKept, IsFailureIn, IsLogKept, due_line, failure_words, log_line, refused_lines, replayed_lines};
 ghost use Rattle.teg_report.specs.Reports.{names_from};
-ghost use Rattle.teg_report.specs.Widths.{IsWord32, IsWord64};
+ghost use Rattle.teg_lines.specs.Widths.{IsWord32, IsWord64};
 ghost use Rattle.teg_text.specs.Faults.{row_line};
 ghost use Rattle.teg_text.specs.Lines.{line_then, phrase, written};
 

@@ -12,7 +12,7 @@ use teg_dates::DateCell;
 use teg_net::{Net, OutOfMemory};
 
 /// The room that a row of so many dates needs in a block, in bytes: at most 41 for each date, 20
-/// for its number, and 1 for the line feed.
+/// for its number, and 1 for the line feed. It takes no memory.
 pub fn room_of_row(dates: usize) -> usize
     requires { dates ≤ 2 ^ 58 }
     ensures { result ≡ (dates + 1) * 41 }
@@ -120,16 +120,18 @@ pub fn put_row<C: DateCell>(
     end
 }
 
-/// The first two lines of the list of so many numbers of the net. `OutOfMemory` comes only where no
-/// memory is found.
+/// The first two lines of the list of so many numbers of the net: how many firings are told, and the
+/// names of the transitions, in their order. `OutOfMemory` comes only where no memory is found. It
+/// takes time of the order of the lines.
 pub fn list_head(alloc: Global, net: &Net, count: u32) -> Result<Vec<u8>, OutOfMemory>
     ensures { IfOk result (λ text. text.items ≡ head_text net.now count) }
 {
     Ok(head(alloc, net, count)?.into_bytes())
 }
 
-/// The line of a number with the dates of its firings. `OutOfMemory` comes only where no memory is
-/// found.
+/// The line of a number with the dates of its firings, one for each transition in their order, in
+/// the user's unit. `OutOfMemory` comes only where no memory is found. It takes time of the order of
+/// the line.
 pub fn list_row(alloc: Global, number: u64, row: &[Date]) -> Result<Vec<u8>, OutOfMemory>
     ensures { IfOk result (λ text. text.items ≡ row_text number row.now) }
 {
@@ -138,8 +140,8 @@ pub fn list_row(alloc: Global, number: u64, row: &[Date]) -> Result<Vec<u8>, Out
     Ok(Vec::from_slice(alloc, &line[start..])?)
 }
 
-/// The head of a list and its rows, one after another, are the text of the list: of any dating
-/// whose rows they are.
+/// The law that the head of a list and its rows, one after another, are the text of the list: of any
+/// dating whose rows they are. It does nothing when it runs.
 pub fn lists_are_joined()
     ensures { ListsAreJoined }
 {}

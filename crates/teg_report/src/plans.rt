@@ -5,7 +5,7 @@ ghost use Rattle.teg_net.specs.Limits.{greatest_firing_number};
 ghost use Rattle.teg_net.specs.Walks.{IsStepOf};
 ghost use Rattle.teg_report.specs.AnswerMeanings.{late_lists};
 ghost use Rattle.teg_report.specs.PlanLines.{AreLatestKept, IsLateKept, IsLatePlanTold, IsLatestIn, IsLatestKept, IsOnwardIn, IsPathIn, IsPlanIn, late_line, late_lines, latest_line, onward_words, path_line, plan_lines, planned_lines, role_word, start_lines, step_number, step_to, step_words, steps_words};
-ghost use Rattle.teg_report.specs.Widths.{IsWord32, IsWord64};
+ghost use Rattle.teg_lines.specs.Widths.{IsWord32, IsWord64};
 ghost use Rattle.teg_text.specs.Lines.{further_then, line_then, written};
 
 use std::alloc::{AllocError, Global};
@@ -78,8 +78,8 @@ fn push_transition(
     ensures kept { IfOk result (λ _. (k : ℕ) → k < plan.now.numbers
         → IsLatestKept (latest_at plan.now index (k + 1))) }
 {
-    // That the net keeps its rules, and so has few transitions.
-    net.transitions();
+    // The rules of the net, by which its transitions are few.
+    net.rules();
     let transition = TransitionId {
         index: index as u32,
     };
@@ -146,8 +146,8 @@ fn end_steps(text: &mut String, net: &Net, walk: &Walk) -> Result<(), AllocError
         ++ further_then (steps_words net.now walk.now.start walk.now.number
         walk.now.steps.items) []) }
 {
-    // That the net keeps its rules.
-    net.transitions();
+    // The rules of the net, by which each step leads to one of its transitions.
+    net.rules();
     let mut at = walk.start;
     let mut number = walk.number;
     for step in &walk.steps {
@@ -189,16 +189,16 @@ fn push_start(text: &mut String, start: u64) -> Result<(), AllocError>
 fn late_line(
     alloc: Global,
     net: &Net,
-    transition: TransitionId,
-    number: u32,
+    firing: (TransitionId, u32),
     due: u64,
     least: u128,
 ) -> Result<String, AllocError>
-    requires { transition.index < length net.now.transitions }
+    requires { firing.0.index < length net.now.transitions }
     ensures text { IfOk result (λ text. string_bytes text
-        ≡ line_then (late_line net.now transition number due least) []) }
-    ensures kept { IsWord32 number × IsWord64 due × (least < 2 ^ 128) }
+        ≡ line_then (late_line net.now firing.0 firing.1 due least) []) }
+    ensures kept { IsWord32 firing.1 × IsWord64 due × (least < 2 ^ 128) }
 {
+    let (transition, number) = firing;
     let name = net.transitions()[transition.index as usize].name.as_str();
     format!(in alloc; "late {name} {number} due {due} least {least}\n")
 }
@@ -219,7 +219,7 @@ pub(crate) fn late(alloc: Global, net: &Net, refusal: &JitRefusal) -> Result<Vec
             start,
             walk,
         } => {
-            let mut text = late_line(alloc, net, *transition, *number, *due, *least)?;
+            let mut text = late_line(alloc, net, (*transition, *number), *due, *least)?;
             push_start(&mut text, *start)?;
             push_path(&mut text, net, walk)?;
             Ok(text.into_bytes())

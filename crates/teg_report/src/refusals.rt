@@ -4,7 +4,7 @@ ghost use Rattle.teg_net.specs.Names.{is_name};
 ghost use Rattle.teg_reader.specs.RefusalSpots.{HasPlainSpot};
 ghost use Rattle.teg_report.specs.FileRefusalLines.{IsReadRefusalKept, ends_line, entered_line, fault_line, hold_line, input_line, read_line, ready_line};
 ghost use Rattle.teg_report.specs.SpotWords.{spot_text};
-ghost use Rattle.teg_report.specs.Widths.{IsWord32};
+ghost use Rattle.teg_lines.specs.Widths.{IsWord32};
 ghost use Rattle.teg_text.specs.Lines.{written};
 ghost use Rattle.teg_text.specs.ValueWords.{AreBytes, label_word};
 

@@ -8,10 +8,9 @@ ghost use Rattle.teg_report.specs.AnswerMeanings.{meant};
 ghost use Rattle.teg_report.specs.Reports.{IsAbout, text_of};
 
 use crate::answer::Answer;
-use crate::{
-    cycles, file_rows, forms, lists, plans, refusals, series, settled, slacks, texts, usage,
-};
+use crate::{file_rows, forms, lists, plans, refusals, series, settled, slacks, texts, usage};
 use std::alloc::Global;
+use teg_lines::{cycle_text, token_free_text};
 use teg_net::{Net, OutOfMemory};
 
 // The text of an answer that names nothing of a net.
@@ -40,7 +39,7 @@ fn alone(alloc: Global, answer: &Answer<'_>) -> Result<Vec<u8>, OutOfMemory>
             ratio,
             critical,
             last,
-        } => slacks::trial(alloc, *machines, *places, **ratio, *critical, *last),
+        } => slacks::trial(alloc, (*machines, *places), **ratio, *critical, *last),
         Answer::Read { refusal } => refusals::read(alloc, refusal),
         Answer::TooLarge { file } => texts::too_large(alloc, *file),
         Answer::NoTransition { word } => texts::no_transition(alloc, word),
@@ -63,7 +62,7 @@ fn about(alloc: Global, net: &Net, answer: &Answer<'_>) -> Result<Vec<u8>, OutOf
     match answer {
         Answer::List { table } => lists::list(alloc, net, table),
         Answer::Form { form } => forms::form(alloc, net, form),
-        Answer::Cycle { answer, rounds } => cycles::cycle(alloc, net, answer, *rounds),
+        Answer::Cycle { answer, rounds } => cycle_text(alloc, net, answer, *rounds),
         Answer::Dates { settled } => settled::dates(alloc, net, settled),
         Answer::Date {
             transition,
@@ -79,7 +78,7 @@ fn about(alloc: Global, net: &Net, answer: &Answer<'_>) -> Result<Vec<u8>, OutOf
             failure,
             lines,
         } => file_rows::refused(alloc, Some(net), *row, *failure, lines),
-        Answer::TokenFree { circuit } => texts::token_free(alloc, net, circuit),
+        Answer::TokenFree { circuit } => token_free_text(alloc, net, circuit),
         _ => alone(alloc, answer),
     }
 }
@@ -102,7 +101,7 @@ fn know_rules(net: Option<&Net>)
     ensures { IfSome (option_copied net.entry) IsNet }
 {
     if let Some(net) = net {
-        net.transitions();
+        net.rules();
     }
 }
 

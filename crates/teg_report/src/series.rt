@@ -5,7 +5,7 @@ ghost use Rattle.series_form.specs.declared.forms.SeriesRefused.TheVariants.{Out
 ghost use Rattle.teg_calc.specs.declared.refusals.ParseRefused.TheVariants.{OutOfMemory as NoText, Syntax, TooDeep};
 ghost use Rattle.teg_calc.specs.Printing.{series_line};
 ghost use Rattle.teg_report.specs.Series.{IsParseKept, IsSeriesKept, IsSeriesRefusalKept, parse_line, series_refused_line};
-ghost use Rattle.teg_report.specs.Widths.{IsWord32};
+ghost use Rattle.teg_lines.specs.Widths.{IsWord32};
 ghost use Rattle.teg_text.specs.Lines.{written};
 
 use series_form::{Series, SeriesRefused};
@@ -18,7 +18,7 @@ pub(crate) fn calc(alloc: Global, series: &Series) -> Result<Vec<u8>, OutOfMemor
     ensures text { IfOk result (λ text. text.items ≡ written (series_line series.now ∷ [])) }
     ensures kept { IfOk result (λ _. IsSeriesKept series.now) }
 {
-    // What the numbers of a series keep.
+    // The rules of the series, by which its numbers have the bits of their types.
     let _values = series.values();
     let text = print(alloc, series)?;
     Ok(text)

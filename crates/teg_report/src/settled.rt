@@ -5,15 +5,15 @@ ghost use Rattle.std.specs.Int.RustNames.{unsigned_abs};
 ghost use Rattle.teg_settle.specs.settled_laws.SettledForms.{row_of, step_of_form};
 ghost use Rattle.teg_report.specs.AnswerMeanings.{times_from, times_to};
 ghost use Rattle.teg_report.specs.SettledTexts.{AreTimesIn, AreTimesKept, AreTimesToKept, IsSettledKept, from_line, from_lines, output_count, row_words, settled_line, settled_lines, to_line, transfer_lines};
-ghost use Rattle.teg_report.specs.Widths.{IsWord64};
+ghost use Rattle.teg_lines.specs.Widths.{IsWord64};
 ghost use Rattle.teg_text.specs.Lines.{further_then, line_then, written};
 ghost use Rattle.teg_text.specs.WordsOfNames.{name_of_transition};
 ghost use Rattle.teg_text.specs.ValueWords.{IsDate};
 
 use crate::answer::{TransferFrom, TransferLine};
-use crate::told::{Told, push_each};
 use dioid::Date;
 use std::alloc::{AllocError, Global};
+use teg_lines::{LineOf, push_each};
 use teg_net::{Net, OutOfMemory, Role, TransitionId};
 use teg_settle::Settled;
 use teg_text::push_dates;
@@ -54,8 +54,8 @@ fn push_row(text: &mut String, net: &Net, settled: &Settled, index: usize) -> Re
     ensures dates { IfOk result (λ _. All IsDate (row_of settled.now index)) }
     ensures step { IfOk result (λ _. unsigned_abs (step_of_form settled.now index) < 2 ^ 128) }
 {
-    // That the net keeps its rules, and so has few transitions.
-    net.transitions();
+    // The rules of the net, by which its transitions are few.
+    net.rules();
     let transition = TransitionId {
         index: index as u32,
     };
@@ -92,15 +92,18 @@ fn push_to(text: &mut String, net: &Net, line: &TransferLine) -> Result<(), Allo
     Ok(())
 }
 
-impl Told for TransferLine {
+// The line of the times to an output.
+struct ToLine;
+
+impl LineOf<TransferLine> for ToLine {
     ghost line = { λ net line. to_line net (times_to line) };
 
     ghost is_there = { λ net line. line.to.index < length net.transitions };
 
     ghost is_kept = { λ line. AreTimesToKept (times_to line) };
 
-    fn push(&self, text: &mut String, net: &Net) -> Result<(), AllocError> {
-        push_to(text, net, self)
+    fn push(line: &TransferLine, text: &mut String, net: &Net) -> Result<(), AllocError> {
+        push_to(text, net, line)
     }
 }
 
@@ -126,7 +129,7 @@ fn push_from(text: &mut String, net: &Net, from: &TransferFrom) -> Result<(), Al
     ensures kept { IfOk result (λ _. AreTimesKept (times_from from.now)) }
 {
     push_from_line(text, net, from)?;
-    push_each(text, net, &from.lines)?;
+    push_each::<TransferLine, ToLine>(text, net, &from.lines)?;
     Ok(())
 }
 

@@ -59,19 +59,19 @@ pub(crate) fn slack(
     Ok(text.into_bytes())
 }
 
-// The summary of a net that was made.
+// The summary of a net that was made, with its machines and its places.
 pub(crate) fn trial(
     alloc: Global,
-    machines: u32,
-    places: u32,
+    sizes: (u32, u32),
     ratio: Ratio,
     critical: u32,
     last: Date,
 ) -> Result<Vec<u8>, OutOfMemory>
     ensures text { IfOk result (λ text. text.items ≡ written
-        (trial_lines machines places ratio critical last)) }
-    ensures kept { IfOk result (λ _. IsTrialKept machines places ratio critical last) }
+        (trial_lines sizes.0 sizes.1 ratio critical last)) }
+    ensures kept { IfOk result (λ _. IsTrialKept sizes.0 sizes.1 ratio critical last) }
 {
+    let (machines, places) = sizes;
     let mut text = format!(in alloc; "trial {machines}\nplaces {places}\n")?;
     push_cycle_time(&mut text, ratio)?;
     write!(text, "critical {critical}\nlast ")?;

@@ -1,8 +1,7 @@
 //! The texts of the short answers. Each line ends with a line feed.
 ghost use Rattle.std.specs.Prelude.{◌≡◌, ◌<◌, [], ◌∷◌, IfOk, length};
-ghost use Rattle.teg_net.specs.Circuits.{AreInRange};
-ghost use Rattle.teg_report.specs.ShortAnswers.{date_line, live_lines, no_circuit_line, no_transition_line, read_fault_line, token_free_line, too_large_line, too_long_line};
-ghost use Rattle.teg_report.specs.Widths.{IsWord32, IsWord64};
+ghost use Rattle.teg_report.specs.ShortAnswers.{date_line, live_lines, no_circuit_line, no_transition_line, read_fault_line, too_large_line, too_long_line};
+ghost use Rattle.teg_lines.specs.Widths.{IsWord32, IsWord64};
 ghost use Rattle.teg_text.specs.Lines.{written};
 ghost use Rattle.teg_text.specs.WordsOfNames.{name_of_transition};
 ghost use Rattle.teg_text.specs.ValueWords.{AreBytes, IsDate};
@@ -10,8 +9,8 @@ ghost use Rattle.teg_text.specs.ValueWords.{AreBytes, IsDate};
 use crate::answer::Which;
 use dioid::Date;
 use std::alloc::Global;
-use teg_net::{Circuit, Label, Net, OutOfMemory, TransitionId};
-use teg_text::{push_date, push_label, push_places};
+use teg_net::{Label, Net, OutOfMemory, TransitionId};
+use teg_text::{push_date, push_label};
 
 // The bytes of a text.
 pub(crate) fn bytes_of(alloc: Global, text: &str) -> Result<Vec<u8>, OutOfMemory>
@@ -34,22 +33,6 @@ pub(crate) fn no_circuit(alloc: Global) -> Result<Vec<u8>, OutOfMemory>
     ensures { IfOk result (λ text. text.items ≡ written (no_circuit_line ∷ [])) }
 {
     bytes_of(alloc, "no circuit\n")
-}
-
-// The circuit for whose sake a net is not live.
-pub(crate) fn token_free(
-    alloc: Global,
-    net: &Net,
-    circuit: &Circuit,
-) -> Result<Vec<u8>, OutOfMemory>
-    requires { AreInRange net.now circuit.now.places.items }
-    ensures { IfOk result (λ text. text.items ≡ written
-        (token_free_line net.now circuit.now.places.items ∷ [])) }
-{
-    let mut text = String::from_str(alloc, "refused: token-free circuit")?;
-    push_places(&mut text, net, circuit)?;
-    text.push('\n')?;
-    Ok(text.into_bytes())
 }
 
 // That a file is longer than a file may be.

@@ -9,9 +9,9 @@ ghost use Rattle.teg_run.specs.Requests.{asked_for, calc_asked, date_asked, file
 use crate::request::{FileCommand, NetCommand, Request};
 use std::alloc::Global;
 use teg_commands::{
-    Expression, GREATEST_TARGET_TIME, Limit, MOST_EXPRESSION, MOST_TARGET_TOKENS, Target, UpTo,
+    Expression, GREATEST_TARGET_TIME, Limit, MOST_EXPRESSION, MOST_TARGET_TOKENS, Target,
 };
-use teg_net::{Label, OutOfMemory};
+use teg_net::{Label, OutOfMemory, UpTo};
 use teg_words::{GivenWords, WordsRefusal, number, read_words};
 
 // The limit of a settled form where none is given.

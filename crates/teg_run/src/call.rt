@@ -1,5 +1,6 @@
 //! The top call.
 ghost use Rattle.std.specs.Prelude.{map, string_bytes};
+ghost use Rattle.teg_run.specs.Calls.{call_of};
 ghost use Rattle.teg_run.specs.Endings.{EndsWith};
 ghost use Rattle.teg_run.specs.WholeCalls.{Runs};
 ghost use Rattle.teg_run.specs.CallMeanings.{ended};
@@ -37,64 +38,46 @@ fn serve_words<S: Shelf, W: Sink>(
     words: &[String],
     shelf: &mut S,
     out: &mut W,
-    monitors: Vec<Box<dyn Monitor>>,
-) -> (Status, Vec<Box<dyn Monitor>>)
+    monitors: &mut [Box<dyn Monitor>],
+) -> Status
     ensures { let asked = request_of (map string_bytes words.now) in ServesAndShows
-        (Asked asked (lines_by line_text monitors.items))
-        (ShowsAsked asked (lines_by line_text monitors.items) (lines_by line_text result.1.items))
+        (Asked asked (lines_by line_text monitors.old))
+        (ShowsAsked asked (lines_by line_text monitors.old) (lines_by line_text monitors.new))
         (asked_files asked)
         (S.state shelf.old) (S.state shelf.new)
         (W.state out.old) (W.state out.new)
-        result.0 }
+        result }
 {
     match read_request(alloc, words) {
         Ok(Some(request)) => serve_request(alloc, request, shelf, out, monitors),
-        Ok(None) => (finish(out, refuse_words(alloc)), monitors),
-        Err(_) => (finish(out, Ending::Lost), monitors),
+        Ok(None) => finish(out, refuse_words(alloc)),
+        Err(_) => finish(out, Ending::Lost),
     }
 }
 
-/// Does what [`workbench`] does, and hands the monitors back.
+/// Does what [`workbench`] does, with monitors that are lent to it.
 ///
-/// It promises the same; and the monitors were shown just the firings that a `replay`
-/// accepts, in their order, each once, by the same reads that its text tells: those of some first
-/// rows where no memory was found for the text, and none for every other command. Where the files
-/// are told and no read failed, these are the firings that the told log of the told net accepts
-/// (`ShowsTold`).
+/// It promises the same; and the monitors are shown just the firings that a `replay` accepts, in
+/// their order, each once, by the same reads that its text tells: those of some first rows where no
+/// memory is found for the text, and none for every other command. Where the files are told and no
+/// read failed, these are the firings that the told log of the told net accepts (`ShowsTold`).
 pub fn serve<S: Shelf, W: Sink>(
     alloc: Global,
     words: &[String],
     shelf: &mut S,
     out: &mut W,
-    monitors: Vec<Box<dyn Monitor>>,
-) -> (Status, Vec<Box<dyn Monitor>>)
-    ensures runs { Runs (record {
-      words = map string_bytes words.now;
-      lines = lines_by line_text monitors.items;
-      shelf_before = S.state shelf.old;
-      shelf_after = S.state shelf.new;
-      sink_before = W.state out.old;
-      sink_after = W.state out.new;
-      status = result.0;
-    }) }
-    ensures shown { ShowsJust (record {
-      words = map string_bytes words.now;
-      lines = lines_by line_text monitors.items;
-      shelf_before = S.state shelf.old;
-      shelf_after = S.state shelf.new;
-      sink_before = W.state out.old;
-      sink_after = W.state out.new;
-      status = result.0;
-    }) (lines_by line_text result.1.items) }
-    ensures told { ShowsTold (record {
-      words = map string_bytes words.now;
-      lines = lines_by line_text monitors.items;
-      shelf_before = S.state shelf.old;
-      shelf_after = S.state shelf.new;
-      sink_before = W.state out.old;
-      sink_after = W.state out.new;
-      status = result.0;
-    }) (lines_by line_text result.1.items) }
+    monitors: &mut [Box<dyn Monitor>],
+) -> Status
+    ensures runs { Runs (call_of (map string_bytes words.now) (lines_by line_text monitors.old)
+        (S.state shelf.old) (S.state shelf.new) (W.state out.old) (W.state out.new) result) }
+    ensures shown { ShowsJust
+        (call_of (map string_bytes words.now) (lines_by line_text monitors.old)
+        (S.state shelf.old) (S.state shelf.new) (W.state out.old) (W.state out.new) result)
+        (lines_by line_text monitors.new) }
+    ensures told { ShowsTold
+        (call_of (map string_bytes words.now) (lines_by line_text monitors.old)
+        (S.state shelf.old) (S.state shelf.new) (W.state out.old) (W.state out.new) result)
+        (lines_by line_text monitors.new) }
 {
     serve_words(alloc, words, shelf, out, monitors)
 }
@@ -120,16 +103,9 @@ pub fn workbench<S: Shelf, W: Sink>(
     out: &mut W,
     monitors: Vec<Box<dyn Monitor>>,
 ) -> Status
-    ensures { Runs (record {
-      words = map string_bytes words.now;
-      lines = lines_by line_text monitors.items;
-      shelf_before = S.state shelf.old;
-      shelf_after = S.state shelf.new;
-      sink_before = W.state out.old;
-      sink_after = W.state out.new;
-      status = result;
-    }) }
+    ensures { Runs (call_of (map string_bytes words.now) (lines_by line_text monitors.items)
+        (S.state shelf.old) (S.state shelf.new) (W.state out.old) (W.state out.new) result) }
 {
-    let (status, _monitors) = serve(alloc, words, shelf, out, monitors);
-    status
+    let mut monitors = monitors;
+    serve(alloc, words, shelf, out, &mut monitors)
 }

@@ -19,7 +19,9 @@ use crate::second_file::open_bytes;
 use crate::status::Status;
 use crate::writing::finish;
 use std::alloc::Global;
-use teg_commands::{LiveNet, tell_calc, tell_trial};
+use teg_check::LiveNet;
+use teg_commands::{tell_calc, tell_trial};
+use teg_net::Label;
 use teg_outside::{Monitor, Shelf, Sink};
 use teg_report::Which;
 
@@ -45,93 +47,88 @@ fn serve_net<S: Shelf, W: Sink>(
     }
 }
 
-// Carries out a command on a live net and the second file of that name.
+// A command on a net and a second file, with the name of the second.
+#[derive(Drop)]
+struct OnSecond {
+    command: FileCommand,
+    second: Label,
+}
+
+// Carries out a command on a live net and its second file.
 fn answer_second<S: Shelf>(
     alloc: Global,
-    command: FileCommand,
+    asked: OnSecond,
     net: &LiveNet,
-    second: &str,
     shelf: &mut S,
-    monitors: Vec<Box<dyn Monitor>>,
-) -> (Ending, Vec<Box<dyn Monitor>>)
-    ensures { let lines = lines_by line_text monitors.items in AnsweredAndShown
-        (SaysSecond command lines net.now)
-        (ShowsSecond command net.now lines (lines_by line_text result.1.items))
-        ((second_of command, second.now) ∷ [])
+    monitors: &mut [Box<dyn Monitor>],
+) -> Ending
+    ensures { let lines = lines_by line_text monitors.old in AnsweredAndShown
+        (SaysSecond asked.command lines net.now)
+        (ShowsSecond asked.command net.now lines (lines_by line_text monitors.new))
+        ((second_of asked.command, asked.second) ∷ [])
         (S.state shelf.old) (S.state shelf.new)
-        (ended result.0) }
+        (ended result) }
 {
-    match open_bytes(alloc, second_of(&command), second, shelf) {
-        Opened::Accepted(file) => {
-            let (outcome, monitors) = of_files(alloc, command, net, &file, monitors);
-            (closed(outcome), monitors)
-        }
-        Opened::Refused(status, text) => (Ending::Whole { status, text }, monitors),
-        Opened::Lost => (Ending::Lost, monitors),
+    let OnSecond { command, second } = asked;
+    match open_bytes(alloc, second_of(&command), second.as_str(), shelf) {
+        Opened::Accepted(file) => closed(of_files(alloc, command, net, &file, monitors)),
+        Opened::Refused(status, text) => Ending::Whole { status, text },
+        Opened::Lost => Ending::Lost,
     }
 }
 
-// Carries out a command on the net and on the second file in the files of these names. The second
-// file is read only where the net is accepted and live.
+// Carries out a command on the net in the file of that name and on its second file, which is read
+// only where the net is accepted and live.
 fn answer_files<S: Shelf>(
     alloc: Global,
-    command: FileCommand,
+    asked: OnSecond,
     net: &str,
-    second: &str,
     shelf: &mut S,
-    monitors: Vec<Box<dyn Monitor>>,
-) -> (Ending, Vec<Box<dyn Monitor>>)
-    ensures { let lines = lines_by line_text monitors.items in AnsweredAndShown
-        (SaysFile OpensNet (SaysSecond command lines))
-        (ShowsBoth command lines (lines_by line_text result.1.items))
-        ((Which.Net, net.now) ∷ (second_of command, second.now) ∷ [])
+    monitors: &mut [Box<dyn Monitor>],
+) -> Ending
+    ensures { let lines = lines_by line_text monitors.old in AnsweredAndShown
+        (SaysFile OpensNet (SaysSecond asked.command lines))
+        (ShowsBoth asked.command lines (lines_by line_text monitors.new))
+        ((Which.Net, net.now) ∷ (second_of asked.command, asked.second) ∷ [])
         (S.state shelf.old) (S.state shelf.new)
-        (ended result.0) }
+        (ended result) }
 {
     match open_net(alloc, net, shelf) {
-        Opened::Accepted(net) => answer_second(alloc, command, &net, second, shelf, monitors),
-        Opened::Refused(status, text) => (Ending::Whole { status, text }, monitors),
-        Opened::Lost => (Ending::Lost, monitors),
+        Opened::Accepted(net) => answer_second(alloc, asked, &net, shelf, monitors),
+        Opened::Refused(status, text) => Ending::Whole { status, text },
+        Opened::Lost => Ending::Lost,
     }
 }
 
-/// Carries out a request: finds its answer and writes it. The monitors come back: they were shown
-/// just the accepted firings of a log, and nothing for another command.
+/// Carries out a request: finds its answer and writes it. The monitors are shown just the accepted
+/// firings of a log, and nothing for another command.
 pub fn serve_request<S: Shelf, W: Sink>(
     alloc: Global,
     request: Request,
     shelf: &mut S,
     out: &mut W,
-    monitors: Vec<Box<dyn Monitor>>,
-) -> (Status, Vec<Box<dyn Monitor>>)
-    ensures { let lines = lines_by line_text monitors.items in ServesAndShows
+    monitors: &mut [Box<dyn Monitor>],
+) -> Status
+    ensures { let lines = lines_by line_text monitors.old in ServesAndShows
         (Says request lines)
-        (Shows request lines (lines_by line_text result.1.items))
+        (Shows request lines (lines_by line_text monitors.new))
         (files_of request)
         (S.state shelf.old) (S.state shelf.new)
         (W.state out.old) (W.state out.new)
-        result.0 }
+        result }
 {
     match request {
-        Request::OfNet { command, net } => (
-            serve_net(alloc, command, net.as_str(), shelf, out),
-            monitors,
-        ),
+        Request::OfNet { command, net } => serve_net(alloc, command, net.as_str(), shelf, out),
         Request::OfFiles {
             command,
             net,
             second,
         } => {
-            let first = net.as_str();
-            let other = second.as_str();
-            let (ending, monitors) = answer_files(alloc, command, first, other, shelf, monitors);
-            (finish(out, ending), monitors)
+            let asked = OnSecond { command, second };
+            let ending = answer_files(alloc, asked, net.as_str(), shelf, monitors);
+            finish(out, ending)
         }
-        Request::ValueOf { expression } => {
-            (finish(out, closed(tell_calc(alloc, &expression))), monitors)
-        }
-        Request::TrialOf { machines } => {
-            (finish(out, closed(tell_trial(alloc, machines))), monitors)
-        }
+        Request::ValueOf { expression } => finish(out, closed(tell_calc(alloc, &expression))),
+        Request::TrialOf { machines } => finish(out, closed(tell_trial(alloc, machines))),
     }
 }

@@ -1,5 +1,5 @@
 //! A list of dates, written as its rows are made: neither its dates nor its text are ever whole.
-ghost use Rattle.std.specs.Prelude.{ℕ, ◌≡◌, ◌+◌, ◌*◌, ◌<◌, ◌≤◌, length, map, IfOk};
+ghost use Rattle.std.specs.Prelude.{ℕ, ◌≡◌, ◌+◌, ◌<◌, ◌≤◌, length, map, IfOk};
 ghost use Rattle.teg_commands.specs.dioid.declared.dates.Date.{Date};
 ghost use Rattle.teg_commands.specs.teg_model.Datings.{IsLeastDating};
 ghost use Rattle.teg_dates.specs.DateCells.{date_of_cell};
@@ -16,7 +16,7 @@ ghost use Rattle.teg_run.specs.Writing.{WritesText};
 use crate::status::Status;
 use crate::writing::write_all;
 use std::alloc::Global;
-use teg_commands::LiveNet;
+use teg_check::LiveNet;
 use teg_dates::FirstRows;
 use teg_net::{Net, OutOfMemory};
 use teg_outside::{Sink, SinkFault};
@@ -70,7 +70,7 @@ impl Listing {
         ensures { IfOk result (IsListingOf net.now count) }
     {
         let (head, buffers) = head_and_room(alloc, net.net(), count)?;
-        let rows = net.first_rows(alloc)?;
+        let rows = FirstRows::new(alloc, net.net(), net.live())?;
         Ok(Listing {
             head,
             rows,
@@ -109,25 +109,24 @@ fn next_row(net: &Net, rows: &mut FirstRows, row: &mut [u64])
 // Writes the lines of the numbers 1 to `count`, gathered into pieces.
 fn write_rows<W: Sink>(
     net: &Net,
-    rows: &mut FirstRows,
-    row: &mut [u64],
-    line: &mut [u8],
-    block: &mut [u8],
+    mut rows: FirstRows,
+    mut buffers: Buffers,
     count: u32,
     out: &mut W,
 ) -> Result<(), SinkFault>
     requires few { count ≤ most_numbers }
-    requires stands { AreFirstRowsOf net.now rows.old }
-    requires begins { first_rows_given rows.old ≡ 0 }
-    requires row { length row.old ≡ length net.now.transitions }
-    requires line { length line.old ≡ (length net.now.transitions + 1) * 41 }
-    requires room { length block.old ≡ PIECE + (length net.now.transitions + 1) * 41 }
+    requires stands { AreFirstRowsOf net.now rows }
+    requires begins { first_rows_given rows ≡ 0 }
+    requires room { HasRoom (length net.now.transitions) buffers }
     ensures { (x : ℕ → ℕ → Date) → IsLeastDating net.now x →
         WritesText (W.state out.old) (W.state out.new) (lines_text net.now x count) result }
 {
+    let row = buffers.row.as_mut_slice();
+    let line = buffers.line.as_mut_slice();
+    let block = buffers.block.as_mut_slice();
     let mut filled = 0;
     for number in 0..count {
-        next_row(net, rows, row);
+        next_row(net, &mut rows, row);
         let end = put_row(block, filled, line, number as u64 + 1, row);
         filled = write_full(out, block, end)?;
     }
@@ -148,19 +147,11 @@ fn write_listing<W: Sink>(
 {
     let Listing {
         head,
-        mut rows,
-        mut buffers,
+        rows,
+        buffers,
     } = listing;
     write_all(out, &head)?;
-    write_rows(
-        net,
-        &mut rows,
-        &mut buffers.row,
-        &mut buffers.line,
-        &mut buffers.block,
-        count,
-        out,
-    )
+    write_rows(net, rows, buffers, count, out)
 }
 
 /// Writes the first dates of a live net, and tells how the call ends. All memory is found before

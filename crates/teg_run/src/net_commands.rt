@@ -11,8 +11,9 @@ use crate::request::NetCommand;
 use crate::status::Status;
 use crate::writing::finish;
 use std::alloc::Global;
+use teg_check::LiveNet;
 use teg_commands::{
-    CommandOutcome, LiveNet, tell_bound, tell_check, tell_cycle, tell_date, tell_dates, tell_form,
+    CommandOutcome, tell_bound, tell_check, tell_cycle, tell_date, tell_dates, tell_form,
     tell_migrate, tell_rounds, tell_size, tell_slack, tell_transfer,
 };
 use teg_net::OutOfMemory;

@@ -11,8 +11,7 @@ use crate::fetching::fetch;
 use crate::opening::{Opened, refused, unread};
 use crate::status::Status;
 use std::alloc::Global;
-use teg_check::{CheckRefusal, check};
-use teg_commands::LiveNet;
+use teg_check::{CheckRefusal, LiveNet, NotHeld};
 use teg_net::Net;
 use teg_outside::{Shelf, ShelfFault};
 use teg_reader::{ReadRefusal, read_net};
@@ -22,13 +21,15 @@ use teg_report::{Answer, Which, report};
 fn open_live(alloc: Global, net: Net) -> Opened<LiveNet>
     ensures { IfSome (opening_of result) (OpensNetLists net) }
 {
-    match check(alloc, &net) {
-        Ok(live) => Opened::Accepted(LiveNet::new(net, live)),
-        Err(CheckRefusal::TokenFree { circuit }) => {
-            let answer = Answer::TokenFree { circuit: &circuit };
-            refused(Status::Net, report(alloc, Some(&net), &answer))
-        }
-        Err(CheckRefusal::OutOfMemory) => Opened::Lost,
+    match LiveNet::new(alloc, net) {
+        Ok(net) => Opened::Accepted(net),
+        Err(NotHeld { net, refusal }) => match refusal {
+            CheckRefusal::TokenFree { circuit } => {
+                let answer = Answer::TokenFree { circuit: &circuit };
+                refused(Status::Net, report(alloc, Some(&net), &answer))
+            }
+            CheckRefusal::OutOfMemory => Opened::Lost,
+        },
     }
 }
 

@@ -1,6 +1,6 @@
 //! What the words of the command line can ask for.
-use teg_commands::{Count, Expression, FiringNumber, Limit, Machines, Period, Target};
-use teg_net::Label;
+use teg_commands::{Count, Expression, Limit, Machines, Period, Target};
+use teg_net::{FiringNumber, Label};
 
 /// A command that reads a net and no other file.
 #[derive(Drop)]

@@ -1,7 +1,7 @@
 //! The call of the program: the workbench with the program's monitors, as an exit status.
-ghost use Rattle.std.specs.Prelude.{◌≡◌, ◌∷◌, ◌++◌, ◌^◌, ◌-◌, [], IfErr, IfOk, length, map, min, string_bytes};
+ghost use Rattle.std.specs.Prelude.{◌≡◌, ◌∷◌, ◌++◌, [], IfErr, IfOk, map, string_bytes};
 ghost use Rattle.std.specs.Process.{exit_status};
-ghost use Rattle.teg_outside.specs.MonitorLines.{firings_line, greatest_lateness, greatest_tokens, high_water_line, lateness_line};
+ghost use Rattle.teg_run.specs.Calls.{call_of, program_lines};
 ghost use Rattle.teg_run.specs.WholeCalls.{Runs};
 ghost use Rattle.teg_run.specs.Statuses.{code_of};
 ghost use Rattle.teg_run.specs.declared.status.Status.{Status};
@@ -27,18 +27,8 @@ fn watched<S: Shelf, W: Sink>(
     shelf: &mut S,
     out: &mut W,
 ) -> Result<Status, AllocError>
-    ensures runs { IfOk result (λ status. Runs (record {
-      words = map string_bytes words.now;
-      lines = λ firings. firings_line (min (length firings) (2 ^ 64 - 1))
-          ∷ high_water_line (greatest_tokens firings)
-          ∷ lateness_line (greatest_lateness firings)
-          ∷ [];
-      shelf_before = S.state shelf.old;
-      shelf_after = S.state shelf.new;
-      sink_before = W.state out.old;
-      sink_after = W.state out.new;
-      status = status;
-    })) }
+    ensures runs { IfOk result (λ status. Runs (call_of (map string_bytes words.now) program_lines
+        (S.state shelf.old) (S.state shelf.new) (W.state out.old) (W.state out.new) status)) }
     ensures unread { IfErr result (λ _. S.state shelf.new ≡ S.state shelf.old) }
     ensures unwritten { IfErr result (λ _. W.state out.new ≡ W.state out.old) }
 {
@@ -61,18 +51,8 @@ pub fn run_watched<S: Shelf, W: Sink>(
     out: &mut W,
 ) -> ExitCode
     ensures { (status : Status)
-        × Runs (record {
-          words = map string_bytes words.now;
-          lines = λ firings. firings_line (min (length firings) (2 ^ 64 - 1))
-              ∷ high_water_line (greatest_tokens firings)
-              ∷ lateness_line (greatest_lateness firings)
-              ∷ [];
-          shelf_before = S.state shelf.old;
-          shelf_after = S.state shelf.new;
-          sink_before = W.state out.old;
-          sink_after = W.state out.new;
-          status = status;
-        })
+        × Runs (call_of (map string_bytes words.now) program_lines
+        (S.state shelf.old) (S.state shelf.new) (W.state out.old) (W.state out.new) status)
         × (exit_status result ≡ code_of status) }
 {
     match watched(alloc, words, shelf, out) {

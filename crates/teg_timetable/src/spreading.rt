@@ -116,7 +116,7 @@ fn left_by(
 /// limit, past 20,000,000,000,000 rows, which no memory holds. For n transitions, p places, r delays
 /// and a settling length l it takes time of order `n^2 + n r + (n + p) l`, and what the periods that
 /// are tried take beside the rows, as in [`settle_within`](teg_settle::settle_within); the rows are
-/// kept, eight bytes a date where dates are below 2^64 - 2.
+/// kept, eight bytes a date where dates are below 2^63 - 1.
 pub fn spread(
     alloc: Global,
     net: &Net,

@@ -134,7 +134,7 @@ fn monitors_are_dropped_once_and_see_what_is_accepted(rt: HostRuntime) -> Result
 }
 
 #[test]
-fn monitors_come_back(rt: HostRuntime) -> Result<(), Fail> {
+fn monitors_are_lent(rt: HostRuntime) -> Result<(), Fail> {
     let alloc = rt.alloc();
     let mut words = Vec::new(alloc);
     for word in ["replay", "net", "second"] {
@@ -144,10 +144,9 @@ fn monitors_come_back(rt: HostRuntime) -> Result<(), Fail> {
     monitors.push(Box::new(alloc, FiringCount::new())?)?;
     let mut shelf = shelf_of(alloc, LOOP.as_bytes(), b"a,0\nb,3\na,4\n", &[])?;
     let mut out = sink_of(alloc, 65536)?;
-    let (status, back) = serve(alloc, &words, &mut shelf, &mut out, monitors);
+    let status = serve(alloc, &words, &mut shelf, &mut out, &mut monitors);
     assert!(rt; status == Status::Log, "the third firing comes too early");
-    assert!(rt; back.len() == 1);
-    for monitor in &back {
+    for monitor in &monitors {
         assert!(rt; monitor.line(alloc)?.as_str() == "firings 2");
     }
     Ok(())

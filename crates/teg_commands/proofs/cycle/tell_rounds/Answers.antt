@@ -1,8 +1,8 @@
 use Rattle.std.proofs.Common.{All, List, Some, refl, ap, subst, sym, ◌∙◌}
 use Rattle.std.specs.Global.{Vec}
 use Rattle.teg_net.specs.declared.rounds.Round.{Round}
-use Rattle.teg_report.specs.AnswerMeanings.{runs_lists}
-use Rattle.teg_report.specs.RoundLines.{IsRunKept, RoundLists}
+use Rattle.teg_report.specs.teg_lines.CycleMeanings.{runs_lists}
+use Rattle.teg_report.specs.teg_lines.RoundLines.{IsRunKept, RoundLists}
 use Rattle.teg_cycle.specs.LastRounds.{rounds_of_runs}
 use Rattle.teg_commands.specs.CommandTexts.{cycle_text}
 use Rattle.teg_commands.proofs.CycleTold.{lists_of, runs_told}

@@ -1,12 +1,12 @@
 use Rattle.std.proofs.Common.{ℕ, Option, None, subst}
 use Rattle.teg_net.specs.GreatestRatios.{IsFirstGreatest}
-use Rattle.teg_report.proofs.Certified.{certificate_told}
+use Rattle.teg_report.proofs.teg_lines_proofs.Certified.{certificate_told}
 use Rattle.teg_commands.proofs.CycleTold.{no_rounds_kept, of_each_result}
 use Rattle.teg_commands.proofs.cycle.text_of_times.Goals as goal
 
 pub report-requires-in-Some : goal.report-requires-in-Some
 report-requires-in-Some c =
-    rw c.net-in-Some.ensures (certificate_told c.args.net.now c.args.answer.now c.in-Some.field-0 c.requires.certificate c.in-Some.is, c.requires.rounds)
+    rw c.net-in-Some.ensures.net (certificate_told c.args.net.now c.args.answer.now c.in-Some.field-0 c.requires.certificate c.in-Some.is, c.requires.rounds)
 
 pub returns-in-None-clause-kept : goal.returns-in-None-clause-kept
 returns-in-None-clause-kept c =

@@ -8,6 +8,6 @@ use Rattle.teg_commands.proofs.timetable.tell_timetable.Goals as goal
 pub returns-in-Ok : goal.returns-in-Ok
 returns-in-Ok c =
     let table = c.in-Ok.table in
-    let read = subst (λ (net : NetLists). timetable_of net c.args.bytes.now ≡ Ok (lists_of_table table)) c.net.ensures c.in-Ok.ensures.table in
-    let kept = subst (λ (net : NetLists). IsTableOf net table) c.net.ensures c.in-Ok.ensures.rules in
+    let read = subst (λ (net : NetLists). timetable_of net c.args.bytes.now ≡ Ok (lists_of_table table)) c.net.ensures.net c.in-Ok.ensures.table in
+    let kept = subst (λ (net : NetLists). IsTableOf net table) c.net.ensures.net c.in-Ok.ensures.rules in
     tells_weaker _ _ _ (λ verdict text h. inr (table, read, kept, h)) (rw (c.get-period.ensures.value, c.most_of-limit.ensures.value) at c.tell_delays.ensures)

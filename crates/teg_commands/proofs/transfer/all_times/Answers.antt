@@ -9,7 +9,7 @@ use Rattle.teg_commands.proofs.transfer.all_times.Goals as goal
 
 pub times_from-requires-clause-input : goal.times_from-requires-clause-input
 times_from-requires-clause-input c =
-    let all : c.deref-input-items.result.now ≡ those_of_role c.args.net.now Input = search (rules, c.deref-input-items.ensures.value, c.in_ok-inputs.ensures, c.net.ensures) in
+    let all : c.deref-input-items.result.now ≡ those_of_role c.args.net.now Input = search (rules, c.deref-input-items.ensures.value, c.in_ok-inputs.ensures, c.net.ensures.net) in
     rw all (those_are_inputs c.args.net.now c.loop-input.input-index _ (subst (λ (ts : List TransitionId). c.loop-input.input-index < length ts) all c.loop-input-test.true))
 
 pub loop-input-preserved : goal.loop-input-preserved

@@ -20,9 +20,9 @@ follow-init c =
     let highest = c.in_ok-followers.followers.highest.items in
     let value : c.index.result.now ≡ get_or highest root None = get_or_read highest root c.index.result.now (omega (arith, r.member.in_range, links.highest_count)) c.index.ensures None in
     rw (c.in_ok-add.ensures, c.new-waiting.ensures.items, value)
-    (spread_start c.args.net.now c.args.parts.now c.args.part
+    (spread_start c.args.part.now.net.now c.args.part.now.parts.now c.args.part.now.number
     (policy_of c.args.policy.now) root c.args.ratio.time c.args.ratio.tokens c.in_ok-values.values.items c.in_ok-followers.followers r.member links
-    (followed_start c.args.net.now c.args.parts.now c.args.part c.args.ratio.time c.args.ratio.tokens root (policy_of c.args.policy.now) c.in_ok-values.values.items r.member alone) alone.others)
+    (followed_start c.args.part.now.net.now c.args.part.now.parts.now c.args.part.now.number c.args.ratio.time c.args.ratio.tokens root (policy_of c.args.policy.now) c.in_ok-values.values.items r.member alone) alone.others)
 
 pub offset_bounds-policy-member : goal.offset_bounds-policy-member
 offset_bounds-policy-member c =
@@ -47,11 +47,11 @@ offer_from-requires-clause-start c =
 
 pub offer_from-requires-clause-within : goal.offer_from-requires-clause-within
 offer_from-requires-clause-within c =
-    let net = c.args.net.now in
+    let net = c.args.part.now.net.now in
     let vs = c.follow.values.items in
     let few = c.requires.kept.few_transitions in
     rw c.deref.ensures.value
-    (held_at net c.args.parts.now c.args.part c.args.ratio.time c.args.ratio.tokens c.args.root
+    (held_at net c.args.part.now.parts.now c.args.part.now.number c.args.ratio.time c.args.ratio.tokens c.args.root
     (policy_of c.args.policy.now) vs c.follow.invariant.followed.valued (omega (arith, c.requires.count_parts))
     (from_of net (policy_of c.args.policy.now c.in-Some.member)))
 
@@ -79,9 +79,9 @@ follow-smaller c =
 
 pub follow-preserved : goal.follow-preserved
 follow-preserved c =
-    let net = c.args.net.now in
-    let parts = c.args.parts.now in
-    let part = c.args.part in
+    let net = c.args.part.now.net.now in
+    let parts = c.args.part.now.parts.now in
+    let part = c.args.part.now.number in
     let π = policy_of c.args.policy.now in
     let root = c.args.root in
     let a = c.args.ratio.time in

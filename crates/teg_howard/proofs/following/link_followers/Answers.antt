@@ -12,9 +12,9 @@ use Rattle.teg_howard.proofs.following.link_followers.Goals as goal
 
 pub loop-member-preserved : goal.loop-member-preserved
 loop-member-preserved c =
-    let net = c.args.net.now in
-    let parts = c.args.parts.now in
-    let part = c.args.part in
+    let net = c.args.part.now.net.now in
+    let parts = c.args.part.now.parts.now in
+    let part = c.args.part.now.number in
     let π = policy_of c.args.policy.now in
     let root = c.args.root in
     let i = c.loop-member.member in
@@ -23,7 +23,7 @@ loop-member-preserved c =
     let lower = c.loop-member.lower.items in
     let i_in = c.loop-member-test.true in
     let in_net : (π i).index < length net.places = c.requires.in_range i first_id (omega (arith, i_in, c.requires.count)) in
-    let from_in : from_of net (π i) < length parts = let l = (c.places-places.ensures.rules.each_place (π i).index no_place in_net).from_in in omega (arith, l, c.requires.count_parts) in
+    let from_in : from_of net (π i) < length parts = let l = (c.places-places.ensures.rules.each_place (π i).index no_place in_net).from_in in omega (arith, l, c.args.part.now.count) in
     elim c.if-parts-member.branch [
       | then-parts-member+then-member-root w ↦
           let member : IsMember parts part i = record { in_range = i_in; here = w.if-parts-member.true } in

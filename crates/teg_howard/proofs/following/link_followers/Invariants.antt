@@ -3,4 +3,4 @@ use Rattle.teg_howard.proofs.Spreading.{LinkedTo}
 use Rattle.teg_howard.proofs.following.link_followers.Given as goal
 
 abbrev pub invariant-loop-member : goal.invariant-loop-member
-invariant-loop-member l = LinkedTo l.net l.parts l.part (policy_of l.policy) l.root l.highest.items l.lower.items l.member
+invariant-loop-member l = LinkedTo l.part.net.now l.part.parts.now l.part.number (policy_of l.policy) l.root l.highest.items l.lower.items l.member

@@ -10,16 +10,22 @@ use Rattle.teg_howard.proofs.RoundStates.{can_settle, settled_stands, first_stan
 use Rattle.teg_howard.proofs.iteration.first_circuit.Goals as goal
 
 pub best_circuit-requires-clause-policy : goal.best_circuit-requires-clause-policy
-best_circuit-requires-clause-policy c = lowest_policy c.args.net.now c.args.parts.now c.args.part c.args.policy.now c.requires.circuit c.requires.lowest
-
-pub best_circuit-requires-clause-in_range : goal.best_circuit-requires-clause-in_range
-best_circuit-requires-clause-in_range c = lowest_in_range c.args.net.now c.args.parts.now c.args.part c.args.policy.now c.requires.circuit c.requires.lowest
+best_circuit-requires-clause-policy c =
+    let net = c.args.part.now.net.now in
+    let parts = c.args.part.now.parts.now in
+    let part = c.args.part.now.number in
+    let ps = c.args.policy.now in
+    record {
+      count = c.requires.lowest.count;
+      is_policy = lowest_policy net parts part ps c.requires.circuit c.requires.lowest;
+      in_range = lowest_in_range net parts part ps c.requires.circuit c.requires.lowest;
+    }
 
 pub unwrap-found-requires : goal.unwrap-found-requires
 unwrap-found-requires c =
-    let net = c.args.net.now in
-    let parts = c.args.parts.now in
-    let part = c.args.part in
+    let net = c.args.part.now.net.now in
+    let parts = c.args.part.now.parts.now in
+    let part = c.args.part.now.number in
     let π = policy_of c.args.policy.now in
     let ok = lowest_policy net parts part c.args.policy.now c.requires.circuit c.requires.lowest in
     let inner = c.requires.circuit.inner in
@@ -31,9 +37,9 @@ unwrap-found-requires c =
 
 pub returns : goal.returns
 returns c =
-    let net = c.args.net.now in
-    let parts = c.args.parts.now in
-    let part = c.args.part in
+    let net = c.args.part.now.net.now in
+    let parts = c.args.part.now.parts.now in
+    let part = c.args.part.now.number in
     let ps = c.args.policy.now in
     let low = c.requires.lowest in
     let f = c.unwrap-found.result in

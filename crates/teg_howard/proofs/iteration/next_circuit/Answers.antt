@@ -7,13 +7,17 @@ use Rattle.teg_howard.proofs.iteration.next_circuit.Goals as goal
 pub best_circuit-requires-clause-policy : goal.best_circuit-requires-clause-policy
 best_circuit-requires-clause-policy c =
     let i = c.requires.improved in
-    step_policy c.args.net.now c.args.parts.now c.args.part i.policy c.args.policy.now c.args.state.now c.args.changed.now i.standing i.up
+    record {
+      count = i.count;
+      is_policy = step_policy c.args.part.now.net.now c.args.part.now.parts.now c.args.part.now.number i.policy c.args.policy.now c.args.state.now c.args.changed.now i.standing i.up;
+      in_range = i.up.in_range;
+    }
 
 pub returns-in-Some : goal.returns-in-Some
 returns-in-Some c =
-    let net = c.args.net.now in
-    let parts = c.args.parts.now in
-    let part = c.args.part in
+    let net = c.args.part.now.net.now in
+    let parts = c.args.part.now.parts.now in
+    let part = c.args.part.now.number in
     let ps = c.args.policy.now in
     let st = c.args.state.now in
     let marked = c.args.changed.now in
@@ -27,9 +31,9 @@ returns-in-Some c =
 
 pub returns-in_ok-circuit-in-None : goal.returns-in_ok-circuit-in-None
 returns-in_ok-circuit-in-None c =
-    let net = c.args.net.now in
-    let parts = c.args.parts.now in
-    let part = c.args.part in
+    let net = c.args.part.now.net.now in
+    let parts = c.args.part.now.parts.now in
+    let part = c.args.part.now.number in
     let ps = c.args.policy.now in
     let st = c.args.state.now in
     let marked = c.args.changed.now in

@@ -18,34 +18,34 @@ use Rattle.teg_howard.proofs.policies.improve.Goals as goal
 
 pub loop-id-init : goal.loop-id-init
 loop-id-init c =
-    let net = c.args.net.now in
-    let parts = c.args.parts.now in
-    let part = c.args.part in
+    let net = c.args.part.now.net.now in
+    let parts = c.args.part.now.parts.now in
+    let part = c.args.part.now.number in
     let n : ℕ = length parts in
     let cs = c.in_ok-changed.changed.items in
     let filled : cs ≡ replicate n false = c.in_ok-changed.ensures.items_if_clones_equal (search rules) in
     let ok_g = c.in_ok-greatest.greatest.ok in
     let ok_c = c.in_ok-changed.changed.ok in
     improving_none net parts part c.args.ratio.time c.args.ratio.tokens
-    (potentials c.args.values.now) c.args.policy.now c.in_ok-greatest.greatest.items cs (number_at net parts part c.args.inner.now 0) c.requires.can.count
+    (potentials c.args.values.now) c.args.policy.now c.in_ok-greatest.greatest.items cs (number_at net parts part c.args.part.now.ids.now 0) c.requires.can.count
     (omega (arith, c.in_ok-greatest.ensures.len, ok_g.0)) (omega (arith, c.in_ok-changed.ensures.len, ok_c.0))
-    (λ t. rw filled (no_mark n t)) (none_first net parts part c.args.inner.now c.requires.inner) c.requires.can.in_range
+    (λ t. rw filled (no_mark n t)) (none_first net parts part c.args.part.now.ids.now c.requires.inner) c.requires.can.in_range
 
 pub end_of-member-requires : goal.end_of-member-requires
 end_of-member-requires c = (c.requires.inner.only c.loop-id.id-index first_id c.loop-id-test.true).in_range
 
 pub offer_from-offered-requires-clause-start : goal.offer_from-offered-requires-clause-start
 offer_from-offered-requires-clause-start c =
-    let net = c.args.net.now in
-    let p : PlaceId = get_or c.args.inner.now c.loop-id.id-index first_id in
+    let net = c.args.part.now.net.now in
+    let p : PlaceId = get_or c.args.part.now.ids.now c.loop-id.id-index first_id in
     c.requires.can.has (from_of net p) (c.requires.inner.only c.loop-id.id-index first_id c.loop-id-test.true).from_member
 
 pub loop-id-preserved : goal.loop-id-preserved
 loop-id-preserved c =
-    let net = c.args.net.now in
-    let parts = c.args.parts.now in
-    let part = c.args.part in
-    let ids = c.args.inner.now in
+    let net = c.args.part.now.net.now in
+    let parts = c.args.part.now.parts.now in
+    let part = c.args.part.now.number in
+    let ids = c.args.part.now.ids.now in
     let k = c.loop-id.id-index in
     let l = c.loop-id-test.true in
     let a = c.args.ratio.time in
@@ -80,5 +80,5 @@ loop-id-preserved c =
 
 pub returns : goal.returns
 returns c =
-    improving_all c.args.net.now c.args.parts.now c.args.part c.args.ratio c.args.values.now c.args.policy.now c.loop-id.policy c.loop-id.greatest.items c.loop-id.changed.items _
-    (past_all c.args.net.now c.args.parts.now c.args.part c.args.inner.now c.requires.inner c.loop-id.id-index c.loop-id-test.false) c.loop-id.invariant
+    improving_all c.args.part.now.net.now c.args.part.now.parts.now c.args.part.now.number c.args.ratio c.args.values.now c.args.policy.now c.loop-id.policy c.loop-id.greatest.items c.loop-id.changed.items _
+    (past_all c.args.part.now.net.now c.args.part.now.parts.now c.args.part.now.number c.args.part.now.ids.now c.requires.inner c.loop-id.id-index c.loop-id-test.false) c.loop-id.invariant

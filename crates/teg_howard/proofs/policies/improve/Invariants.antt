@@ -5,5 +5,5 @@ use Rattle.teg_howard.proofs.policies.improve.Given as goal
 
 abbrev pub invariant-loop-id : goal.invariant-loop-id
 invariant-loop-id l =
-    Improving l.net l.parts l.part l.ratio.time l.ratio.tokens (potentials l.values)
-    (policy_of l.fn.policy) l.policy l.greatest.items l.changed.items (number_at l.net l.parts l.part l.inner l.id-index)
+    Improving l.part.net.now l.part.parts.now l.part.number l.ratio.time l.ratio.tokens (potentials l.values)
+    (policy_of l.fn.policy) l.policy l.greatest.items l.changed.items (number_at l.part.net.now l.part.parts.now l.part.number l.part.ids.now l.id-index)

@@ -14,9 +14,9 @@ use Rattle.teg_howard.proofs.policy_circuits.best_circuit.Goals as goal
 
 pub loop-start-preserved : goal.loop-start-preserved
 loop-start-preserved c =
-    let net = c.args.net.now in
-    let parts = c.args.parts.now in
-    let part = c.args.part in
+    let net = c.args.part.now.net.now in
+    let parts = c.args.part.now.parts.now in
+    let part = c.args.part.now.number in
     let π = policy_of c.args.policy.now in
     let marked = c.args.marked.now in
     let i = c.loop-start.start in
@@ -30,16 +30,16 @@ loop-start-preserved c =
           let f = w.in-Some.circuit in
           let member : IsMember parts part i = c.in_ok-starts.ensures.only i (sym read ∙ w.if-index.true) in
           let found : IsFoundAt net π i f = rw w.in-Some.is at w.in_ok-circuit.ensures.some in
-          rw w.best-is (best_of net parts part π marked r.policy r.kept r.live r.parts i f c.loop-start.best w.better_of-best.result member found h w.better_of-best.ensures)
+          rw w.best-is (best_of net parts part π marked r.policy.is_policy c.rules.ensures r.live c.args.part.now.count i f c.loop-start.best w.better_of-best.result member found h w.better_of-best.ensures)
       | then-index+in_ok-circuit+in_default w ↦
           let none = rw w.in_default.is at w.in_ok-circuit.ensures.none in
           rw w.best-is
-          (best_skip net parts part π marked r.policy r.kept r.live r.parts i c.loop-start.best h
-          (skip_none net parts part π marked r.policy r.kept r.live r.parts i (λ k l m. none k l (omega (arith, r.parts, r.count)))))
+          (best_skip net parts part π marked r.policy.is_policy c.rules.ensures r.live c.args.part.now.count i c.loop-start.best h
+          (skip_none net parts part π marked r.policy.is_policy c.rules.ensures r.live c.args.part.now.count i (λ k l m. none k l (omega (arith, c.args.part.now.count, r.policy.count)))))
       | else-index w ↦
           rw w.best-is
-          (best_skip net parts part π marked r.policy r.kept r.live r.parts i c.loop-start.best h
-          (skip_unmarked net parts part π marked r.policy r.kept r.live r.parts starts i c.in_ok-starts.ensures
+          (best_skip net parts part π marked r.policy.is_policy c.rules.ensures r.live c.args.part.now.count i c.loop-start.best h
+          (skip_unmarked net parts part π marked r.policy.is_policy c.rules.ensures r.live c.args.part.now.count starts i c.in_ok-starts.ensures
           (λ y.
           let z = w.if-index.false in
           let f : ⊥ = cc in
@@ -48,15 +48,15 @@ loop-start-preserved c =
 
 pub better_of-best-requires-clause-in_range : goal.better_of-best-requires-clause-in_range
 better_of-best-requires-clause-in_range c =
-    let net = c.args.net.now in
+    let net = c.args.part.now.net.now in
     let starts = c.in_ok-starts.starts.items in
     let i = c.loop-start.start in
     let read : c.index.result.now ≡ get_or starts i false = get_or_read starts i c.index.result.now (omega (arith, c.loop-start-test.true, c.in_ok-starts.ensures.count)) c.index.ensures false in
-    let member : IsMember c.args.parts.now c.args.part i = c.in_ok-starts.ensures.only i (sym read ∙ c.if-index.true) in
+    let member : IsMember c.args.part.now.parts.now c.args.part.now.number i = c.in_ok-starts.ensures.only i (sym read ∙ c.if-index.true) in
     let r = c.requires in
     let found : IsFoundAt net (policy_of c.args.policy.now) c.loop-start.start c.in-Some.circuit = rw c.in-Some.is at c.in_ok-circuit.ensures.some in
-    λ k d l. ((found_circuit net c.args.parts.now c.args.part
-    (policy_of c.args.policy.now) c.args.marked.now r.policy r.kept r.live r.parts c.loop-start.start c.in-Some.circuit member found).inside k d l).in_range
+    λ k d l. ((found_circuit net c.args.part.now.parts.now c.args.part.now.number
+    (policy_of c.args.policy.now) c.args.marked.now r.policy.is_policy c.rules.ensures r.live c.args.part.now.count c.loop-start.start c.in-Some.circuit member found).inside k d l).in_range
 
 best_some : (net : NetLists) (parts : List ℕ) (part : ℕ) (π : Policy) (marked : List Bool) (ok : IsPolicy net parts part π)
     (kept : IsNet net) (live : IsLive net) (count : length parts ≡ length net.transitions) (n : ℕ) (best : Option FoundCircuit)
@@ -67,8 +67,8 @@ best_some net parts part π marked ok kept live count n (Some f) l b = best_all 
 pub returns-clause-some : goal.returns-clause-some
 returns-clause-some c =
     let r = c.requires in
-    best_some c.args.net.now c.args.parts.now c.args.part
-    (policy_of c.args.policy.now) c.args.marked.now r.policy r.kept r.live r.parts c.loop-start.start c.loop-start.best (omega arith) c.loop-start.invariant
+    best_some c.args.part.now.net.now c.args.part.now.parts.now c.args.part.now.number
+    (policy_of c.args.policy.now) c.args.marked.now r.policy.is_policy c.rules.ensures r.live c.args.part.now.count c.loop-start.start c.loop-start.best (omega arith) c.loop-start.invariant
 
 best_none : (net : NetLists) (parts : List ℕ) (part : ℕ) (π : Policy) (marked : List Bool) (ok : IsPolicy net parts part π)
     (kept : IsNet net) (live : IsLive net) (count : length parts ≡ length net.transitions) (n : ℕ) (best : Option FoundCircuit)
@@ -79,5 +79,5 @@ best_none net parts part π marked ok kept live count n (Some f) l b = tt
 pub returns-clause-none : goal.returns-clause-none
 returns-clause-none c =
     let r = c.requires in
-    best_none c.args.net.now c.args.parts.now c.args.part
-    (policy_of c.args.policy.now) c.args.marked.now r.policy r.kept r.live r.parts c.loop-start.start c.loop-start.best (omega arith) c.loop-start.invariant
+    best_none c.args.part.now.net.now c.args.part.now.parts.now c.args.part.now.number
+    (policy_of c.args.policy.now) c.args.marked.now r.policy.is_policy c.rules.ensures r.live c.args.part.now.count c.loop-start.start c.loop-start.best (omega arith) c.loop-start.invariant

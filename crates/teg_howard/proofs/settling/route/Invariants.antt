@@ -7,9 +7,9 @@ use Rattle.teg_howard.proofs.settling.route.Given as goal
 
 abbrev pub invariant-route : goal.invariant-route
 invariant-route l = record {
-  in_range : All (λ p. p.index < length l.net.places) l.policy;
-  routed : (joins : List PlaceId) × Routed l.net l.parts l.part l.ratio.time l.ratio.tokens l.root (policy_of l.fn.policy) joins (policy_of l.policy) l.values.items;
-  none_before : NoneLeadsOn l.net l.values.items l.inner.ids.items l.from;
+  in_range : All (λ p. p.index < length l.part.net.now.places) l.policy;
+  routed : (joins : List PlaceId) × Routed l.part.net.now l.part.parts.now l.part.number l.ratio.time l.ratio.tokens l.root (policy_of l.fn.policy) joins (policy_of l.policy) l.values.items;
+  none_before : NoneLeadsOn l.part.net.now l.values.items l.part.ids.now l.from;
 }
 
 abbrev pub decreases-route : goal.decreases-route

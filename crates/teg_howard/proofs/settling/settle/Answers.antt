@@ -1,4 +1,4 @@
-use Rattle.std.proofs.Common.{◌≡◌}
+use Rattle.std.proofs.Common.{◌≡◌, refl}
 use Rattle.teg_net.specs.PartAnswers.{first_transition_of}
 use Rattle.teg_howard.specs.FoundCircuits.{policy_of}
 use Rattle.teg_howard.proofs.Turns.{root_member}
@@ -12,7 +12,7 @@ root_of-root-requires-clause-in_range c = rw c.deref.ensures.value (λ k d l. (c
 
 pub route-requires-clause-can : goal.route-requires-clause-can
 route-requires-clause-can c =
-    let net = c.args.net.now in
+    let net = c.args.part.now.net.now in
     let circuit = c.args.circuit.items in
     let r = c.requires.can in
     let root : c.root_of-root.result ≡ first_transition_of net circuit = rw c.deref.ensures.value at c.root_of-root.ensures in
@@ -23,16 +23,16 @@ route-requires-clause-can c =
       count = r.count;
       is_policy = r.is_policy;
       in_range = r.in_range;
-      member = root_member net c.args.parts.now c.args.part (policy_of c.args.policy.now) circuit r.circuit;
+      member = root_member net c.args.part.now.parts.now c.args.part.now.number (policy_of c.args.policy.now) circuit r.circuit;
       small = r.small;
     })
 
 pub returns : goal.returns
 returns c =
-    let root : c.root_of-root.result ≡ first_transition_of c.args.net.now c.args.circuit.items = rw c.deref.ensures.value at c.root_of-root.ensures in
+    let root : c.root_of-root.result ≡ first_transition_of c.args.part.now.net.now c.args.circuit.items = rw c.deref.ensures.value at c.root_of-root.ensures in
     record {
-      ratio = c.in_ok-round.ensures.ratio;
-      circuit = c.in_ok-round.ensures.circuit;
-      made = rw c.deref-2.ensures.value at c.in_ok-round.ensures.made;
+      ratio = refl;
+      circuit = refl;
+      made = rw c.deref-2.ensures.value at c.in_ok-choices.ensures;
       members = rw root at c.in_ok-values.ensures;
     }

@@ -1,6 +1,6 @@
 use Rattle.std.proofs.Common.{arith}
 use Rattle.teg_net.proofs.PathLaws.{IsPathBetween-in_range}
-use Rattle.teg_report.proofs.Certified.{certificate_told}
+use Rattle.teg_lines.proofs.Certified.{certificate_told}
 use Rattle.teg_report.proofs.SeriesRead.{series_kept}
 use Rattle.teg_report.proofs.laws.answers_are_told.Goals as goal
 

@@ -30,7 +30,7 @@ loop-step-preserved c =
     let step = get_or c.deref-step-items.result.now i (By (record { index = 0 })) in
     let before = string_bytes c.args.text.now in
     let text = string_bytes c.push_step.new.text in
-    let more = left_more net walk.start walk.number steps before (string_bytes c.loop-step.text) text i c.loop-step.at c.loop-step.number step c.transitions.ensures.rules
+    let more = left_more net walk.start walk.number steps before (string_bytes c.loop-step.text) text i c.loop-step.at c.loop-step.number step c.rules.ensures
     (left_at steps c.deref-step-items.result.now i (By (record { index = 0 })) c.deref-step-items.ensures.value c.loop-step-test.true) c.in_ok-at.ensures.text c.loop-step.invariant in
     subst (λ (n : ℕ). IsLeft net walk.start walk.number steps before text (i + 1) c.in_ok-at.field-0-0 n) (sym c.in_ok-at.ensures.number)
     (subst (λ (t : TransitionId). IsLeft net walk.start walk.number steps before text (i + 1) t (step_number net c.loop-step.number step)) (sym c.in_ok-at.ensures.to) more)

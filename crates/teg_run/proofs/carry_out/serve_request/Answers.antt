@@ -14,7 +14,7 @@ returns-in-OfNet g c =
     (rw c.as_str.ensures at c.serve_net.ensures))
 
 pub returns-in-OfFiles : goal.returns-in-OfFiles
-returns-in-OfFiles g c = rw c.in-OfFiles.is (_, rw (c.as_str-first.ensures, c.as_str-other.ensures) at c.answer_files-ending.ensures, c.finish.ensures)
+returns-in-OfFiles g c = rw c.in-OfFiles.is (_, rw c.as_str-in-OfFiles.ensures at c.answer_files-ending.ensures, c.finish.ensures)
 
 pub returns-in-ValueOf : goal.returns-in-ValueOf
 returns-in-ValueOf g c =

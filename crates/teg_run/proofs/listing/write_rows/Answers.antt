@@ -1,4 +1,4 @@
-use Rattle.std.proofs.Common.{◌≡◌, ◌+◌, map, refl, ap, ◌∙◌, arith}
+use Rattle.std.proofs.Common.{◌≡◌, ◌+◌, ℕ, List, length, map, ap, ◌∙◌, arith}
 use Rattle.std.proofs.lemmas.Result.{err_from_is_err_and}
 use Rattle.teg_dates.specs.DateCells.{date_of_cell}
 use Rattle.teg_run.specs.WrittenLists.{lines_text}
@@ -9,9 +9,9 @@ pub loop-number-init : goal.loop-number-init
 loop-number-init g c = record {
   stands = c.requires.stands;
   number = c.requires.begins;
-  row = c.requires.row;
-  line = refl;
-  block = refl;
+  row = ap (λ (xs : List ℕ). length xs) c.as_mut_slice-row.ensures.value ∙ c.requires.room.row;
+  line = ap (λ (xs : List ℕ). length xs) c.as_mut_slice-line.ensures.value ∙ c.requires.room.line;
+  block = ap (λ (xs : List ℕ). length xs) c.as_mut_slice-block.ensures.value ∙ c.requires.room.block;
   filled = omega arith;
   gathered = λ x h. gathered_none c.args.net.now x _ _;
 }

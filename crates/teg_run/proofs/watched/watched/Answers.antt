@@ -2,6 +2,7 @@ use Rattle.std.proofs.Common.{◌≡◌, ◌++◌, ◌∙◌, ℕ, List, [], ◌
 use denote.Param.Object.{read_made}
 use Rattle.std.specs.Prelude.{string_bytes}
 use Rattle.teg_outside.specs.declared.monitor.Firing.{Firing}
+use Rattle.teg_run.specs.Calls.{call_of}
 use Rattle.teg_run.specs.WholeCalls.{Runs}
 use Rattle.teg_run.proofs.watched.watched.Goals as goal
 use Rattle.teg_run.proofs.watched.watched.OwnLists as own
@@ -22,15 +23,8 @@ three_told t e p q r = ap (map t) e ∙ (λ i. p i ∷ q i ∷ r i ∷ [])
 pub returns-clause-runs : goal.returns-clause-runs
 returns-clause-runs g c =
     same_lines
-    (λ lines. Runs (record {
-      words = map string_bytes c.args.words.now;
-      lines = lines;
-      shelf_before = g.S.Shelf.state c.args.shelf.now;
-      shelf_after = g.S.Shelf.state c.workbench.new.shelf;
-      sink_before = g.W.Sink.state c.args.out.now;
-      sink_after = g.W.Sink.state c.workbench.new.out;
-      status = c.workbench.result;
-    }))
+    (λ lines. Runs (call_of (map string_bytes c.args.words.now) lines (g.S.Shelf.state c.args.shelf.now) (g.S.Shelf.state c.workbench.new.shelf)
+    (g.W.Sink.state c.args.out.now) (g.W.Sink.state c.workbench.new.out) c.workbench.result))
     (λ f. three_told _
     (three_added _ _ _ _ _ _ _ c.new-monitors.ensures.items c.in_ok-keep.ensures c.in_ok-keep-2.ensures c.in_ok-keep-3.ensures)
     (read_made own.own-1 _ own.at-1-1 refl (List ℕ) (λ j m. j.1.line_text m f) c.into_dyn_box.result.vtable c.into_dyn_box.result.value c.in_ok-new.field-0.value c.into_dyn_box.ensures.1

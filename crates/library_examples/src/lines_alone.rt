@@ -1,0 +1,61 @@
+//! The texts of cycle times and of a circuit without tokens, written on `teg_lines` without the
+//! other crates of answers.
+use std::alloc::Global;
+use std::test::Fail;
+use teg_certificates::check_cycle;
+use teg_check::{CheckRefusal, LiveNet};
+use teg_cycle::cycle;
+use teg_lines::{certificates_can_be_told, cycle_text, token_free_text};
+use teg_net::{CycleAnswer, Net, OutOfMemory};
+use teg_parts::split;
+use teg_reader::read_net;
+
+// Two transitions that follow each other by 3 and by 2, with one token on the way back.
+const RING: &[u8] = b"transition = [{name = 'a'}, {name = 'b'}]
+place = [
+  {name = 'ab', from = 'a', to = 'b', hold = 3},
+  {name = 'ba', from = 'b', to = 'a', hold = 2, tokens = 1},
+]
+";
+
+// The same without a token.
+const STUCK: &[u8] = b"transition = [{name = 'a'}, {name = 'b'}]
+place = [
+  {name = 'ab', from = 'a', to = 'b', hold = 3},
+  {name = 'ba', from = 'b', to = 'a', hold = 2},
+]
+";
+
+// The text of an answer that is a certificate with a best part; of any other nothing.
+fn told(alloc: Global, net: &Net, answer: &CycleAnswer) -> Result<Vec<u8>, OutOfMemory> {
+    // The law that such an answer can be told.
+    certificates_can_be_told();
+    match answer.best {
+        Some(_) if check_cycle(net, answer) => cycle_text(alloc, net, answer, None),
+        _ => Ok(Vec::new(alloc)),
+    }
+}
+
+#[test]
+fn cycle_times_are_told(rt: HostRuntime) -> Result<(), Fail> {
+    let held = LiveNet::new(rt.alloc(), read_net(rt.alloc(), RING)?)?;
+    let parts = split(rt.alloc(), held.net())?;
+    let answer = cycle(rt.alloc(), held.net(), held.live(), &parts)?;
+    let text = told(rt.alloc(), held.net(), &answer)?;
+    assert!(rt; !text.as_slice().is_empty());
+    Ok(())
+}
+
+#[test]
+fn a_circuit_without_tokens_is_told(rt: HostRuntime) -> Result<(), Fail> {
+    let Err(refused) = LiveNet::new(rt.alloc(), read_net(rt.alloc(), STUCK)?) else {
+        panic!(rt; "without a token the net is not live");
+    };
+    let CheckRefusal::TokenFree { circuit } = &refused.refusal else {
+        panic!(rt; "memory is found");
+    };
+    let text = token_free_text(rt.alloc(), &refused.net, circuit)?;
+    let wanted = "refused: token-free circuit ab ba\n";
+    assert!(rt; text.as_slice() == wanted.as_bytes());
+    Ok(())
+}

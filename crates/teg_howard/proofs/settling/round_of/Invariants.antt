@@ -1,6 +1,0 @@
-use Rattle.teg_howard.specs.FoundCircuits.{policy_of}
-use Rattle.teg_howard.proofs.Choices.{Listed}
-use Rattle.teg_howard.proofs.settling.round_of.Given as goal
-
-abbrev pub invariant-loop-member : goal.invariant-loop-member
-invariant-loop-member l = Listed l.parts l.part (policy_of l.policy) l.values l.choices.items l.member
