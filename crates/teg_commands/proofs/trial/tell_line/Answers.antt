@@ -7,8 +7,14 @@ use Rattle.teg_commands.proofs.trial.tell_line.Goals as goal
 
 pub date-requires-clause-transition : goal.date-requires-clause-transition
 date-requires-clause-transition c =
-    omega (arith, c.get-machines.ensures.first, c.get-machines.ensures.value, rw c.net.ensures.net at c.in_ok-table.ensures.width,
-    ap (λ (n : NetLists). length n.transitions) (rw (← c.get-machines.ensures.value) at c.requires.net), width c.get-machines.result)
+    omega (
+      arith,
+      c.get-machines.ensures.first,
+      c.get-machines.ensures.value,
+      rw c.net.ensures.net at c.in_ok-table.ensures.width,
+      ap (λ (n : NetLists). length n.transitions) (rw (← c.get-machines.ensures.value) at c.requires.net),
+      width c.get-machines.result,
+    )
 
 pub returns : goal.returns
 returns c =
