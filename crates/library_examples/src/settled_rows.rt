@@ -4,8 +4,7 @@ use dating_certificates::check_settled;
 use dioid::Date;
 use teg_reader::read_net;
 
-const KANBAN: &str =
-    "transition = [{ name = \"m1\" }, { name = \"m2\" }, { name = \"m3\" }]
+const KANBAN: &str = "transition = [{ name = \"m1\" }, { name = \"m2\" }, { name = \"m3\" }]
 place = [
  { name = \"s1\", from = \"m1\", to = \"m1\", hold = 4, tokens = 1 },
  { name = \"s2\", from = \"m2\", to = \"m2\", hold = 6, tokens = 1 },
