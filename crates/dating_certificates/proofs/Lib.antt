@@ -5,3 +5,4 @@ pub mod LeastRows
 pub mod SolvedRows
 pub mod SettledWindows
 pub mod ListedDues
+pub mod ToldForms

@@ -4,6 +4,8 @@ pub mod Waits
 pub mod LatestRows
 pub mod ToldRows
 pub mod SettledWindows
+pub mod ToldForms
+pub mod SettledRows
 pub use Rattle.teg_model.specs as teg_model
 pub use Rattle.dioid.specs as dioid
 pub use Rattle.teg_net.specs as teg_net

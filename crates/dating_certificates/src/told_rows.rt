@@ -86,15 +86,30 @@ impl<'a> ToldRows<'a> {
         }
     }
 
+    // The net.
+    pub(crate) fn net(&self) -> &Net
+        ensures { result.now ≡ self.now.net }
+    {
+        self.net
+    }
+
+    // How many rows there are.
+    pub(crate) fn numbers(&self) -> u64
+        ensures { result ≡ self.now.numbers }
+    {
+        self.numbers
+    }
+
     // How many dates a row has.
-    fn width(&self) -> usize
-        ensures { result ≡ length self.now.net.transitions }
+    pub(crate) fn width(&self) -> usize
+        ensures value { result ≡ length self.now.net.transitions }
+        ensures rules { IsNet self.now.net }
     {
         self.net.transitions().len()
     }
 
     // The places of the net.
-    fn places(&self) -> &[Place]
+    pub(crate) fn places(&self) -> &[Place]
         ensures value { result.now ≡ self.now.net.places }
         ensures rules { IsNet self.now.net }
     {
@@ -102,7 +117,7 @@ impl<'a> ToldRows<'a> {
     }
 
     // The date of this firing, and Never past the last number.
-    fn date(&self, transition: usize, number: u64) -> Date
+    pub(crate) fn date(&self, transition: usize, number: u64) -> Date
         requires transition { transition < length self.now.net.transitions }
         requires number { 1 ≤ number }
         ensures { result ≡ date_told self.now transition number }

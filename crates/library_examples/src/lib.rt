@@ -46,6 +46,8 @@ mod records;
 #[cfg(test)]
 mod refusal_lines;
 #[cfg(test)]
+mod settled_rows;
+#[cfg(test)]
 mod slack_witnesses;
 #[cfg(test)]
 mod streams;

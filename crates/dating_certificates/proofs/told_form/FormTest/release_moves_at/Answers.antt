@@ -1,0 +1,19 @@
+use Rattle.std.proofs.Common.{◌+◌, ◌≡◌, sym, ap, ◌∙◌}
+use Rattle.dioid.specs.declared.dates.Date.TheVariants.{Early}
+use Rattle.dioid.specs.Dates.{move}
+use Rattle.teg_model.specs.Datings.{at_input, listed_releases}
+use Rattle.teg_model.proofs.OfNet.{at_input_is}
+use Rattle.dating_certificates.specs.ToldForms.{step_told}
+use Rattle.dating_certificates.proofs.told_form.FormTest.release_moves_at.Goals as goal
+
+pub returns : goal.returns
+returns c = λ yes.
+    let f = c.args.self.now in
+    let net = f.told.net in
+    let t = c.args.transition.index in
+    let k = c.args.number in
+    let early : c.release-early.result ≡ at_input net t (listed_releases net t k) Early = rw c.net-net.ensures at c.release-early.ensures in
+    let late : c.release-late.result ≡ at_input net t (listed_releases net t (k + f.period)) Early = rw (c.net-net.ensures, c.numbers-period.ensures.period) at c.release-late.ensures in
+    let moved : c.release-late.result ≡ move (step_told f t) c.release-early.result = rw c.index.ensures at (c.has_moved.ensures yes) in
+    sym (late ∙ at_input_is net t (listed_releases net t (k + f.period)) Early c.requires.input)
+    ∙ (moved ∙ ap (move (step_told f t)) (early ∙ at_input_is net t (listed_releases net t k) Early c.requires.input))
