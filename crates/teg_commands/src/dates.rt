@@ -1,5 +1,5 @@
 //! The dates of a live net for ever, and one of them.
-ghost use Rattle.std.specs.Prelude.{◌≤◌, ◌<◌, IfErr, IfOk, IfSome, None, Some, length};
+ghost use Rattle.std.specs.Prelude.{◌≤◌, ◌<◌, IfErr, IfOk, IfSome, Some, length};
 ghost use Rattle.settled_laws.specs.SettledForms.{IsSettledFormOf, NetSettlesPast};
 ghost use Rattle.teg_commands.specs.CommandOutcomes.{Tells, outcome_of};
 ghost use Rattle.teg_commands.specs.CommandDates.{FormExceedsLimit, IsFormWithinLimit, SaysDate, SaysDateOf, SaysDates, SaysTooLong, TellsNoTransition};
@@ -8,13 +8,14 @@ ghost use Rattle.teg_settle.specs.LimitRefusals.{greatest_limit};
 
 use crate::numbers::{Limit, most_of};
 use crate::outcome::{CommandOutcome, Verdict};
-use periodic_laws::live_nets_settle;
 use settled_laws::forms_tell_dates;
 use std::alloc::Global;
 use teg_check::LiveNet;
 use teg_net::{FiringNumber, Label, OutOfMemory, TransitionId};
 use teg_report::{Answer, report};
-use teg_settle::{SettleRefusal, Settled, date_of, settle, settle_dates_within, settle_within};
+use teg_settle::{
+    SettleRefusal, Settled, SettledDates, settle, settle_dates, settle_dates_within, settle_within,
+};
 
 // That the settled form is longer than the limit.
 fn tell_too_long(
@@ -49,6 +50,23 @@ fn settled(alloc: Global, net: &LiveNet, limit: Option<u32>) -> Result<Settled, 
     }
 }
 
+// The same form for callers that ask for some of its dates: no table is made of it.
+fn settled_dates(
+    alloc: Global,
+    net: &LiveNet,
+    limit: Option<u32>,
+) -> Result<SettledDates, SettleRefusal>
+    requires { IfSome limit (λ most. most ≤ greatest_limit) }
+    ensures form { IfOk result (IsSettledFormOf net.now) }
+    ensures within { IfOk result (IsFormWithinLimit limit) }
+    ensures too_long { IfErr result (FormExceedsLimit net.now limit) }
+{
+    match limit {
+        Some(most) => settle_dates_within(alloc, net.net(), net.live(), most),
+        None => Ok(settle_dates(alloc, net.net(), net.live())?),
+    }
+}
+
 /// The dates of a live net for ever, as its shortest settled form (chapter 3); or that it is longer
 /// than the limit, where one is given. It takes the time of the search for the settled form.
 pub fn tell_dates(
@@ -70,49 +88,21 @@ pub fn tell_dates(
     }
 }
 
-// The date of one firing of this transition: that of its row, or by the settled form where fewer
-// rows show it.
-fn tell_any_date(
+// The date of one firing of this transition, by the settled form.
+fn tell_date_of(
     alloc: Global,
     net: &LiveNet,
     transition: TransitionId,
     number: u64,
+    limit: Option<u32>,
 ) -> Result<CommandOutcome, OutOfMemory>
     requires transition { transition.index < length net.now.transitions }
     requires first { 1 ≤ number }
     requires last { number ≤ greatest_firing_number }
-    ensures { Tells (SaysDateOf transition number None net.now) (outcome_of result) }
+    requires limit { IfSome limit (λ most. most ≤ greatest_limit) }
+    ensures { Tells (SaysDateOf transition number limit net.now) (outcome_of result) }
 {
-    // That a live net settles.
-    live_nets_settle();
-    net.net().rules();
-    let date = date_of(alloc, net.net(), net.live(), transition, number)?;
-    let answer = Answer::Date {
-        transition,
-        number,
-        date,
-    };
-    let text = report(alloc, Some(net.net()), &answer)?;
-    let verdict = Verdict::Done;
-    Ok(CommandOutcome { verdict, text })
-}
-
-// The date of one firing of this transition, by the settled form; or that it is longer than the
-// limit.
-fn tell_date_within(
-    alloc: Global,
-    net: &LiveNet,
-    transition: TransitionId,
-    number: u64,
-    limit: u32,
-) -> Result<CommandOutcome, OutOfMemory>
-    requires transition { transition.index < length net.now.transitions }
-    requires first { 1 ≤ number }
-    requires last { number ≤ greatest_firing_number }
-    requires limit { limit ≤ greatest_limit }
-    ensures { Tells (SaysDateOf transition number (Some limit) net.now) (outcome_of result) }
-{
-    match settle_dates_within(alloc, net.net(), net.live(), limit) {
+    match settled_dates(alloc, net, limit) {
         Ok(settled) => {
             // That the settled form of a dating tells its dates.
             forms_tell_dates();
@@ -125,7 +115,7 @@ fn tell_date_within(
             let verdict = Verdict::Done;
             Ok(CommandOutcome { verdict, text })
         }
-        Err(refusal) => tell_too_long(alloc, net, Some(limit), refusal),
+        Err(refusal) => tell_too_long(alloc, net, limit, refusal),
     }
 }
 
@@ -141,8 +131,7 @@ fn tell_no_transition(alloc: Global, word: &str) -> Result<CommandOutcome, OutOf
 
 /// The date of one firing of a live net, by the name of its transition and its number from 1; or
 /// that no transition has the name, or that the settled form is longer than the limit, where one is
-/// given. With a limit it takes the time of the search for the settled form; without one the rows
-/// up to the number are enough, where they show no form before.
+/// given. It takes the time of the search for the settled form.
 pub fn tell_date(
     alloc: Global,
     net: &LiveNet,
@@ -153,11 +142,9 @@ pub fn tell_date(
     ensures { Tells (SaysDate word.now number limit net.now) (outcome_of result) }
 {
     let number = number.get();
-    let Some(transition) = net.net().find(word) else {
-        return tell_no_transition(alloc, word);
-    };
-    match most_of(limit) {
-        Some(most) => tell_date_within(alloc, net, transition, number, most),
-        None => tell_any_date(alloc, net, transition, number),
+    let limit = most_of(limit);
+    match net.net().find(word) {
+        Some(transition) => tell_date_of(alloc, net, transition, number, limit),
+        None => tell_no_transition(alloc, word),
     }
 }

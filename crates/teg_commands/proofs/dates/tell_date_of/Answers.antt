@@ -5,7 +5,7 @@ use Rattle.teg_report.specs.ShortAnswers.{date_line}
 use Rattle.teg_report.specs.teg_text.WordsOfNames.{name_of_transition}
 use Rattle.teg_report.specs.teg_text.Lines.{written}
 use Rattle.teg_report.specs.teg_text.ValueWords.{IsDate}
-use Rattle.teg_commands.proofs.dates.tell_date_within.Goals as goal
+use Rattle.teg_commands.proofs.dates.tell_date_of.Goals as goal
 
 pub returns-in_ok-text-in-Ok : goal.returns-in_ok-text-in-Ok
 returns-in_ok-text-in-Ok c =
