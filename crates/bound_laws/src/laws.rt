@@ -10,13 +10,13 @@ pub fn dates_go_on_past_the_bound()
 {}
 
 /// A common multiple of the tokens of critical circuits, one through each critical transition, is
-/// there, and each such multiple has a whole step.
+/// there, and each such multiple has a whole step (chapter 3).
 pub fn common_multiples_exist()
     ensures common { FactorialsAreCommon }
     ensures whole { StepsAreWhole }
 {}
 
-/// The dates of a strongly connected net whose circuits take no time are all 0.
+/// The dates of a strongly connected net whose circuits take no time are all 0 (chapter 3).
 pub fn still_nets_stay_at_zero()
     ensures { StillNetsStayAtZero }
 {}

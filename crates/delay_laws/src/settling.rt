@@ -14,8 +14,8 @@ pub fn delays_settle()
     periodic_datings_settle();
 }
 
-/// The settled form of a timetable and the delays left do not hang on which delayed dating is
-/// taken.
+/// The settled form of a timetable and the delays left do not hang on which delayed dating is taken
+/// (chapters 2 and 3).
 pub fn forms_of_delays_are_one()
     ensures each { FormsAreOfEach }
     ensures one { FormsOfDelaysAreOne }
@@ -26,7 +26,8 @@ pub fn forms_of_delays_are_one()
 
 /// A net in which each departure also waits for an input of its own, with the releases as its
 /// dates, is live where the net is, and the settled form of its least dating is that of the delayed
-/// dating and the releases together. So a search that settles nets settles timetables.
+/// dating and the releases together (chapters 2 and 3). So a search that settles nets settles
+/// timetables.
 pub fn release_nets_tell_delays()
     ensures live { ReleaseNetsAreLive }
     ensures tells { ReleaseNetsTellDelays }
@@ -38,7 +39,7 @@ pub fn steps_are_the_plan()
 {}
 
 /// A settled form tells the date of each departure as its plan and the delay that is left, and past
-/// the form's number the delays come again in each period.
+/// the form's number the delays come again in each period (chapters 2 and 3).
 pub fn forms_tell_delays()
     ensures { FormsTellDelays }
 {}

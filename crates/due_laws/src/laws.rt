@@ -8,12 +8,13 @@ pub fn latest_dates_are_latest_inputs()
     ensures { LatestDatesAreLatestInputs }
 {}
 
-/// In a live net where inputs at 0 do not meet the due dates, no inputs do.
+/// In a live net where inputs at 0 do not meet the due dates, no inputs do (chapter 5).
 pub fn zero_inputs_meet()
     ensures { ZeroInputsMeet }
 {}
 
-/// The latest date of a firing is never just where no walk leads from it to one that is due.
+/// The latest date of a firing is never just where no walk leads from it to one that is due
+/// (chapter 5).
 pub fn free_where_no_walk_leads()
     ensures { FreeWhereNoWalkLeads }
 {}

@@ -32,7 +32,7 @@ pub fn live_nets_settle()
 }
 
 /// The lists of a live net tell numbers by which its least dating repeats: so a search for its
-/// settled form can say beforehand where it ends at the latest.
+/// settled form can say beforehand where it ends at the latest (chapter 3).
 pub fn least_datings_repeat()
     ensures { LeastDatingsRepeat }
 {
@@ -40,7 +40,7 @@ pub fn least_datings_repeat()
 }
 
 /// Dates that never fall and repeat, each transition in a period of its own, have a shortest
-/// settled form.
+/// settled form (chapter 3).
 pub fn periodic_datings_settle()
     ensures { PeriodicDatingsSettle }
 {}

@@ -2,7 +2,7 @@
 ghost use Rattle.slope_laws.specs.SlopesExist.{FormsHaveSlopes, NeversComeFromEndedLists, SettledFormsHaveSlopes};
 
 /// In a live net a date of a transition is `Never` only where an input whose list ends reaches it,
-/// from then on all its dates are, and where such an input reaches it some date is.
+/// from then on all its dates are, and where such an input reaches it some date is (chapter 3).
 pub fn nevers_come_from_ended_lists()
     ensures { NeversComeFromEndedLists }
 {}

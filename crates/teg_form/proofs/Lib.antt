@@ -1,3 +1,4 @@
+mod EqualEntries
 mod FreePaths
 mod Recursion
 mod StarTimes

@@ -1,5 +1,5 @@
 //! The form and its two lists.
-ghost use Rattle.std.specs.Prelude.{◌≡◌, IfOk};
+ghost use Rattle.std.specs.Prelude.{◌≡◌, ◌↔◌, IfOk, IsTrue};
 ghost use Rattle.teg_check.specs.Ranks.{IsRanking};
 ghost use Rattle.teg_form.specs.StandardForms.{FormLists, IsStandardFormOf};
 
@@ -81,4 +81,27 @@ pub fn standard_form(alloc: Global, net: &Net, live: &Live) -> Result<Form, OutO
     let stars = stars_of(alloc, net, &times)?;
     let entries = entries_of(alloc, net, &times)?;
     Ok(Form { stars, entries })
+}
+
+// Whether the forms have the same lists.
+fn are_alike(first: &Form, second: &Form) -> bool
+    ensures { IsTrue result ↔ first.now ≡ second.now }
+{
+    first.stars() == second.stars() && first.entries() == second.entries()
+}
+
+/// Whether this is the standard form of the live net (chapter 2), as [`standard_form`] makes it: it
+/// is made once more, and the two compared. `OutOfMemory` comes only where no memory is found. It
+/// takes the time of [`standard_form`].
+pub fn is_standard_form_of(
+    alloc: Global,
+    net: &Net,
+    live: &Live,
+    form: &Form,
+) -> Result<bool, OutOfMemory>
+    requires stands { IsRanking net.now live.now }
+    ensures { IfOk result (λ yes. IsTrue yes ↔ IsStandardFormOf net.now form.now) }
+{
+    let own = standard_form(alloc, net, live)?;
+    Ok(are_alike(&own, form))
 }

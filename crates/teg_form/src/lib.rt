@@ -3,7 +3,8 @@
 //!
 //! Its one contract: [`standard_form`] answers exactly these times, sorted, for each pair of
 //! transitions that such a path joins. Only the net's own places count. The law
-//! [`least_dates_are_by_form`] ties the form to dates. The crate stands on `teg_net`, on
+//! [`least_dates_are_by_form`] ties the form to dates, and [`is_standard_form_of`] tests whether a form
+//! is that of a net. The crate stands on `teg_net`, on
 //! `teg_check` for the ranks of a live net, on `teg_model` for what a least dating is, on
 //! `dioid_matrix` for the star of a matrix, and on `dioid` for dates.
 //! Its examples stand in `library_examples`.
@@ -16,5 +17,5 @@ mod matrix;
 mod order;
 mod stars;
 
-pub use form::{Entry, Form, StarEntry, standard_form};
+pub use form::{Entry, Form, StarEntry, is_standard_form_of, standard_form};
 pub use laws::least_dates_are_by_form;

@@ -8,17 +8,17 @@ pub fn plans_lead()
     ensures { PlansLead }
 {}
 
-/// A dating keeps the due dates of a list just where it keeps each of its rows.
+/// A dating keeps the due dates of a list just where it keeps each of its rows (chapter 5).
 pub fn dues_are_kept_by_rows()
     ensures { DuesAreKeptByRows }
 {}
 
-/// A right refusal, and due dates that inputs at 0 meet, exclude each other.
+/// A right refusal, and due dates that inputs at 0 meet, exclude each other (chapter 5).
 pub fn late_excludes_meet()
     ensures { LateExcludesMeet }
 {}
 
-/// In a live net inputs at 0 meet the due dates, or some row is late.
+/// In a live net inputs at 0 meet the due dates, or some row is late (chapter 5).
 pub fn meet_or_late()
     ensures { MeetOrLate }
 {}

@@ -20,7 +20,7 @@ pub fn paths_can_be_shortened()
 {}
 
 /// A path of at least n m places, over n transitions, comes back to one of them with a multiple of
-/// m tokens, within its first n m places.
+/// m tokens, within its first n m places (chapter 2).
 pub fn long_paths_come_round()
     ensures { LongPathsComeRound }
 {}

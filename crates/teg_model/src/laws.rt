@@ -15,14 +15,14 @@ pub fn least_datings_exist()
 {}
 
 /// A net has no two least datings under the same releases, and the least dating of its system is
-/// one of the net.
+/// one of the net (chapter 2).
 pub fn least_datings_are_one()
     ensures one { LeastDatingsAreOne }
     ensures of_system { LeastOfSystemsAreLeast }
 {}
 
 /// In a live net a feasible dating is the least just where no firing comes later than the last of
-/// the tokens and the release that it waits for.
+/// the tokens and the release that it waits for (chapter 2).
 pub fn least_datings_are_tight()
     ensures tight { LeastDatingsAreTight }
     ensures least { TightDatingsAreLeast }
@@ -35,7 +35,7 @@ pub fn least_dates_are_walks()
 {}
 
 /// In a live net each least date is a number from 0 on, or `Never`, and up to the greatest number
-/// those that are numbers are at most 2 times 10^30.
+/// those that are numbers are at most 2 times 10^30 (chapter 2).
 pub fn least_dates_are_within()
     ensures first { LeastDatesAreFromZero }
     ensures last { LeastDatesAreWithin }

@@ -11,7 +11,7 @@ pub fn systems_have_least()
 {}
 
 /// In such a system a feasible dating is the least just where no firing comes later than the last
-/// of its release and of the tokens that it takes.
+/// of its release and of the tokens that it takes (chapter 2).
 pub fn least_in_are_tight()
     ensures tight { LeastInAreTight }
     ensures least { TightInAreLeast }
@@ -26,7 +26,7 @@ pub fn least_in_are_walks()
 {}
 
 /// The least dates of a system stay within what its holds, initial dates and releases are bounded
-/// by.
+/// by (chapter 2).
 pub fn least_in_are_within()
     ensures { LeastInAreWithin }
 {}

@@ -81,7 +81,7 @@ pub fn settle(alloc: Global, net: &Net, live: &Live) -> Result<Settled, OutOfMem
 }
 
 /// The form of [`settle`], for callers that ask for some of its dates: it keeps the rows of the
-/// search and makes no other table of them.
+/// search and makes no other table of them (chapter 3).
 pub fn settle_dates(alloc: Global, net: &Net, live: &Live) -> Result<SettledDates, OutOfMemory>
     requires stands { IsRanking net.now live.now }
     ensures form { IfOk result (IsSettledFormOf net.now) }

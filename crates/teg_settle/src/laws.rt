@@ -13,7 +13,7 @@ pub fn walk_times_settle()
 }
 
 /// The greatest times of walks from an input have one shortest settled form, and it is longer than
-/// each limit that every form of them exceeds.
+/// each limit that every form of them exceeds (chapter 3).
 pub fn transfers_are_one()
     ensures one { TransfersAreOne }
     ensures limits { TransferLimitsAreTold }
