@@ -79,7 +79,8 @@ fn is_name(text: &str) -> bool
 }
 
 impl Name {
-    /// A copy of the text. `Bad` comes exactly where the text is no name.
+    /// A copy of the text. `Bad` comes exactly where the text is no name, and `OutOfMemory` only
+    /// where no memory is found.
     pub fn new(alloc: Global, text: &str) -> Result<Name, NameRefused>
         ensures text { IfOk result (λ name. name ≡ text.now) }
         ensures name { IfOk result (λ name. IsTrue (is_name name)) }
