@@ -2,19 +2,22 @@
 ghost use Rattle.std.specs.Prelude.{◌≤◌, ◌<◌, IfErr, IfOk, IfSome, Some, length};
 ghost use Rattle.settled_laws.specs.SettledForms.{IsSettledFormOf, NetSettlesPast};
 ghost use Rattle.teg_commands.specs.CommandOutcomes.{Tells, outcome_of};
-ghost use Rattle.teg_commands.specs.CommandDates.{FormExceedsLimit, IsFormWithinLimit, SaysDate, SaysDateOf, SaysDates, SaysTooLong, TellsNoTransition};
+ghost use Rattle.teg_commands.specs.CommandDates.{FormExceedsLimit, IsFormWithinLimit, SaysDate, SaysDateOf, SaysDates, SaysTooLong, SettlesWithin, TellsNoTransition};
 ghost use Rattle.teg_net.specs.Limits.{greatest_firing_number};
+ghost use Rattle.teg_settle.specs.LeastDates.{IsLeastDate};
 ghost use Rattle.teg_settle.specs.LimitRefusals.{greatest_limit};
 
 use crate::numbers::{Limit, most_of};
 use crate::outcome::{CommandOutcome, Verdict};
+use dioid::Date;
+use periodic_laws::live_nets_settle;
 use settled_laws::forms_tell_dates;
 use std::alloc::Global;
 use teg_check::LiveNet;
 use teg_net::{FiringNumber, Label, OutOfMemory, TransitionId};
 use teg_report::{Answer, report};
 use teg_settle::{
-    SettleRefusal, Settled, SettledDates, settle, settle_dates, settle_dates_within, settle_within,
+    SettleRefusal, Settled, date_of, settle, settle_dates_within, settle_within,
 };
 
 // That the settled form is longer than the limit.
@@ -50,20 +53,36 @@ fn settled(alloc: Global, net: &LiveNet, limit: Option<u32>) -> Result<Settled, 
     }
 }
 
-// The same form for callers that ask for some of its dates: no table is made of it.
-fn settled_dates(
+// The date of one firing by the least dating: by its settled form where that has a limit, and else
+// by the rows where they go so far.
+fn least_date(
     alloc: Global,
     net: &LiveNet,
+    transition: TransitionId,
+    number: u64,
     limit: Option<u32>,
-) -> Result<SettledDates, SettleRefusal>
-    requires { IfSome limit (λ most. most ≤ greatest_limit) }
-    ensures form { IfOk result (IsSettledFormOf net.now) }
-    ensures within { IfOk result (IsFormWithinLimit limit) }
+) -> Result<Date, SettleRefusal>
+    requires transition { transition.index < length net.now.transitions }
+    requires first { 1 ≤ number }
+    requires last { number ≤ greatest_firing_number }
+    requires limit { IfSome limit (λ most. most ≤ greatest_limit) }
+    ensures date { IfOk result (IsLeastDate net.now transition.index number) }
+    ensures within { IfOk result (λ _. SettlesWithin limit net.now) }
     ensures too_long { IfErr result (FormExceedsLimit net.now limit) }
 {
     match limit {
-        Some(most) => settle_dates_within(alloc, net.net(), net.live(), most),
-        None => Ok(settle_dates(alloc, net.net(), net.live())?),
+        Some(most) => {
+            // That the settled form of a dating tells its dates.
+            forms_tell_dates();
+            let settled = settle_dates_within(alloc, net.net(), net.live(), most)?;
+            Ok(settled.date(transition, number))
+        }
+        None => {
+            // That the least dating of a live net has a settled form.
+            live_nets_settle();
+            net.net().rules();
+            Ok(date_of(alloc, net.net(), net.live(), transition, number)?)
+        }
     }
 }
 
@@ -88,7 +107,7 @@ pub fn tell_dates(
     }
 }
 
-// The date of one firing of this transition, by the settled form.
+// The date of one firing of this transition.
 fn tell_date_of(
     alloc: Global,
     net: &LiveNet,
@@ -102,14 +121,12 @@ fn tell_date_of(
     requires limit { IfSome limit (λ most. most ≤ greatest_limit) }
     ensures { Tells (SaysDateOf transition number limit net.now) (outcome_of result) }
 {
-    match settled_dates(alloc, net, limit) {
-        Ok(settled) => {
-            // That the settled form of a dating tells its dates.
-            forms_tell_dates();
+    match least_date(alloc, net, transition, number, limit) {
+        Ok(date) => {
             let answer = Answer::Date {
                 transition,
                 number,
-                date: settled.date(transition, number),
+                date,
             };
             let text = report(alloc, Some(net.net()), &answer)?;
             let verdict = Verdict::Done;
@@ -131,7 +148,8 @@ fn tell_no_transition(alloc: Global, word: &str) -> Result<CommandOutcome, OutOf
 
 /// The date of one firing of a live net, by the name of its transition and its number from 1; or
 /// that no transition has the name, or that the settled form is longer than the limit, where one is
-/// given. It takes the time of the search for the settled form.
+/// given. It takes the time of the search for the settled form, and without a limit that of so many
+/// rows as the number, where these are fewer.
 pub fn tell_date(
     alloc: Global,
     net: &LiveNet,
