@@ -11,14 +11,14 @@ use teg_bound::{BoundAnswer, bound_text, no_bound_text, settling_bound};
 use teg_check::LiveNet;
 use teg_net::OutOfMemory;
 use teg_parts::split;
-use teg_settle::settle;
+use teg_settle::settle_dates;
 
 // A bound, and from when on the dates are periodic.
 fn tell_number(alloc: Global, net: &LiveNet, number: u128) -> Result<CommandOutcome, OutOfMemory>
     requires { IsBoundOf net.now number }
     ensures { Tells (SaysBound net.now) (outcome_of result) }
 {
-    let settled = settle(alloc, net.net(), net.live())?;
+    let settled = settle_dates(alloc, net.net(), net.live())?;
     let text = bound_text(alloc, number, settled.after(), settled.period())?;
     Ok(CommandOutcome::told(Verdict::Done, text))
 }

@@ -80,6 +80,7 @@ fn least_date(
         None => {
             // That the least dating of a live net has a settled form.
             live_nets_settle();
+            net.net().rules();
             Ok(date_of(alloc, net.net(), net.live(), transition, number)?)
         }
     }
