@@ -16,9 +16,7 @@ use std::alloc::Global;
 use teg_check::LiveNet;
 use teg_net::{FiringNumber, Label, OutOfMemory, TransitionId};
 use teg_report::{Answer, report};
-use teg_settle::{
-    SettleRefusal, Settled, date_of, settle, settle_dates_within, settle_within,
-};
+use teg_settle::{SettleRefusal, Settled, date_of, settle, settle_dates_within, settle_within};
 
 // That the settled form is longer than the limit.
 fn tell_too_long(

@@ -10,5 +10,5 @@ returns-in_ok-settled-in-Some-clause-date c =
     let t = c.args.transition.index in
     let k = c.args.number in
     let tells : settled_date settled t k ≡ form.0 t k =
-      c.forms_tell_dates.ensures (length net.transitions) settled form.0 form.2.stands t k c.requires.transition c.requires.first in
+    c.forms_tell_dates.ensures (length net.transitions) settled form.0 form.2.stands t k c.requires.transition c.requires.first in
     (form.0, form.1, c.date.ensures.value ∙ tells)

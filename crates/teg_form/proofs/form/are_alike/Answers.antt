@@ -11,8 +11,8 @@ returns-then-eq c =
     let first = c.args.first.now in
     let second = c.args.second.now in
     let stars : first.stars ≡ second.stars =
-      sym c.stars.ensures ∙ ((slice_eq-Decides star_Decides c.stars.result.now c.stars-2.result.now c.eq.result c.eq.ensures).0 c.if-eq.true
-      ∙ c.stars-2.ensures) in
+    sym c.stars.ensures ∙ ((slice_eq-Decides star_Decides c.stars.result.now c.stars-2.result.now c.eq.result c.eq.ensures).0 c.if-eq.true
+    ∙ c.stars-2.ensures) in
     let entries = slice_eq-Decides entry_Decides c.entries.result.now c.entries-then-eq.result.now c.eq-then-eq.result c.eq-then-eq.ensures in
     let with_stars : List StarEntry → FormLists = λ s. record { stars = s; entries = first.entries } in
     let with_entries : List Entry → FormLists = λ e. record { stars = second.stars; entries = e } in
@@ -24,5 +24,5 @@ pub returns-else-eq : goal.returns-else-eq
 returns-else-eq c =
     let stars = slice_eq-Decides star_Decides c.stars.result.now c.stars-2.result.now c.eq.result c.eq.ensures in
     let same_lists = λ (same : c.args.first.now ≡ c.args.second.now).
-      stars.1 (c.stars.ensures ∙ (ap (λ (f : FormLists). f.stars) same ∙ sym c.stars-2.ensures)) in
+    stars.1 (c.stars.ensures ∙ (ap (λ (f : FormLists). f.stars) same ∙ sym c.stars-2.ensures)) in
     ((λ (yes : IsTrue c.eq.result). (let no : false ≡ true = sym c.if-eq.false ∙ yes in absurd (cc))), same_lists)
