@@ -1,4 +1,5 @@
-//! The laws of counters. Each is a function that does nothing when it runs: its contract is the law.
+//! The laws of counters. Each is a function that does nothing when it runs: its contract is the
+//! law.
 ghost use Rattle.counter_laws.specs.CountedRuns.{CountersCountFirings};
 ghost use Rattle.counter_laws.specs.CounterEquations.{CountersAreGreatest, CountersAreLeastOfTokens, CountersAreOne, CountersExist};
 

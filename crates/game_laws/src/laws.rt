@@ -13,14 +13,14 @@ pub fn firings_are_legal_or_fail()
     ensures { FiringsAreLegalOrFail }
 {}
 
-/// Where a firing may follow a legal run, there is an earliest date for it, at most its own (chapter
-/// 2). Where none may, there need be none: a token that is missing has no date.
+/// Where a firing may follow a legal run, there is an earliest date for it, at most its own
+/// (chapter 2). Where none may, there need be none: a token that is missing has no date.
 pub fn earliest_dates_exist()
     ensures { EarliestDatesExist }
 {}
 
-/// The tokens of a circuit stay: their number never changes along a legal run (chapter 2). On a path
-/// that is not closed it does: a firing of its last transition takes one away.
+/// The tokens of a circuit stay: their number never changes along a legal run (chapter 2). On a
+/// path that is not closed it does: a firing of its last transition takes one away.
 pub fn tokens_on_circuits_stay()
     ensures { TokensOnCircuitsStay }
 {}
@@ -32,9 +32,9 @@ pub fn token_free_circuits_never_fire()
     ensures life { FiringEachShowsLife }
 {}
 
-/// Liveness by the game: a net in which no input list ends is live just where, for each number, some
-/// legal run has so many firings of each transition (chapter 2). Where the list of an input ends
-/// after one date, a live net of that input alone has no run of two firings.
+/// Liveness by the game: a net in which no input list ends is live just where, for each number,
+/// some legal run has so many firings of each transition (chapter 2). Where the list of an input
+/// ends after one date, a live net of that input alone has no run of two firings.
 pub fn live_nets_fire_on()
     ensures { LiveNetsFireOn }
 {}

@@ -1,10 +1,10 @@
 //! The token game of a timed event graph, beside its least dating (chapter 2).
 //!
-//! The tokens of a circuit stay along each legal run, so a circuit without tokens never fires, and a
-//! net whose input lists go on is live just where its transitions can fire on and on. A live net has
-//! an earliest run up to each number, one in the order of each rank, with all firings that have a
-//! date; so its least dates are the earliest that legal runs reach. And each firing may follow a run,
-//! from an earliest date on, or fails in one of three ways. Each law is the contract of a
+//! The tokens of a circuit stay along each legal run, so a circuit without tokens never fires, and
+//! a net whose input lists go on is live just where its transitions can fire on and on. A live net
+//! has an earliest run up to each number, one in the order of each rank, with all firings that have
+//! a date; so its least dates are the earliest that legal runs reach. And each firing may follow a
+//! run, from an earliest date on, or fails in one of three ways. Each law is the contract of a
 //! function that does nothing when it runs. The crate stands on `run_laws` for runs, on
 //! `dating_laws` and `teg_model` for datings, on `teg_net` for nets and on `dioid` for dates; no
 //! crate of the program stands on it.

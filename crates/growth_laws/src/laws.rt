@@ -11,8 +11,8 @@ use periodic_laws::least_datings_repeat;
 /// set rises by more than the ratio in the long run (chapter 3).
 ///
 /// Where no input is kept waiting there is such a constant: `b` times the greatest ready date, and
-/// as much as the potentials are below 0. The places into the set have to come from it: a transition
-/// behind a faster one that is left out comes later than its own line.
+/// as much as the potentials are below 0. The places into the set have to come from it: a
+/// transition behind a faster one that is left out comes later than its own line.
 pub fn potentials_bound_dates()
     ensures bound { PotentialsBoundDates }
     ensures starts { StartsHaveLines }
@@ -26,10 +26,10 @@ pub fn certificates_draw_lines()
 {}
 
 /// The cycle time is the growth rate: in a live net a transition that no input with an ended list
-/// reaches has one slope `a / b`, the greatest of 0, of the ratios of the circuits from which a path
-/// leads to it, and of gap over `every` of the inputs that reach it; and `b x(t, k)` stays between
-/// `a k - c` and `a k + d` for two bounds `c` and `d`, so that `x(t, k) / k` tends to `a / b`
-/// (chapter 3).
+/// reaches has one slope `a / b`, the greatest of 0, of the ratios of the circuits from which a
+/// path leads to it, and of gap over `every` of the inputs that reach it; and `b x(t, k)` stays
+/// between `a k - c` and `a k + d` for two bounds `c` and `d`, so that `x(t, k) / k` tends to `a /
+/// b` (chapter 3).
 ///
 /// Past the end of a list that reaches it the dates are `Never`. The net has to be live: a circuit
 /// without tokens leaves a slope of any size, or none.

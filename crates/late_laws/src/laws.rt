@@ -17,8 +17,8 @@ pub fn none_late_past_line()
 /// Where due dates rise by less than the dates of a circuit that leads to their transition, some
 /// number is late (chapter 3).
 ///
-/// Where they rise by as much, none may be: a place from a transition to itself that holds for 1 and
-/// has one token is in time for due dates 0, 1, 2 and so on.
+/// Where they rise by as much, none may be: a place from a transition to itself that holds for 1
+/// and has one token is in time for due dates 0, 1, 2 and so on.
 pub fn slow_dues_are_late()
     ensures { SlowDuesAreLate }
 {}

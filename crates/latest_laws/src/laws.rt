@@ -14,15 +14,15 @@ pub fn tight_walks_bound()
     ensures { TightWalksBound }
 {}
 
-/// A late walk refuses: where a walk comes to a firing after it is due, no inputs meet the due dates
-/// (chapter 5).
+/// A late walk refuses: where a walk comes to a firing after it is due, no inputs meet the due
+/// dates (chapter 5).
 pub fn late_walks_refuse()
     ensures { LateWalksRefuse }
 {}
 
 /// Inputs meet together: the later of two inputs that meet the due dates are inputs that meet them,
-/// so there can be latest ones; and in a live net so do all inputs that come no later than some that
-/// do (chapter 5). Liveness is asked for there to be a least dating under the earlier inputs.
+/// so there can be latest ones; and in a live net so do all inputs that come no later than some
+/// that do (chapter 5). Liveness is asked for there to be a least dating under the earlier inputs.
 pub fn inputs_meet_together()
     ensures inputs { LaterInputsAreInputs }
     ensures later { LaterInputsMeet }
@@ -57,9 +57,10 @@ pub fn latest_dates_solve_backwards()
 
 /// A live net whose firings are due up to some number has latest dates, and no others: they are all
 /// that solves the backward equations and is never past that number (chapter 5). Due dates without
-/// an end may have none: a transition on a circuit of hold 1 and one token, due at 0 at each number,
-/// would have to come ever earlier. And the equations alone do not tell them: where nothing is due,
-/// all dates at 0 solve them, and so do those at 5 around a circuit without tokens and without hold.
+/// an end may have none: a transition on a circuit of hold 1 and one token, due at 0 at each
+/// number, would have to come ever earlier. And the equations alone do not tell them: where nothing
+/// is due, all dates at 0 solve them, and so do those at 5 around a circuit without tokens and
+/// without hold.
 pub fn latest_dates_are_solutions()
     ensures exist { LatestDatesExist }
     ensures one { LatestDatesAreOne }

@@ -1,4 +1,5 @@
-//! The laws of the pace. Each is a function that does nothing when it runs: its contract is the law.
+//! The laws of the pace. Each is a function that does nothing when it runs: its contract is the
+//! law.
 ghost use Rattle.pace_laws.specs.Eigenspaces.{BegunPotentialsAreTight, BegunPotentialsExist, CriticalPartsMoveAsOne, GreaterPotentialsAreTight, MovedPotentialsAreTight, OneBeginsForEachPart, OneCriticalPartTellsAll, PotentialsAreSpanned};
 ghost use Rattle.pace_laws.specs.RatiosExist.{NetsHaveRatios, PartsHaveRatios, StrongPartsHaveAPace};
 ghost use Rattle.pace_laws.specs.SlowerNets.{LiveBySlower, SlowerNetsHaveMore, SlowerPartsHaveMore};

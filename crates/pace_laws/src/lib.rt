@@ -1,4 +1,5 @@
-//! The pace of a timed event graph: its greatest ratio of holding time to tokens (chapters 2 and 3).
+//! The pace of a timed event graph: its greatest ratio of holding time to tokens (chapters 2 and
+//! 3).
 //!
 //! A live net has a greatest ratio, or no circuit. The ratio falls where places hold for less time
 //! or have more tokens, and it is the one ratio at which a strong part has tight potentials, the

@@ -5,10 +5,10 @@
 //! or the first cause why there is none. The period divides the least common multiple of the tokens
 //! of any choice of critical circuits, one through each critical transition. [`bound_text`] and
 //! [`no_bound_text`] are the texts of an answer, and different answers have different texts. The
-//! crate stands on `teg_net`, on `teg_check`, `teg_parts` and `teg_certificates` for nets that are live,
-//! parts and certificates, on `teg_loops` for the laws of circuits, on `bound_laws` for the laws of
-//! the bound, on `settled_laws` and `teg_model` for forms and datings, and on `teg_text` for texts.
-//! Its examples stand in `worked_examples`.
+//! crate stands on `teg_net`, on `teg_check`, `teg_parts` and `teg_certificates` for nets that are
+//! live, parts and certificates, on `teg_loops` for the laws of circuits, on `bound_laws` for the
+//! laws of the bound, on `settled_laws` and `teg_model` for forms and datings, and on `teg_text`
+//! for texts. Its examples stand in `worked_examples`.
 #![tactic(auto)]
 
 mod bound;

@@ -2,11 +2,11 @@
 //! circuits, and over those of each part (chapters 2 and 3).
 //!
 //! [`cycle`] gives an answer that is a certificate (`IsCertificate`), and [`cycle_with_runs`] the
-//! rounds of policy iteration with it. [`check_cycle`], which decides whether any answer is one, and
-//! [`best_ratio`], which reads the ratio of the net off an answer, are those of `teg_certificates`.
-//! The crate stands on `teg_howard` for the greatest ratio of a part, on `teg_parts` for parts, on
-//! `teg_check` for ranks, on `teg_certificates` for certificates, and on `teg_net` for nets.
-//! Its examples stand in `worked_examples`.
+//! rounds of policy iteration with it. [`check_cycle`], which decides whether any answer is one,
+//! and [`best_ratio`], which reads the ratio of the net off an answer, are those of
+//! `teg_certificates`. The crate stands on `teg_howard` for the greatest ratio of a part, on
+//! `teg_parts` for parts, on `teg_check` for ranks, on `teg_certificates` for certificates, and on
+//! `teg_net` for nets. Its examples stand in `worked_examples`.
 //!
 //! ## Call it
 //!

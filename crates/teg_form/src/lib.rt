@@ -3,11 +3,10 @@
 //!
 //! Its one contract: [`standard_form`] answers exactly these times, sorted, for each pair of
 //! transitions that such a path joins. Only the net's own places count. The law
-//! [`least_dates_are_by_form`] ties the form to dates, and [`is_standard_form_of`] tests whether a form
-//! is that of a net. The crate stands on `teg_net`, on
-//! `teg_check` for the ranks of a live net, on `teg_model` for what a least dating is, on
-//! `dioid_matrix` for the star of a matrix, and on `dioid` for dates.
-//! Its examples stand in `library_examples`.
+//! [`least_dates_are_by_form`] ties the form to dates, and [`is_standard_form_of`] tests whether a
+//! form is that of a net. The crate stands on `teg_net`, on `teg_check` for the ranks of a live
+//! net, on `teg_model` for what a least dating is, on `dioid_matrix` for the star of a matrix, and
+//! on `dioid` for dates. Its examples stand in `library_examples`.
 #![tactic(auto)]
 
 mod entries;

@@ -4,8 +4,8 @@
 //! needs no other crate of the answers. Its contracts are those of [`cycle_text`] and
 //! [`token_free_text`], whose bytes are just the lines of what is told, and the laws
 //! [`lines_tell_back`], that it is read back from them, and [`certificates_can_be_told`]. What else
-//! has a line with names of a net is [`LineOf`], and [`push_each`] appends the lines of a list of it.
-//! Its examples stand in `library_examples`.
+//! has a line with names of a net is [`LineOf`], and [`push_each`] appends the lines of a list of
+//! it. Its examples stand in `library_examples`.
 #![tactic(auto)]
 
 mod circuits;

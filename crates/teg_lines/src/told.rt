@@ -5,8 +5,8 @@ ghost use Rattle.teg_text.specs.Lines.{line_then, written};
 use std::alloc::AllocError;
 use teg_net::Net;
 
-/// The line by which a thing of the type `T` is told, with names of a net. The line is a type of its
-/// own, so that a crate can tell the things of another.
+/// The line by which a thing of the type `T` is told, with names of a net. The line is a type of
+/// its own, so that a crate can tell the things of another.
 pub trait LineOf<T> {
     ghost use Rattle.std.specs.Prelude.{ℕ, List};
     ghost use Rattle.teg_net.specs.Nets.{NetLists};

@@ -9,8 +9,8 @@ use crate::net::Net;
 
 impl InputList {
     /// The date, in the user's unit, that the list gives to the firing of this number, counted from
-    /// 1; `None` where it never fires. It takes no memory and looks nothing up: who needs the dates of many
-    /// firings of one input finds its list once.
+    /// 1; `None` where it never fires. It takes no memory and looks nothing up: who needs the dates
+    /// of many firings of one input finds its list once.
     #[tactic(auto, using(crate::proofs::InputDates::is_date_of_list))]
     pub fn date(&self, number: u64) -> Option<u128>
         requires number { 1 ≤ number }

@@ -113,9 +113,9 @@ fn read_table(alloc: Global, table: Table) -> Result<Net, ReadRefusal>
 /// passes over one byte order mark at the start and reads no integer of more than 64 bits. A
 /// refusal tells the first fault: the passes stand in the order of the variants of [`ReadRefusal`],
 /// and each goes over the whole tree, the top first, then the transitions, the places and the input
-/// lists, each by position (rules of net files, in the guide). `OutOfMemory` says that no memory was
-/// found, and nothing of the bytes. Beside what `toml` takes, it takes time in proportion to the
-/// length of the file.
+/// lists, each by position (rules of net files, in the guide). `OutOfMemory` says that no memory
+/// was found, and nothing of the bytes. Beside what `toml` takes, it takes time in proportion to
+/// the length of the file.
 pub fn read_net(alloc: Global, bytes: &[u8]) -> Result<Net, ReadRefusal>
     ensures { AnswersAsMeant (document bytes.now) result }
 {

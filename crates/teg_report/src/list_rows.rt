@@ -120,9 +120,9 @@ pub fn put_row<C: DateCell>(
     end
 }
 
-/// The first two lines of the list of so many numbers of the net: how many firings are told, and the
-/// names of the transitions, in their order. `OutOfMemory` comes only where no memory is found. It
-/// takes time of the order of the lines.
+/// The first two lines of the list of so many numbers of the net: how many firings are told, and
+/// the names of the transitions, in their order. `OutOfMemory` comes only where no memory is found.
+/// It takes time of the order of the lines.
 pub fn list_head(alloc: Global, net: &Net, count: u32) -> Result<Vec<u8>, OutOfMemory>
     ensures { IfOk result (λ text. text.items ≡ head_text net.now count) }
 {
@@ -130,8 +130,8 @@ pub fn list_head(alloc: Global, net: &Net, count: u32) -> Result<Vec<u8>, OutOfM
 }
 
 /// The line of a number with the dates of its firings, one for each transition in their order, in
-/// the user's unit. `OutOfMemory` comes only where no memory is found. It takes time of the order of
-/// the line.
+/// the user's unit. `OutOfMemory` comes only where no memory is found. It takes time of the order
+/// of the line.
 pub fn list_row(alloc: Global, number: u64, row: &[Date]) -> Result<Vec<u8>, OutOfMemory>
     ensures { IfOk result (λ text. text.items ≡ row_text number row.now) }
 {
@@ -140,8 +140,8 @@ pub fn list_row(alloc: Global, number: u64, row: &[Date]) -> Result<Vec<u8>, Out
     Ok(Vec::from_slice(alloc, &line[start..])?)
 }
 
-/// The law that the head of a list and its rows, one after another, are the text of the list: of any
-/// dating whose rows they are. It does nothing when it runs.
+/// The law that the head of a list and its rows, one after another, are the text of the list: of
+/// any dating whose rows they are. It does nothing when it runs.
 pub fn lists_are_joined()
     ensures { ListsAreJoined }
 {}
