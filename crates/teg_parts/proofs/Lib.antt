@@ -1,5 +1,5 @@
+pub mod Adding
 pub mod Marks
-pub mod Linking
 pub mod Reaching
 pub mod Ordering
 pub mod Rooted

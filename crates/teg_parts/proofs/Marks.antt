@@ -1,7 +1,7 @@
 -- Marks and numbers of transitions: what one more leaves, and how many are left.
-use Rattle.std.proofs.Common.{ℕ, ◌+◌, ◌*◌, ◌<◌, ◌≤◌, ◌≡◌, ◌≢◌, List, Option, Some, None, Result, Ok, Err, Bool, true, false, not, is_some, cond}
+use Rattle.std.proofs.Common.{ℕ, ◌+◌, ◌*◌, ◌<◌, ◌≤◌, ◌≡◌, ◌≢◌, List, Option, Some, None, Bool, true, false, not, is_some, cond}
 use Rattle.std.proofs.Common.{count_by, length, get_or, set, refl, sym, ap, ◌∙◌, arith, rules, inl, inr, ⊎_elim}
-use Rattle.std.specs.Prelude.{◌⊎◌, IfOk, IsSome}
+use Rattle.std.specs.Prelude.{◌⊎◌, IsSome}
 use Rattle.std.proofs.lemmas.Bool.{cases_eq, cases_lt}
 use Rattle.std.proofs.lemmas.List.{get_or-set_same, get_or-set_other, get_or_past, get_or-replicate, length-replicate}
 use Rattle.std.proofs.lemmas.List.Sums.{sum_by-set}
@@ -47,11 +47,6 @@ pub work_less : (u v places a b : ℕ) → v + 1 ≡ u → b ≤ a + places → 
 work_less u v places a b e l =
     let w : u * (places + 1) ≡ (v + 1) * (places + 1) = ap (λ x. x * (places + 1)) (sym e) in
     omega arith
-
--- what holds where a call was right leads on
-pub IfOk_then : {A E : Type 0} (r : Result A E) {P Q : A → Type 0} → IfOk r P → ((x : A) → P x → Q x) → IfOk r Q
-IfOk_then (Ok x) p f = f x p
-IfOk_then (Err e) p f = p
 
 pub none_by : (o : Option ℕ) (b : Bool) → is_some o ≡ not b → b ≡ true → o ≡ None
 none_by None b e t = refl

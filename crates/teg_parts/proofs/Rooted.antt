@@ -5,7 +5,7 @@ use Rattle.std.proofs.lemmas.Bool.{cases_lt, cases_Bool}
 use Rattle.std.proofs.lemmas.List.{get_or_past, get_or-replicate, length-replicate}
 use lib.ListN.{replicate}
 use Rattle.teg_net.specs.Nets.{NetLists}
-use Rattle.teg_parts.specs.declared.places_along.Way.TheVariants.{Onward, Back}
+use Rattle.teg_net.specs.declared.places_of.PlaceEnd.TheVariants.{From, To}
 use Rattle.teg_parts.specs.Components.{IsMarked, AreReachedMarks, AreMutual, found_at, AreFound, IsRooted, HasFound, AreComponents}
 use Rattle.teg_parts.specs.PartNumbers.{AreNumbersListed}
 use Rattle.teg_parts.proofs.Marks.{false_not_true}
@@ -46,8 +46,8 @@ pub record RootedTo (onward back : List Bool) (root : ℕ) (old now : List (Opti
   pub kept : (t : ℕ) → (IsMarked onward t → IsMarked back t → ⊥) → found_at now t ≡ found_at old t
 
 module _ (net : NetLists) (root : ℕ) (onward back : List Bool) (old new : List (Option ℕ)) (count : length new ≡ length old) (root_in : root < length net.transitions)
-    (un : found_at old root ≡ None) (h : AreFound net old) (reached : AreReachedMarks net Onward root onward)
-    (reaching : AreReachedMarks net Back root back) (g : IsRooted onward back root old new) where
+    (un : found_at old root ≡ None) (h : AreFound net old) (reached : AreReachedMarks net From root onward)
+    (reaching : AreReachedMarks net To root back) (g : IsRooted onward back root old new) where
   given : (t : ℕ) → t < length net.transitions → AreMutual net root t → found_at new t ≡ Some root
   given t l m = let c = h.count in g.given t (omega arith) ((reached.exact t).1 m.0) ((reaching.exact t).1 m.1)
 

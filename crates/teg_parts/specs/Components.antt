@@ -2,17 +2,17 @@
 use Rattle.std.specs.Prelude.{ℕ, ◌<◌, ◌≡◌, ◌≢◌, ◌↔◌, List, Bool, true, false, length, Option, Some, None, slice_index_or}
 use Rattle.teg_net.specs.Nets.{NetLists}
 use Rattle.teg_net.specs.Parts.{Reaches}
-use Rattle.teg_parts.specs.declared.places_along.Way.{Way}
+use Rattle.teg_net.specs.declared.places_of.PlaceEnd.{PlaceEnd}
 use Rattle.teg_parts.specs.PlacesAlong.{Leads}
 
 -- the transition is marked
 abbrev pub IsMarked : List Bool → ℕ → Type 0
 IsMarked marks t = slice_index_or marks t false ≡ true
 
--- marked are exactly the transitions to which a path goes this way from start
-pub record AreReachedMarks (net : NetLists) (way : Way) (start : ℕ) (marks : List Bool) : Type 0 where
+-- marked are exactly the transitions to which a path goes from start, onward or back
+pub record AreReachedMarks (net : NetLists) (near : PlaceEnd) (start : ℕ) (marks : List Bool) : Type 0 where
   pub count : length marks ≡ length net.transitions
-  pub exact : (t : ℕ) → IsMarked marks t ↔ Leads net way start t
+  pub exact : (t : ℕ) → IsMarked marks t ↔ Leads net near start t
 
 -- each reaches the other
 abbrev pub AreMutual : NetLists → ℕ → ℕ → Type 0

@@ -6,17 +6,17 @@ ghost use Rattle.teg_parts.specs.BothWays.{AreBothWays};
 ghost use Rattle.teg_parts.specs.Components.{AreReachedMarks, AreFound, IsRooted, HasFound, AreComponents};
 
 use crate::numbers::numbers_of;
-use crate::places_along::{PlacesAlong, Way, far_end, places_along, push_places_along};
+use crate::places_along::{PlacesAlong, far_end, places_along, push_places_along};
 use std::alloc::{AllocError, Global};
-use teg_net::{Net, PlaceId};
+use teg_net::{Net, OutOfMemory, PlaceEnd, PlaceId};
 
-// The transition to which one comes along the place of this number.
-fn far_from(net: &Net, way: Way, id: PlaceId) -> usize
+// The transition to which one comes along the place of this number, off at this end of it.
+fn far_from(net: &Net, near: PlaceEnd, id: PlaceId) -> usize
     requires { id.index < length net.now.places }
-    ensures value { result ≡ far_of way net.now id }
+    ensures value { result ≡ far_of near net.now id }
     ensures bound { result < length net.now.transitions }
 {
-    far_end(way, &net.places()[id.index as usize])
+    far_end(near, &net.places()[id.index as usize])
 }
 
 // The transitions to which a path goes from the start, marked: a place is gone along once at most.
@@ -28,14 +28,14 @@ fn led_from(
 ) -> Result<Vec<bool>, AllocError>
     requires along { ArePlacesAlong net.now along.now }
     requires start { start < length net.now.transitions }
-    ensures { IfOk result (λ marks. AreReachedMarks net.now along.now.way start marks.items) }
+    ensures { IfOk result (λ marks. AreReachedMarks net.now along.now.near start marks.items) }
 {
     let mut marks = vec![in alloc; false; net.transitions().len()]?;
     let mut agenda = Vec::new(alloc);
     marks[start] = true;
     push_places_along(net, along, start, &mut agenda)?;
     'search: while let Some(id) = agenda.pop() {
-        let far = far_from(net, along.way, id);
+        let far = far_from(net, along.near, id);
         if !marks[far] {
             marks[far] = true;
             push_places_along(net, along, far, &mut agenda)?;
@@ -65,11 +65,11 @@ struct BothWays {
 }
 
 // The places of the net, both ways.
-fn both_ways(alloc: Global, net: &Net) -> Result<BothWays, AllocError>
+fn both_ways(alloc: Global, net: &Net) -> Result<BothWays, OutOfMemory>
     ensures { IfOk result (AreBothWays net.now) }
 {
-    let onward = places_along(alloc, net, Way::Onward)?;
-    let back = places_along(alloc, net, Way::Back)?;
+    let onward = places_along(alloc, net, PlaceEnd::From)?;
+    let back = places_along(alloc, net, PlaceEnd::To)?;
     Ok(BothWays { onward, back })
 }
 
@@ -98,7 +98,7 @@ fn find_part(
 
 // For each transition a number that it shares with exactly those that it reaches and that reach it:
 // two searches for each part, each linear in places and transitions.
-pub(crate) fn components(alloc: Global, net: &Net) -> Result<Vec<u32>, AllocError>
+pub(crate) fn components(alloc: Global, net: &Net) -> Result<Vec<u32>, OutOfMemory>
     ensures { IfOk result (λ numbers. AreComponents net.now numbers.items) }
 {
     let count = net.transitions().len();
@@ -107,5 +107,6 @@ pub(crate) fn components(alloc: Global, net: &Net) -> Result<Vec<u32>, AllocErro
     for root in 0..count {
         find_part(alloc, net, &ways, root, &mut found)?;
     }
-    numbers_of(alloc, &found)
+    let numbers = numbers_of(alloc, &found)?;
+    Ok(numbers)
 }

@@ -1,69 +1,44 @@
-//! The places along which one may go from each transition, onward or back, linked from the highest
+//! The places along which one may go from each transition, onward or back, taken from the highest
 //! numbered down.
 ghost use Rattle.std.specs.Prelude.{◌≡◌, ◌<◌, length, IfOk, OnOk};
-ghost use Rattle.teg_parts.specs.PlacesAlong.{near_in, far_in, ArePlacesAlong, AddsPlacesAlong};
+ghost use Rattle.teg_parts.specs.PlacesAlong.{far_in, ArePlacesAlong, AddsPlacesAlong};
 
 use std::alloc::{AllocError, Global};
-use teg_net::{Net, Place, PlaceId};
+use teg_net::{Net, OutOfMemory, Place, PlaceEnd, PlaceId, PlacesOf, TransitionId};
 
-// Whether places are gone along as they lead, or against that.
-#[derive(Clone, Copy, Debug, PartialEq, Eq)]
-pub(crate) enum Way {
-    Onward,
-    Back,
-}
-
-// The transition at which one goes off along the place.
-fn near_end(way: Way, place: &Place) -> usize
-    ensures { result ≡ near_in way place.now }
+// The transition to which one comes along the place, where one goes off at this end of it.
+pub(crate) fn far_end(near: PlaceEnd, place: &Place) -> usize
+    ensures { result ≡ far_in near place.now }
 {
-    match way {
-        Way::Onward => place.from.index as usize,
-        Way::Back => place.to.index as usize,
+    match near {
+        PlaceEnd::From => place.to.index as usize,
+        PlaceEnd::To => place.from.index as usize,
     }
 }
 
-// The transition to which one comes along the place.
-pub(crate) fn far_end(way: Way, place: &Place) -> usize
-    ensures { result ≡ far_in way place.now }
-{
-    match way {
-        Way::Onward => place.to.index as usize,
-        Way::Back => place.from.index as usize,
-    }
-}
-
-// For each transition the highest numbered place along which one may go from it, and for each place
-// the next lower one of the same transition.
+// Of each transition the places along which one may go from it: onward where one goes off at the
+// transition that a place leaves, and else back.
 #[derive(Debug, Drop)]
 pub(crate) struct PlacesAlong {
-    pub(crate) way: Way,
-    pub(crate) highest: Vec<Option<PlaceId>>,
-    pub(crate) lower: Vec<Option<PlaceId>>,
+    pub(crate) near: PlaceEnd,
+    places: PlacesOf,
 }
 
-// The places along which one may go from each transition, by one pass.
-pub(crate) fn places_along(alloc: Global, net: &Net, way: Way) -> Result<PlacesAlong, AllocError>
+// The places along which one may go from each transition that they have at this end.
+pub(crate) fn places_along(
+    alloc: Global,
+    net: &Net,
+    near: PlaceEnd,
+) -> Result<PlacesAlong, OutOfMemory>
     ensures places { IfOk result (λ f. ArePlacesAlong net.now f) }
-    ensures way { IfOk result (λ f. f.way ≡ way) }
+    ensures near { IfOk result (λ f. f.near ≡ near) }
 {
-    let mut highest = vec![in alloc; None; net.transitions().len()]?;
-    let mut lower = Vec::new(alloc);
-    for (index, place) in net.places().iter().enumerate() {
-        let near = near_end(way, place);
-        lower.push(highest[near])?;
-        highest[near] = Some(PlaceId {
-            index: index as u32,
-        });
-    }
-    Ok(PlacesAlong {
-        way,
-        highest,
-        lower,
-    })
+    let places = PlacesOf::new(alloc, net, near)?;
+    Ok(PlacesAlong { near, places })
 }
 
-// Puts the places along which one may go from the transition at the end of the list.
+// Puts the places along which one may go from the transition at the end of the list, the highest
+// numbered first.
 pub(crate) fn push_places_along(
     net: &Net,
     along: &PlacesAlong,
@@ -72,14 +47,12 @@ pub(crate) fn push_places_along(
 ) -> Result<(), AllocError>
     requires along { ArePlacesAlong net.now along.now }
     requires transition { transition < length net.now.transitions }
-    ensures { OnOk result (AddsPlacesAlong net.now along.now.way transition agenda.old.items
+    ensures { OnOk result (AddsPlacesAlong net.now along.now.near transition agenda.old.items
         agenda.new.items) }
 {
     net.rules();
-    let mut at = along.highest[transition];
-    'down: while let Some(id) = at {
-        agenda.push(id)?;
-        at = along.lower[id.index as usize];
-    }
-    Ok(())
+    let id = TransitionId {
+        index: transition as u32,
+    };
+    agenda.extend(along.places.of(id).iter().rev())
 }

@@ -4,12 +4,13 @@ use Rattle.std.proofs.lemmas.Bool.{cases_eq, cases_lt}
 use Rattle.std.proofs.lemmas.List.{get_or_default}
 use Rattle.teg_net.specs.declared.entries.PlaceId.{PlaceId}
 use Rattle.teg_net.specs.Nets.{NetLists}
+use Rattle.teg_net.specs.declared.places_of.PlaceEnd.TheVariants.{To}
 use Rattle.teg_net.specs.Circuits.{no_place, place_at}
+use Rattle.teg_net.specs.PlaceLists.{ListsPlacesAt}
 use Rattle.run_laws.specs.declared.fired.Fired.{Fired}
 use Rattle.run_laws.specs.Runs.{next_number, token_date, IsThereBy, HasTokensBy}
 use Rattle.run_laws.specs.FiringFailures.{IsFirstLateToken}
 use Rattle.run_laws.proofs.Dates.{later_there}
-use Rattle.teg_replay.specs.Games.{AreInto}
 use Rattle.teg_replay.specs.Waits.{IsLatestToken}
 
 abbrev pub no_id : PlaceId
@@ -21,12 +22,12 @@ pub record LatestUpTo (net : NetLists) (run : List Fired) (f : Fired) (k : ℕ) 
   pub by : latest ≤ f.date
 
 -- what all places into the transition have, place i of the list has
-at_id : (net : NetLists) (run : List Fired) (t k date : ℕ) (ids : List PlaceId) (i : ℕ) (d : PlaceId) → AreInto net t ids → i < length ids
+at_id : (net : NetLists) (run : List Fired) (t k date : ℕ) (ids : List PlaceId) (i : ℕ) (d : PlaceId) → ListsPlacesAt net To t ids → i < length ids
     → HasTokensBy net run t k date → IsThereBy date (token_date run (place_at net (get_or ids i d)) k)
 at_id net run t k date ids i d into l h = h (get_or ids i d).index no_place (into.known i d l) (into.right i d l)
 
 pub latest_more : (net : NetLists) (run : List Fired) (f : Fired) (k : ℕ) (ids : List PlaceId) (i latest date : ℕ) (id : PlaceId)
-    → AreInto net f.transition.index ids → LatestUpTo net run f k ids i latest → i < length ids → ((d : PlaceId) → get_or ids i d ≡ id)
+    → ListsPlacesAt net To f.transition.index ids → LatestUpTo net run f k ids i latest → i < length ids → ((d : PlaceId) → get_or ids i d ≡ id)
     → Some date ≡ token_date run (place_at net id) k → date ≤ f.date → LatestUpTo net run f k ids (i + 1) (max latest date)
 latest_more net run f k ids i latest date id into h l is there by = record {
   enough = λ j d m.
@@ -46,7 +47,7 @@ latest_more net run f k ids i latest date id into h l is there by = record {
 
 -- a place into the transition is one of the list
 pub latest_is : (net : NetLists) (run : List Fired) (f : Fired) (k : ℕ) (ids : List PlaceId) (i latest : ℕ)
-    → AreInto net f.transition.index ids → LatestUpTo net run f k ids i latest → length ids ≤ i → IsLatestToken net run f.transition.index k latest
+    → ListsPlacesAt net To f.transition.index ids → LatestUpTo net run f k ids i latest → length ids ≤ i → IsLatestToken net run f.transition.index k latest
 latest_is net run f k ids i latest into h end = record {
   enough = λ q d l e.
       let same : get_or net.places q d ≡ get_or net.places q no_place = get_or_default net.places q d no_place l in
@@ -60,7 +61,7 @@ latest_by net run t k a b l h q d m e = later_there a b _ l (h q d m e)
 
 -- the first place of the list whose token is not there is the lowest numbered one
 pub first_late : (net : NetLists) (run : List Fired) (f : Fired) (k : ℕ) (ids : List PlaceId) (i latest : ℕ) (id : PlaceId) (there : Option ℕ)
-    → AreInto net f.transition.index ids → LatestUpTo net run f k ids i latest → i < length ids → ((d : PlaceId) → get_or ids i d ≡ id)
+    → ListsPlacesAt net To f.transition.index ids → LatestUpTo net run f k ids i latest → i < length ids → ((d : PlaceId) → get_or ids i d ≡ id)
     → k ≡ next_number run f.transition.index → there ≡ token_date run (place_at net id) k → (IsThereBy f.date there → ⊥) → IsFirstLateToken net run f id there
 first_late net run f k ids i latest id there into h l is number date late = record {
   in_range = rw (is no_id) at (into.known i no_id l);
@@ -86,7 +87,7 @@ first_late net run f k ids i latest id there into h l is number date late = reco
 
 -- the same of the place that stands at i
 pub late_at : (net : NetLists) (run : List Fired) (f : Fired) (k : ℕ) (ids : List PlaceId) (i latest : ℕ) (there : Option ℕ)
-    → AreInto net f.transition.index ids → LatestUpTo net run f k ids i latest → i < length ids
+    → ListsPlacesAt net To f.transition.index ids → LatestUpTo net run f k ids i latest → i < length ids
     → k ≡ next_number run f.transition.index → there ≡ token_date run (place_at net (get_or ids i no_id)) k → (IsThereBy f.date there → ⊥) → IsFirstLateToken net run f (get_or ids i no_id) there
 late_at net run f k ids i latest there into h l number date late =
     first_late net run f k ids i latest (get_or ids i no_id) there into h l (λ d. get_or_default ids i d no_id l) number date late

@@ -1,9 +1,10 @@
 -- What a game keeps, and for which net it stands.
-use Rattle.std.specs.Prelude.{ℕ, ◌<◌, ◌≡◌, ◌==◌, List, [], Option, Some, None, length, All, AllPairs, Contains, count_by, slice_get, slice_index_or}
+use Rattle.std.specs.Prelude.{ℕ, ◌<◌, ◌≡◌, ◌==◌, List, [], Option, Some, None, length, All, count_by, slice_get, slice_index_or}
 use Rattle.teg_net.specs.declared.entries.PlaceId.{PlaceId}
 use Rattle.teg_net.specs.declared.entries.InputList.{InputList}
+use Rattle.teg_net.specs.declared.places_of.PlaceEnd.TheVariants.{To}
 use Rattle.teg_net.specs.Nets.{NetLists, IsNet}
-use Rattle.teg_net.specs.Circuits.{place_at}
+use Rattle.teg_net.specs.PlaceLists.{ArePlacesOf}
 use Rattle.teg_net.specs.Inputs.{list_of_input}
 use Rattle.run_laws.specs.declared.fired.Fired.{Fired}
 use Rattle.run_laws.specs.Runs.{dates_of_transition, IsLegalRun}
@@ -30,18 +31,9 @@ abbrev pub input_list_at : List InputList → Option ℕ → Option InputList
 input_list_at lists None = None
 input_list_at lists (Some position) = slice_get lists position
 
--- the places into transition t, lowest first
-pub record AreInto (net : NetLists) (t : ℕ) (ids : List PlaceId) : Type 0 where
-  pub known : All (λ id. id.index < length net.places) ids
-  pub right : All (λ id. (place_at net id).to.index ≡ t) ids
-  pub all : (id : PlaceId) → id.index < length net.places → (place_at net id).to.index ≡ t → Contains ids id
-  pub rising : AllPairs (λ p q. p.index < q.index) ids
-  pub count : length ids ≡ count_by (λ p. p.to.index == t) net.places
-
 -- the ends of the net's places, and its input lists
 pub record AreEnds (net : NetLists) (ends : PlaceEnds) : Type 0 where
-  pub into_width : length ends.into ≡ length net.transitions
-  pub into : (t : ℕ) → t < length net.transitions → AreInto net t (slice_index_or ends.into t [])
+  pub into : ArePlacesOf net To ends.into
   pub leaving_width : length ends.leaving ≡ length net.transitions
   pub leaving : (t : ℕ) → t < length net.transitions → slice_index_or ends.leaving t 0 ≡ count_by (λ p. p.from.index == t) net.places
   pub lists_width : length ends.lists ≡ length net.transitions

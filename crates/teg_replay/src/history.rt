@@ -13,7 +13,7 @@ use teg_net::TransitionId;
 #[derive(Debug, Drop)]
 pub(crate) struct History {
     run: Vec<Fired>,
-    columns: Vec<Column<u64>>,
+    columns: Vec<Column>,
 }
 
 impl Model for History {

@@ -3,10 +3,12 @@
 ghost use Rattle.std.specs.Prelude.{◌≡◌, ◌<◌, ◌≤◌, ◌+◌, ◌^◌, IfOk, IfErr, Some, length, ◌-◌};
 ghost use Rattle.teg_net.specs.Circuits.{place_at};
 ghost use Rattle.teg_net.specs.Inputs.{input_date};
+ghost use Rattle.teg_net.specs.PlaceLists.{ListsPlacesAt};
+ghost use Rattle.teg_net.specs.declared.places_of.PlaceEnd.TheVariants.{To};
 ghost use Rattle.run_laws.specs.Runs.{dates_of_transition, next_number, token_date, HasTokensBy, IsReleasedBy, IsThereBy, last_date, IsNotBefore};
 ghost use Rattle.run_laws.specs.Earliest.{last_listed_date};
 ghost use Rattle.teg_replay.specs.RefusedFirings.{Fails};
-ghost use Rattle.teg_replay.specs.Games.{AreEnds, AreInto};
+ghost use Rattle.teg_replay.specs.Games.{AreEnds};
 ghost use Rattle.teg_replay.specs.declared.refusal.FireRefusal.TheVariants.{BeforeRelease};
 ghost use Rattle.teg_replay.specs.Waits.{IsLatestToken, IsLatestRelease, IsBackTo, IsUnreleased};
 
@@ -66,7 +68,7 @@ pub(crate) fn tokens_there(
 ) -> Result<u64, FireRefusal>
     requires width { history.now.width ≡ length net.now.transitions }
     requires transition { fired.transition.index < length net.now.transitions }
-    requires into { AreInto net.now fired.transition.index into.now }
+    requires into { ListsPlacesAt net.now To fired.transition.index into.now }
     requires few { length history.now.run < 2 ^ 40 }
     ensures latest { IfOk result (λ date. IsLatestToken net.now history.now.run
         fired.transition.index (next_number history.now.run fired.transition.index) date) }

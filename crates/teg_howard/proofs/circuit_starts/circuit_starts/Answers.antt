@@ -29,8 +29,10 @@ lowest_back-requires-clause-again c =
     let passed = c.loop-start.passed.items in
     let e = rw c.deref_mut.ensures.value at c.in-Some.ensures.some in
     let few : length passed ≡ length c.args.policy.now = omega (arith, c.loop-start.invariant.count_passed, c.requires.count) in
-    subst (λ n. ComesAgain net π n c.in-Some.end) few
-    (e.0.round (end_fresh net π c.args.part.now.parts.now c.args.part.now.number c.loop-start.starts.items passed c.fresh_end.new.passed c.loop-start.start c.in-Some.end c.loop-start.invariant e.0 e.1))
+    let fresh =
+    end_fresh net π c.args.part.now.parts.now c.args.part.now.number c.loop-start.starts.items passed c.fresh_end.new.passed
+    c.loop-start.start c.in-Some.end c.loop-start.invariant e.0 e.1 in
+    subst (λ n. ComesAgain net π n c.in-Some.end) few (e.0.round fresh)
 
 pub index_mut-requires : goal.index_mut-requires
 index_mut-requires c =

@@ -22,7 +22,8 @@ follow-init c =
     rw (c.in_ok-add.ensures, c.new-waiting.ensures.items, value)
     (spread_start c.args.part.now.net.now c.args.part.now.parts.now c.args.part.now.number
     (policy_of c.args.policy.now) root c.args.ratio.time c.args.ratio.tokens c.in_ok-values.values.items c.in_ok-followers.followers r.member links
-    (followed_start c.args.part.now.net.now c.args.part.now.parts.now c.args.part.now.number c.args.ratio.time c.args.ratio.tokens root (policy_of c.args.policy.now) c.in_ok-values.values.items r.member alone) alone.others)
+    (followed_start c.args.part.now.net.now c.args.part.now.parts.now c.args.part.now.number c.args.ratio.time c.args.ratio.tokens
+    root (policy_of c.args.policy.now) c.in_ok-values.values.items r.member alone) alone.others)
 
 pub offset_bounds-policy-member : goal.offset_bounds-policy-member
 offset_bounds-policy-member c =

@@ -80,5 +80,6 @@ loop-id-preserved c =
 
 pub returns : goal.returns
 returns c =
-    improving_all c.args.part.now.net.now c.args.part.now.parts.now c.args.part.now.number c.args.ratio c.args.values.now c.args.policy.now c.loop-id.policy c.loop-id.greatest.items c.loop-id.changed.items _
+    improving_all c.args.part.now.net.now c.args.part.now.parts.now c.args.part.now.number c.args.ratio
+    c.args.values.now c.args.policy.now c.loop-id.policy c.loop-id.greatest.items c.loop-id.changed.items _
     (past_all c.args.part.now.net.now c.args.part.now.parts.now c.args.part.now.number c.args.part.now.ids.now c.requires.inner c.loop-id.id-index c.loop-id-test.false) c.loop-id.invariant

@@ -30,7 +30,9 @@ loop-start-preserved c =
           let f = w.in-Some.circuit in
           let member : IsMember parts part i = c.in_ok-starts.ensures.only i (sym read ∙ w.if-index.true) in
           let found : IsFoundAt net π i f = rw w.in-Some.is at w.in_ok-circuit.ensures.some in
-          rw w.best-is (best_of net parts part π marked r.policy.is_policy c.rules.ensures r.live c.args.part.now.count i f c.loop-start.best w.better_of-best.result member found h w.better_of-best.ensures)
+          rw w.best-is
+          (best_of net parts part π marked r.policy.is_policy c.rules.ensures r.live c.args.part.now.count i f
+          c.loop-start.best w.better_of-best.result member found h w.better_of-best.ensures)
       | then-index+in_ok-circuit+in_default w ↦
           let none = rw w.in_default.is at w.in_ok-circuit.ensures.none in
           rw w.best-is

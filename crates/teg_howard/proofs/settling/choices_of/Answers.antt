@@ -24,5 +24,7 @@ loop-member-preserved c =
           (subst (λ (v : ℤ). Listed parts c.args.part.now.number (policy_of c.args.policy.now) c.args.values.now
           (c.loop-member.choices.items ++ record { transition = record { index = i }; place = policy_of c.args.policy.now i; value = v } ∷ []) (i + 1)) value
           (listed_more parts c.args.part.now.number (policy_of c.args.policy.now) c.args.values.now c.loop-member.choices.items i h member))
-      | else-parts-member w ↦ rw w.choices-is (listed_skip parts c.args.part.now.number (policy_of c.args.policy.now) c.args.values.now c.loop-member.choices.items i h (λ m. w.if-parts-member.false m.here))
+      | else-parts-member w ↦
+          rw w.choices-is
+          (listed_skip parts c.args.part.now.number (policy_of c.args.policy.now) c.args.values.now c.loop-member.choices.items i h (λ m. w.if-parts-member.false m.here))
     ]

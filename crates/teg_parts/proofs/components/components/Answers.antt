@@ -2,7 +2,6 @@ use Rattle.std.proofs.Common.{ℕ, ◌≡◌, ◌≢◌, ◌<◌, ◌≤◌, Non
 use Rattle.std.proofs.lemmas.Bool.{cases_lt}
 use lib.ListN.{replicate}
 use Rattle.teg_parts.specs.Components.{HasFound, found_at}
-use Rattle.teg_parts.proofs.Marks.{IfOk_then}
 use Rattle.teg_net.proofs.Reading.{written_back}
 use Rattle.teg_parts.proofs.Rooted.{found_none, are_components}
 use Rattle.teg_parts.proofs.components.components.Goals as goal
@@ -40,6 +39,4 @@ numbers_of-requires c =
     rw c.deref.ensures.value (λ t l. c.loop-root.invariant.all t (omega (arith, c.loop-root-test.false)))
 
 pub returns : goal.returns
-returns c =
-    IfOk_then c.numbers_of.result c.numbers_of.ensures
-    (λ numbers told. are_components c.args.net.now c.loop-root.found.items numbers.items c.loop-root.invariant.found (rw c.deref.ensures.value at told))
+returns c = are_components c.args.net.now c.loop-root.found.items c.in_ok-numbers.numbers.items c.loop-root.invariant.found (rw c.deref.ensures.value at c.in_ok-numbers.ensures)

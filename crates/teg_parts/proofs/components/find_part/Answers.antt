@@ -1,5 +1,5 @@
 use Rattle.std.proofs.Common.{None, ◌≡◌, true, false, refl, sym, subst, ◌∙◌, arith}
-use Rattle.teg_parts.specs.declared.places_along.Way.TheVariants.{Onward, Back}
+use Rattle.teg_net.specs.declared.places_of.PlaceEnd.TheVariants.{From, To}
 use Rattle.teg_parts.specs.Components.{AreReachedMarks, IsRooted, found_at}
 use Rattle.teg_parts.proofs.Marks.{none_by, some_by}
 use Rattle.teg_parts.proofs.Rooted.{has_found}
@@ -24,8 +24,8 @@ returns c =
     let root = c.args.root in
     let onward = c.in_ok-reached.reached.items in
     let back = c.in_ok-reaching.reaching.items in
-    let reached : AreReachedMarks net Onward root onward = subst (λ w. AreReachedMarks net w root onward) c.requires.ways.onward_way c.in_ok-reached.ensures in
-    let reaching : AreReachedMarks net Back root back = subst (λ w. AreReachedMarks net w root back) c.requires.ways.back_way c.in_ok-reaching.ensures in
+    let reached : AreReachedMarks net From root onward = subst (λ w. AreReachedMarks net w root onward) c.requires.ways.onward_near c.in_ok-reached.ensures in
+    let reaching : AreReachedMarks net To root back = subst (λ w. AreReachedMarks net w root back) c.requires.ways.back_near c.in_ok-reaching.ensures in
     let g : IsRooted onward back root c.args.found.now c.give_root.new.found = rw (c.deref.ensures.value, c.deref-2.ensures.value) at c.give_root.ensures in
     let new : found_at c.args.found.now root ≡ None = none_by (found_at c.args.found.now root) true (sym c.is_some.ensures ∙ c.if-is_some.false) refl in
     has_found net root onward back c.args.found.now c.give_root.new.found c.give_root.auto.found c.requires.root new c.requires.found reached reaching g

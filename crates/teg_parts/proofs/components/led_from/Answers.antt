@@ -44,16 +44,16 @@ search-smaller-in-Continue-branch-3 c =
 pub search-preserved-in-Continue-branch-3 : goal.search-preserved-in-Continue-branch-3
 search-preserved-in-Continue-branch-3 c =
     let net = c.args.net.now in
-    let way = c.args.along.now.way in
+    let near = c.args.along.now.near in
     let rest = c.pop.new.self.items in
     let p = c.in-Some.id in
     let after = c.push_places_along-then-not-index.new.agenda.items in
     let end = c.far_from-far.ensures in
-    let adds : AddsPlacesAlong net way (far_of way net p) rest after = rw end.value at c.in_ok-push_places_along-2.ensures in
+    let adds : AddsPlacesAlong net near (far_of near net p) rest after = rw end.value at c.in_ok-push_places_along-2.ensures in
     rw end.value (gone_along rest p c.in-Some.ensures.items c.search.invariant after (rw end.value at end.bound) adds)
 
 pub returns : goal.returns
 returns c =
     let ok = c.search.agenda.ok in
     let none : length c.search.agenda.items ≡ 0 = omega (arith, ok.0, c.in_default.ensures.cases) in
-    search_over c.args.net.now c.args.along.now.way c.args.start c.search.marks.items c.search.agenda.items none c.search.invariant
+    search_over c.args.net.now c.args.along.now.near c.args.start c.search.marks.items c.search.agenda.items none c.search.invariant

@@ -2,4 +2,4 @@ use Rattle.std.proofs.Common.{◌≡◌, [], replicate}
 use Rattle.teg_replay.proofs.column.empty_columns.Given as goal
 
 abbrev pub invariant-loop-index : goal.invariant-loop-index
-invariant-loop-index g l = l.columns.items ≡ replicate l._index []
+invariant-loop-index l = l.columns.items ≡ replicate l._index []

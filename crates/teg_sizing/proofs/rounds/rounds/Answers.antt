@@ -49,7 +49,8 @@ pub returns-then-is_last-clause-rounds : goal.returns-then-is_last-clause-rounds
 returns-then-is_last-clause-rounds c =
     let here = rw (c.last_cells.ensures, c.deref.ensures.value) at c.in_ok-after.ensures.after in
     rw c.in_ok-push-2.ensures.items
-    (rounds_more c.args.asked.now.net.now c.args.asked.now.target c.args.asked.now.place c.args.first c.loop-number.rounds.items c.in_ok-after.after c.in_ok-after.ensures.rules c.requires.target c.loop-number.invariant.0 here)
+    (rounds_more c.args.asked.now.net.now c.args.asked.now.target c.args.asked.now.place c.args.first c.loop-number.rounds.items
+    c.in_ok-after.after c.in_ok-after.ensures.rules c.requires.target c.loop-number.invariant.0 here)
 
 pub returns-then-is_last-clause-all : goal.returns-then-is_last-clause-all
 returns-then-is_last-clause-all c =
@@ -66,4 +67,5 @@ pub returns-clause-all : goal.returns-clause-all
 returns-clause-all c =
     let h = c.loop-number.invariant in
     let long = h.1 in
-    whole c.args.asked.now.net.now c.args.asked.now.target c.args.asked.now.place c.args.first c.loop-number.rounds.items c.args.count h.0 (omega (arith, long, c.loop-number-test.false, c.loop-number.auto._number-end))
+    whole c.args.asked.now.net.now c.args.asked.now.target c.args.asked.now.place c.args.first c.loop-number.rounds.items
+    c.args.count h.0 (omega (arith, long, c.loop-number-test.false, c.loop-number.auto._number-end))

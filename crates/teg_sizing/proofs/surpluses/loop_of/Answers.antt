@@ -43,5 +43,7 @@ first_loop-requires-clause-long c =
 pub returns : goal.returns
 returns c =
     let h = c.requires.apart in
-    let w = long_of c.args.asked.now.net.now c.args.asked.now.target c.args.asked.now.place c.args.all.now c.requires.rules h c.args.end c.deref.result.now c.requires.better (c.deref.ensures.value ∙ c.in_ok-path.ensures) in
-    above_found c.args.asked.now.net.now c.args.asked.now.target c.args.asked.now.place h.first h.told.all c.requires.rules h.starts h.told.are h.told.long c.deref.result.now c.in_ok-own.own.items c.args.end w c.in_ok-own.ensures
+    let w = long_of c.args.asked.now.net.now c.args.asked.now.target c.args.asked.now.place c.args.all.now c.requires.rules h c.args.end
+    c.deref.result.now c.requires.better (c.deref.ensures.value ∙ c.in_ok-path.ensures) in
+    above_found c.args.asked.now.net.now c.args.asked.now.target c.args.asked.now.place h.first h.told.all c.requires.rules
+    h.starts h.told.are h.told.long c.deref.result.now c.in_ok-own.own.items c.args.end w c.in_ok-own.ensures
