@@ -1,5 +1,6 @@
 pub mod BegunLaws
 pub mod FirstValues
+pub mod JumpLaws
 pub mod LeftParts
 pub mod LeftSplits
 pub mod LeftValues

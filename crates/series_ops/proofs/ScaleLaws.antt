@@ -48,7 +48,7 @@ module _ {far bound top : ℕ} {early never : ℤ} {width : Width} (scale : IsSc
 
   -- ---- the greater number
 
-  date_rises : (x y : ℤ) → x ≤ℤ y → IsAtMostDate (date_by_far far x) (date_by_far far y)
+  pub date_rises : (x y : ℤ) → x ≤ℤ y → IsAtMostDate (date_by_far far x) (date_by_far far y)
   date_rises x y w = by_lt_z (pos far) y
       (λ h. rw (in_never y h) (never_last (date_by_far far x)))
       (λ h. by_lt_z x (pos 0 -ℤ pos far)
@@ -141,6 +141,22 @@ module _ {far bound top : ℕ} {early never : ℤ} {width : Width} (scale : IsSc
       let e : length l ≡ k = omega arith in
       subst (λ (x : ℤ). IsCellBy far bound early never x) (sym (get_or_push l z (pos 0) k e)) c)
       (cases_lt k (length l))
+
+  -- the sum at a place, as the code computes it
+  pub part_code : (l r : List ℤ) (k i : ℕ) → AreCellsBy far bound early never l → AreCellsBy far bound early never r → i < length l → k - i < length r
+      → date_by_far far (to_z width (of_z width (to_z width (of_z width (get_or l i (pos 0))) +ℤ to_z width (of_z width (get_or r (k - i) (pos 0)))))) ≡ split_of (value_listed (map (date_by_far far) l)) (value_listed (map (date_by_far far) r)) k i
+  part_code l r k i hl hr wl wr =
+      let x : ℤ = get_or l i (pos 0) in
+      let y : ℤ = get_or r (k - i) (pos 0) in
+      ap (date_by_far far) (sum_code x y (hl i wl) (hr (k - i) wr)) ∙ date_added x y (hl i wl) (hr (k - i) wr)
+      ∙ ap (λ (z : Date). date_product z (date_by_far far y)) (sym (dated_at l i wl))
+      ∙ ap (date_product (value_listed (map (date_by_far far) l) i)) (sym (dated_at r (k - i) wr))
+
+  -- it fits
+  pub part_fits : (l r : List ℤ) (k i : ℕ) → AreCellsBy far bound early never l → AreCellsBy far bound early never r → i < length l → k - i < length r
+      → FitsSigned width (to_z width (of_z width (get_or l i (pos 0))) +ℤ to_z width (of_z width (get_or r (k - i) (pos 0))))
+  part_fits l r k i hl hr wl wr =
+      rw (own_code (get_or l i (pos 0)) (hl i wl), own_code (get_or r (k - i) (pos 0)) (hr (k - i) wr)) (cells_fit (get_or l i (pos 0)) (get_or r (k - i) (pos 0)) (hl i wl) (hr (k - i) wr))
 
   -- one more split
   pub split_step : (l r : List ℤ) (k p m : ℕ) (best sum new : ℤ) → AreCellsBy far bound early never l → AreCellsBy far bound early never r → p + m < length l → k - (p + m) < length r

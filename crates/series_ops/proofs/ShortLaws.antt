@@ -1,7 +1,8 @@
 -- Numbers of eight bytes that stand for the first dates of a longer list.
-use Rattle.std.proofs.Common.{◌≡◌, ℕ, ℤ, pos, ◌+◌, ◌-◌, ◌≤◌, ◌<◌, arith, ap, sym, ◌∙◌, subst, ⊎_elim, List, [], ◌∷◌, ◌++◌, length, map}
+use Rattle.std.proofs.Common.{◌≡◌, ℕ, ℤ, pos, ◌+◌, ◌-◌, ◌≤◌, ◌<◌, arith, ap, sym, ◌∙◌, subst, ⊎_elim, List, [], ◌∷◌, ◌++◌, length, map, Result, Ok, Err}
 use Rattle.std.proofs.lemmas.Bool.{cases_lt}
-use Rattle.std.proofs.lemmas.List.{get_or_push, get_or_append_left, length-append}
+use Rattle.std.specs.Prelude.{IfOk}
+use Rattle.std.proofs.lemmas.List.{get_or_push, get_or_append_left, length-append, map-append}
 use Rattle.dioid.specs.Dates.{date_product}
 use Rattle.dioid.specs.declared.dates.Date.{Date}
 use Rattle.series_form.specs.NumberBounds.{IsMagnitudeUpTo}
@@ -63,3 +64,22 @@ both_pushed l k n m z d hn hs em ez e low way =
       subst (λ (x : List ℤ). AreCells x) (sym whole) (cells_more long_scale n (cell_of_date d) hn (is_cell long_scale d low)),
       subst (λ (x : List ℤ). AreShortOf k x) (sym whole) (shorts_pushed l n k d hs e low way),
     )
+
+-- one more number, which is not kept in eight bytes
+pub numbers_pushed : (l n m : List ℤ) (z : ℤ) (d : Date) → AreCells n → AreShortOf l n → m ≡ n ++ z ∷ [] → z ≡ cell_of_date d → IsMagnitudeUpTo greatest_listed d → AreCells m × AreShortOf l m
+numbers_pushed l n m z d hn hs em ez low =
+    let whole : m ≡ n ++ cell_of_date d ∷ [] = em ∙ ap (λ (x : ℤ). n ++ x ∷ []) ez in (
+      subst (λ (x : List ℤ). AreCells x) (sym whole) (cells_more long_scale n (cell_of_date d) hn (is_cell long_scale d low)),
+      subst (λ (x : List ℤ). AreShortOf l x) (sym whole) (shorts_kept l n (cell_of_date d) hs),
+    )
+
+pub pushed_dates : (l n : List ℤ) (m : List Date) (z : ℤ) (d : Date) → n ≡ l ++ z ∷ [] → z ≡ cell_of_date d → IsMagnitudeUpTo greatest_listed d → map date_of_far_cell l ≡ m → map date_of_far_cell n ≡ m ++ d ∷ []
+pushed_dates l n m z d en ez low em =
+    let here : date_of_far_cell z ≡ d = ap date_of_far_cell ez ∙ kept long_scale d low in
+    ap (map date_of_far_cell) en ∙ map-append date_of_far_cell l (z ∷ [])
+    ∙ ap (λ (x : List Date). x ++ date_of_far_cell z ∷ []) em
+    ∙ ap (λ (x : Date). m ++ x ∷ []) here
+
+pub always_ok : {T E : Type 0} → (r : Result T E) (P : T → Type 0) → ((x : T) → P x) → IfOk r P
+always_ok (Ok x) P h = h x
+always_ok (Err e) P h = tt

@@ -1,9 +1,12 @@
 -- Sums over the splits of a shift, some places at a time.
-use Rattle.std.proofs.Common.{◌≡◌, refl, ap, arith, ℕ, ℤ, zero, suc, ◌+◌, ◌-◌, ◌≤◌, ◌<◌, sym, ◌∙◌, subst, List, to_z, of_z}
+use Rattle.std.proofs.Common.{◌≡◌, refl, ap, arith, ℕ, ℤ, zero, suc, ◌+◌, ◌-◌, ◌≤◌, ◌<◌, sym, ◌∙◌, subst, ⊎_elim, List, to_z, of_z}
 use Rattle.std.specs.Prelude.{min}
 use Rattle.std.specs.Int.{w128}
 use Rattle.std.specs.Int.RustNames.{unsigned_abs}
 use Rattle.std.proofs.lemmas.Int.{to_z-of_z}
+use Rattle.std.proofs.lemmas.Bool.{cases_lt}
+use Rattle.dioid.specs.DateOrder.{Le}
+use Rattle.dioid.proofs.AtMost.{le_is, le_trans, le_later_left, le_later_right, later_le, early_le}
 use Rattle.dioid.specs.Dates.{later_of, date_product, move}
 use Rattle.dioid.specs.Proved.DateLaws.{later_assoc}
 use Rattle.dioid.specs.declared.dates.Date.{Date}
@@ -60,6 +63,17 @@ greatest_whole f (suc k) =
 pub greatest_from_up_to : (f : ℕ → Date) (p m n : ℕ) → ((j : ℕ) → j < m → IsMagnitudeUpTo n (f (p + j))) → IsMagnitudeUpTo n (greatest_from f p m)
 greatest_from_up_to f p zero n h = tt
 greatest_from_up_to f p (suc m) n h = later_up_to n (greatest_from f p m) (f (p + m)) (greatest_from_up_to f p m n (λ j w. h j (omega arith))) (h m (omega arith))
+
+pub le_greatest_from : (f : ℕ → Date) (p m j : ℕ) → j < m → Le (f (p + j)) (greatest_from f p m)
+le_greatest_from f p zero j w = absurd (omega arith)
+le_greatest_from f p (suc m) j w = ⊎_elim
+    (λ low. le_trans (le_greatest_from f p m j low) (le_later_left (greatest_from f p m) (f (p + m))))
+    (λ high. let e : j ≡ m = omega arith in le_trans (le_is (ap (λ (z : ℕ). f (p + z)) e)) (le_later_right (greatest_from f p m) (f (p + m))))
+    (cases_lt j m)
+
+pub greatest_from_le : (f : ℕ → Date) (p m : ℕ) (d : Date) → ((j : ℕ) → j < m → Le (f (p + j)) d) → Le (greatest_from f p m) d
+greatest_from_le f p zero d h = early_le d
+greatest_from_le f p (suc m) d h = later_le (greatest_from_le f p m d (λ j w. h j (omega arith))) (h m (omega arith))
 
 -- ---- the product
 

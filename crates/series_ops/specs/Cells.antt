@@ -1,5 +1,5 @@
 -- Dates as numbers: two far numbers stand for Early and Never.
-use Rattle.std.specs.Prelude.{◌≡◌, ◌≤◌, ◌<◌, ◌-ℤ◌, ◌⊎◌, ℕ, ℤ, pos, negsuc, suc, cond, ltb, List, [], ◌∷◌, ◌++◌, length, get_or, map, reverse}
+use Rattle.std.specs.Prelude.{◌≡◌, ◌≤◌, ◌<◌, ◌-◌, ◌-ℤ◌, ◌≤ℤ◌, ◌⊎◌, ℕ, ℤ, pos, negsuc, suc, cond, ltb, Bool, true, List, [], ◌∷◌, ◌++◌, length, get_or, map, reverse}
 use Rattle.dioid.specs.declared.dates.Date.{Date}
 use Rattle.dioid.specs.declared.dates.Date.TheVariants.{Early, At, Never}
 use Rattle.series_form.specs.NumberBounds.{IsMagnitudeUpTo}
@@ -92,6 +92,39 @@ pub record AreShortOf (l n : List ℤ) : Type 0 where
 -- m is l, or l and the number of the date in eight bytes behind it
 abbrev pub IsPushed : List ℤ → List ℤ → Date → Type 0
 IsPushed l m d = (m ≡ l) ⊎ ((m ≡ l ++ short_of d ∷ []) × IsMagnitudeUpTo greatest_short d)
+
+-- ---- jumps
+
+-- the number n stands in the list
+pub record IsListed (l : List ℕ) (n : ℕ) : Type 0 where
+  pub place : ℕ
+  pub inside : place < length l
+  pub is : get_or l place 0 ≡ n
+
+-- the numbers of l stand in m, too
+abbrev pub AreStillListed : List ℕ → List ℕ → Type 0
+AreStillListed l m = (n : ℕ) → IsListed l n → IsListed m n
+
+-- each place whose number is not that of the place before stands in j
+abbrev pub AreJumps : List ℕ → List ℤ → Type 0
+AreJumps j l = (k : ℕ) → suc k < length l → (get_or l (suc k) (pos 0) ≡ get_or l k (pos 0)) ⊎ IsListed j (suc k)
+
+-- no number is below the one before
+abbrev pub AreRising : List ℤ → Type 0
+AreRising l = (k : ℕ) → suc k < length l → get_or l k (pos 0) ≤ℤ get_or l (suc k) (pos 0)
+
+-- the jumps of l stand in j, and l rises where this is said
+pub record AreStairs (j : List ℕ) (rising : Bool) (l : List ℤ) : Type 0 where
+  pub jumps : AreJumps j l
+  pub rises : rising ≡ true → AreRising l
+
+-- z is the last number of l, or the place behind l stands in j
+abbrev pub IsJumpListed : List ℕ → List ℤ → ℤ → Type 0
+IsJumpListed j l z = 0 < length l → (z ≡ get_or l (length l - 1) (pos 0)) ⊎ IsListed j (length l)
+
+-- the last number of l is at most z
+abbrev pub IsLastUpTo : List ℤ → ℤ → Type 0
+IsLastUpTo l z = 0 < length l → get_or l (length l - 1) (pos 0) ≤ℤ z
 
 -- ---- conjugates
 

@@ -1,13 +1,14 @@
 //! Lists of dates as numbers, so that the greatest of many sums is found by additions and
 //! comparisons of numbers alone: a number far below all others stands for Early, one far above for
 //! Never.
-ghost use Rattle.std.specs.Prelude.{◌≡◌, ◌≤◌, ◌<◌, ◌+◌, ◌-◌, ◌++◌, ◌∷◌, [], length, map, IfOk};
+ghost use Rattle.std.specs.Prelude.{◌≡◌, ◌≤◌, ◌<◌, ◌+◌, ◌-◌, ◌++◌, ◌∷◌, [], length, map, true, IfOk};
 ghost use Rattle.series_laws.specs.SeriesForms.{table};
 ghost use Rattle.series_form.specs.NumberBounds.{IsMagnitudeUpTo};
 ghost use Rattle.series_form.specs.SeriesLimits.{greatest_listed};
-ghost use Rattle.series_ops.specs.Cells.{far, cell_of_date, conjugate_of, date_of_far_cell, date_of_short_cell, conjugates_reversed, AreCells, AreShort, IsPushed};
+ghost use Rattle.series_ops.specs.Cells.{far, cell_of_date, conjugate_of, date_of_far_cell, date_of_short_cell, conjugates_reversed, AreCells, AreShort, IsPushed, AreStillListed, IsJumpListed, IsLastUpTo, AreJumps, AreRising};
 ghost use Rattle.series_ops.specs.ListFunctions.{value_listed, AreUpTo};
 ghost use Rattle.series_ops.specs.Splits.{greatest_from, split_of};
+ghost use Rattle.series_ops.specs.SplitsAt.{AreSplitsIn, greatest_of};
 
 use dioid::Date;
 use std::alloc::{AllocError, Global};
@@ -98,24 +99,49 @@ pub(crate) fn conjugate(date: Date) -> Date
     }
 }
 
+// Adds the place behind a list of numbers to its jumps, where the next number is not the last one.
+fn push_jump(jumps: &mut Vec<usize>, numbers: &[i128], next: i128) -> Result<(), AllocError>
+    ensures kept { AreStillListed jumps.old.items jumps.new.items }
+    ensures more { IfOk result (λ _. IsJumpListed jumps.new.items numbers.now next) }
+{
+    let size = numbers.len();
+    if size > 0 && numbers[size - 1] != next {
+        jumps.push(size)?;
+    }
+    Ok(())
+}
+
+// Whether numbers that rise, if they do, still do with the next one.
+fn rises_with(rising: bool, numbers: &[i128], next: i128) -> bool
+    ensures before { result ≡ true → rising ≡ true }
+    ensures next { result ≡ true → IsLastUpTo numbers.now next }
+{
+    let size = numbers.len();
+    rising && (size == 0 || numbers[size - 1] <= next)
+}
+
 // Dates one after another, each as a number, and the first ones that fit in eight bytes each once
-// more. Contracts see the list of them.
+// more; the places whose number is not that of the place before, and whether the numbers never
+// fall. Contracts see the list of the dates.
 #[derive(Drop)]
 pub(crate) struct Cells {
     numbers: Vec<i128>,
     short: Vec<i64>,
+    jumps: Vec<usize>,
+    rising: bool,
 }
 
 impl Model for Cells {
     ghost use Rattle.std.specs.Prelude.{List, map};
     ghost use Rattle.dioid.specs.declared.dates.Date.{Date};
-    ghost use Rattle.series_ops.specs.Cells.{date_of_far_cell, AreCells, AreShortOf};
+    ghost use Rattle.series_ops.specs.Cells.{date_of_far_cell, AreCells, AreShortOf, AreStairs};
 
     ghost Value = { List Date };
 
     ghost view = { λ c. map date_of_far_cell c.numbers.items };
 
-    ghost invariant = { λ c. AreCells c.numbers.items × AreShortOf c.short.items c.numbers.items };
+    ghost invariant = { λ c. AreCells c.numbers.items × AreShortOf c.short.items c.numbers.items
+        × AreStairs c.jumps.items c.rising c.numbers.items };
 }
 
 impl Cells {
@@ -126,6 +152,8 @@ impl Cells {
         Cells {
             numbers: Vec::new(alloc),
             short: Vec::new(alloc),
+            jumps: Vec::new(alloc),
+            rising: true,
         }
     }
 
@@ -153,8 +181,11 @@ impl Cells {
         requires { IsMagnitudeUpTo greatest_listed date }
         ensures { IfOk result (λ _. self.new ≡ self.old ++ date ∷ []) }
     {
+        let number = cell(date);
+        push_jump(&mut self.jumps, self.numbers.as_slice(), number)?;
+        self.rising = rises_with(self.rising, self.numbers.as_slice(), number);
         let whole = self.short.len() == self.numbers.len();
-        self.numbers.push(cell(date))?;
+        self.numbers.push(number)?;
         if whole {
             return push_short(&mut self.short, date);
         }
@@ -211,44 +242,70 @@ pub(crate) fn conjugates_back(alloc: Global, dates: &[Date]) -> Result<Cells, Al
     Ok(cells)
 }
 
-// The number of the greatest sum of a number of the first list at `count` places from `from` on and
-// a number of the second, their places adding up to `shift`.
-fn greatest_long(first: &[i128], second: &[i128], shift: usize, from: usize, count: usize) -> i128
-    requires first { from + count ≤ length first.now }
-    requires splits { count ≤ shift + 1 - from }
-    requires second { shift < length second.now }
+// The splits of a shift whose first part is at one of `count` places from `from` on.
+#[derive(Clone, Copy)]
+struct SplitsAt {
+    shift: usize,
+    from: usize,
+    count: usize,
+}
+
+// The number of the greatest sum of a number of the first list and one of the second.
+fn greatest_long(first: &[i128], second: &[i128], at: SplitsAt) -> i128
+    requires at { AreSplitsIn at (length first.now) (length second.now) }
     requires cells { AreCells first.now }
     requires others { AreCells second.now }
-    ensures { date_of_far_cell result ≡ greatest_from (split_of (value_listed (map date_of_far_cell
-        first.now))
-        (value_listed (map date_of_far_cell second.now)) shift) from count }
+    ensures { date_of_far_cell result ≡ greatest_of at (map date_of_far_cell first.now)
+        (map date_of_far_cell second.now) }
 {
     let mut best = EARLY;
-    for place in 0..count {
-        let sum = first[from + place] + second[shift - (from + place)];
+    for place in 0..at.count {
+        let sum = first[at.from + place] + second[at.shift - (at.from + place)];
         best = best.max(sum);
     }
     best
 }
 
 // The same of numbers of eight bytes.
-fn greatest_short(first: &[i64], second: &[i64], shift: usize, from: usize, count: usize) -> i64
-    requires first { from + count ≤ length first.now }
-    requires splits { count ≤ shift + 1 - from }
-    requires second { shift < length second.now }
+fn greatest_short(first: &[i64], second: &[i64], at: SplitsAt) -> i64
+    requires at { AreSplitsIn at (length first.now) (length second.now) }
     requires cells { AreShort first.now }
     requires others { AreShort second.now }
-    ensures { date_of_short_cell result ≡ greatest_from (split_of (value_listed (map
-        date_of_short_cell first.now))
-        (value_listed (map date_of_short_cell second.now)) shift) from count }
+    ensures { date_of_short_cell result ≡ greatest_of at (map date_of_short_cell first.now)
+        (map date_of_short_cell second.now) }
 {
     let mut best = SHORT_EARLY;
-    for place in 0..count {
-        let sum = first[from + place] + second[shift - (from + place)];
+    for place in 0..at.count {
+        let sum = first[at.from + place] + second[at.shift - (at.from + place)];
         best = best.max(sum);
     }
     best
 }
+
+// The same by the first place and the jumps of the first list, where the second never falls: a
+// place with the number of the place before has no greater sum.
+fn greatest_by_jumps(first: &[i128], jumps: &[usize], second: &[i128], at: SplitsAt) -> i128
+    requires at { AreSplitsIn at (length first.now) (length second.now) }
+    requires some { 0 < at.count }
+    requires cells { AreCells first.now }
+    requires others { AreCells second.now }
+    requires jumps { AreJumps jumps.now first.now }
+    requires rising { AreRising second.now }
+    ensures { date_of_far_cell result ≡ greatest_of at (map date_of_far_cell first.now)
+        (map date_of_far_cell second.now) }
+{
+    let mut best = first[at.from] + second[at.shift - at.from];
+    for index in 0..jumps.len() {
+        let place = jumps[index];
+        if at.from < place && place - at.from < at.count {
+            best = best.max(first[place] + second[at.shift - place]);
+        }
+    }
+    best
+}
+
+// How many places are gone through in the time of a jump.
+const PLACES_A_JUMP: usize = 4;
 
 // The greatest sum of a date of the first list at `count` places from `from` on and a date of the
 // second, their places adding up to `shift`. Early for no place.
@@ -267,12 +324,19 @@ pub(crate) fn greatest_split(
         from count }
     ensures bound { IsMagnitudeUpTo far result }
 {
+    let at = SplitsAt { shift, from, count };
+    let jumps = first.jumps.as_slice();
+    if second.rising && jumps.len() < count / PLACES_A_JUMP {
+        let numbers = first.numbers.as_slice();
+        let others = second.numbers.as_slice();
+        return date_of(greatest_by_jumps(numbers, jumps, others, at));
+    }
     let numbers = first.short.as_slice();
     let others = second.short.as_slice();
     if from + count <= numbers.len() && shift < others.len() {
-        return date_of_short(greatest_short(numbers, others, shift, from, count));
+        return date_of_short(greatest_short(numbers, others, at));
     }
     let numbers = first.numbers.as_slice();
     let others = second.numbers.as_slice();
-    date_of(greatest_long(numbers, others, shift, from, count))
+    date_of(greatest_long(numbers, others, at))
 }

@@ -203,7 +203,8 @@ fn is_above_zero(date: Date) -> bool
 /// TooLong exactly where its need exceeds 20,000; it carries the need of the sum with the monomial
 /// of shift 1 and date 0 where that exceeds 20,000 itself. Where it does not come, TooGreat comes
 /// exactly where a number of the result has a magnitude above 10^18. `OutOfMemory` comes only where
-/// no memory is found. It takes time of the order of the need times the length of the list at most.
+/// no memory is found. It takes time of the order of the need times the length of the list at most,
+/// and less where that goes on by equal steps in few pieces or seldom rises.
 pub fn star(alloc: Global, first: &Series) -> Result<Series, SeriesRefused>
     ensures answer { AnswersOf (λ r. (k : ℕ) → IsStarOf (value_at first.now) k (value_at r k))
         (star_need first.now) (star_carried first.now) result }

@@ -9,20 +9,20 @@ use Rattle.series_ops.proofs.ShortLaws.{short_splits}
 use Rattle.series_ops.proofs.cells.greatest_split.Goals as goal
 
 pub greatest_short-requires-clause-cells : goal.greatest_short-requires-clause-cells
-greatest_short-requires-clause-cells c = subst (λ (z : List ℤ). AreShort z) (sym c.as_slice-numbers.ensures.value) c.first.invariant.1.short
+greatest_short-requires-clause-cells c = subst (λ (z : List ℤ). AreShort z) (sym c.as_slice-numbers-2.ensures.value) c.first.invariant.1.short
 
 pub greatest_short-requires-clause-others : goal.greatest_short-requires-clause-others
-greatest_short-requires-clause-others c = subst (λ (z : List ℤ). AreShort z) (sym c.as_slice-others.ensures.value) c.second.invariant.1.short
+greatest_short-requires-clause-others c = subst (λ (z : List ℤ). AreShort z) (sym c.as_slice-others-2.ensures.value) c.second.invariant.1.short
 
 pub returns-then-shift-others-clause-value : goal.returns-then-shift-others-clause-value
 returns-then-shift-others-clause-value c =
-    let n : List ℤ = c.as_slice-numbers.result.now in
-    let o : List ℤ = c.as_slice-others.result.now in
+    let n : List ℤ = c.as_slice-numbers-2.result.now in
+    let o : List ℤ = c.as_slice-others-2.result.now in
     let k = c.args.shift in
     let p = c.args.from in
     let m = c.args.count in
-    let hn : AreShortOf n c.first.inside.numbers.items = subst (λ (z : List ℤ). AreShortOf z c.first.inside.numbers.items) (sym c.as_slice-numbers.ensures.value) c.first.invariant.1 in
-    let ho : AreShortOf o c.second.inside.numbers.items = subst (λ (z : List ℤ). AreShortOf z c.second.inside.numbers.items) (sym c.as_slice-others.ensures.value) c.second.invariant.1 in
+    let hn : AreShortOf n c.first.inside.numbers.items = subst (λ (z : List ℤ). AreShortOf z c.first.inside.numbers.items) (sym c.as_slice-numbers-2.ensures.value) c.first.invariant.1 in
+    let ho : AreShortOf o c.second.inside.numbers.items = subst (λ (z : List ℤ). AreShortOf z c.second.inside.numbers.items) (sym c.as_slice-others-2.ensures.value) c.second.invariant.1 in
     let inside : p + m ≤ length n = omega arith in
     let below : k < length o = omega arith in
     c.date_of_short.ensures.value

@@ -1,4 +1,4 @@
-use Rattle.std.proofs.Common.{◌≡◌, ◌≤◌, ◌-◌, ◌∙◌, ℕ, ap, sym, subst, arith, List, length, to_z, of_z}
+use Rattle.std.proofs.Common.{◌≡◌, ◌≤◌, ◌∙◌, ℕ, ap, sym, subst, arith, List, length, to_z, of_z}
 use Rattle.std.specs.Int.{w128}
 use Rattle.std.specs.Int.RustNames.{unsigned_abs}
 use Rattle.dioid.specs.declared.dates.Date.{Date}

@@ -1,12 +1,14 @@
 use Rattle.std.proofs.Common.{◌≡◌, ◌≤◌, ◌<◌, ◌∙◌, ◌+◌, ℤ, List, ap, sym, subst, arith, length, map, to_z, of_z}
+use Rattle.std.specs.Prelude.{IfOk}
 use Rattle.std.specs.Int.{w128}
 use Rattle.std.specs.Int.RustNames.{unsigned_abs}
 use Rattle.dioid.specs.declared.dates.Date.{Date}
 use Rattle.series_laws.specs.SeriesForms.{size_of, table, value_at}
 use Rattle.series_laws.proofs.FormValues.{table_length}
-use Rattle.series_laws.specs.ProductNeeds.{offsets_of}
+use Rattle.series_laws.specs.ProductNeeds.{offsets_of, left_over}
 use Rattle.series_form.specs.SeriesLimits.{greatest_listed, greatest_value, greatest_value_far_ahead}
 use Rattle.series_ops.specs.Cells.{conjugate_of, conjugates_reversed}
+use Rattle.series_ops.specs.LeftPlans.{DividedForms}
 use Rattle.series_ops.specs.ListFunctions.{AreUpTo}
 use Rattle.series_ops.proofs.FirstValues.{all_more}
 use Rattle.series_ops.proofs.LeftParts.{star_left_up_to}
@@ -80,3 +82,6 @@ new-requires-clause-by_star c = star_same c.as_slice.result.now (conjugates_reve
     (c.in_ok-ends_by_star.ensures ∙ c.as_slice-3.ensures.value)
     c.period.ensures.value
     (stepped c.args.first.now c.step.result c.step.ensures.series c.step.ensures.value)
+
+pub returns : goal.returns
+returns c = subst (λ (p : DividedForms). IfOk c.values-2.result (λ values. values.items ≡ table (left_over p.first p.second) c.args.count)) c.in_ok-plan.ensures c.values-2.ensures
