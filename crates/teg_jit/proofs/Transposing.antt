@@ -88,7 +88,8 @@ transposed_all w n dates columns full h =
     get_or-map-range_with_len (λ j. get_or columns (transposed_place w n j) Free) 0 (n * w) i i Free in' (omega arith) ∙ h.each i in')
 
 -- a date as it is read
-pub transposed_at : (w n i : ℕ) (columns : List LatestDate) → i < length (listed_back w n columns) → (i < n * w) × (get_or columns (transposed_place w n i) Free ≡ get_or (listed_back w n columns) i Free)
+pub transposed_at : (w n i : ℕ) (columns : List LatestDate)
+    → i < length (listed_back w n columns) → (i < n * w) × (get_or columns (transposed_place w n i) Free ≡ get_or (listed_back w n columns) i Free)
 transposed_at w n i columns l =
     let long : length (listed_back w n columns) ≡ n * w = length-map-range_with_len (λ j. get_or columns (transposed_place w n j) Free) 0 (n * w) in
     let in' : i < n * w = omega arith in

@@ -39,7 +39,8 @@ fn transpose(
     dates: &LatestList,
 ) -> Result<LatestList, AllocError>
     requires { HasShape width numbers dates.now }
-    ensures { IfOk result (λ columns. AreTransposedTo width numbers dates.now columns (numbers * width)) }
+    ensures { IfOk result (λ columns. AreTransposedTo width numbers dates.now columns
+        (numbers * width)) }
 {
     let mut columns = LatestList::new(alloc, numbers * width)?;
     for number in 0..numbers {

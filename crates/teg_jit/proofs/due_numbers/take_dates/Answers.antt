@@ -31,4 +31,5 @@ loop-at-preserved c =
 pub returns : goal.returns
 returns c = λ x least.
     let h = c.loop-at.invariant.taken in
-    all_taken c.args.asked.now.net.now c.args.asked.now.rows.now c.args.asked.now.order.now c.loop-at.first.window.number c.loop-at.cells c.loop-at.dates c.loop-at.at-index c.requires.asked.order h c.loop-at-test.false x least
+    all_taken c.args.asked.now.net.now c.args.asked.now.rows.now c.args.asked.now.order.now c.loop-at.first.window.number c.loop-at.cells c.loop-at.dates c.loop-at.at-index
+    c.requires.asked.order h c.loop-at-test.false x least
