@@ -1,12 +1,15 @@
 -- One row more behind the last rows: how many dates there are, and what stands so many rows back.
-use Rattle.std.proofs.Common.{ℕ, ◌+◌, ◌-◌, ◌*◌, ◌<◌, ◌≤◌, ◌≡◌, ◌++◌, List, length, get_or, drop, refl, sym, subst, ap, ◌∙◌, arith, ⊎_elim, get_or-drop, length-append, length-drop}
+use Rattle.std.proofs.Common.{ℕ, ◌+◌, ◌-◌, ◌*◌, ◌<◌, ◌≤◌, ◌≡◌, ◌++◌, List, length, get_or, drop, refl, sym, subst, ap, ◌∙◌, arith, ⊎_elim, get_or-drop, length-append, length-drop, pos}
 use Rattle.std.proofs.lemmas.Bool.{cases_lt}
 use Rattle.std.proofs.lemmas.List.{get_or_append_left, get_or-append_right}
 use Rattle.dioid.specs.declared.dates.Date.{Date}
-use Rattle.dioid.specs.declared.dates.Date.TheVariants.{Early}
+use Rattle.dioid.specs.declared.dates.Date.TheVariants.{Early, At}
 use Rattle.teg_net.specs.Nets.{NetLists}
+use Rattle.teg_net.specs.Limits.{greatest_firing_number}
+use Rattle.teg_dates.specs.KeptRows.{StaysWithin}
 use Rattle.teg_dates.specs.Passes.{KeptRows, HaveNext, AreRowsBack, IsRowOf}
-use Rattle.teg_model.specs.Datings.{listed_releases}
+use Rattle.teg_dates.specs.RowPasses.{CanMakeRow}
+use Rattle.teg_model.specs.Datings.{listed_releases, system_of}
 use Rattle.teg_model.proofs.OfNet.{least_of_system}
 use Rattle.teg_model.proofs.DateFunctions.{Dating}
 use Rattle.teg_dates.specs.declared.order.OrderedPlace.{OrderedPlace}
@@ -101,4 +104,22 @@ next_goes_on net turns old new row h next is = record {
   least = λ x least.
       subst (λ n. AreRowsBack net x (n + 1) new) (sym next.number)
       (rows_with_row net x old new row (old.number + 1) next h.width (h.least x least) (is.same x (least_of_system net (listed_releases net) x least)));
+}
+
+-- as a pass in cells that hold its dates makes it
+pub can_make_row : (net : NetLists) (turns : List OrderedPlace) (most : ℕ) (can_be_early : Type 0) (rows : KeptRows) (k : ℕ) → CanMakeNextRow net turns rows → k ≡ rows.number + 1
+    → k ≤ greatest_firing_number → StaysWithin most k (system_of net (listed_releases net)) → CanMakeRow net turns (system_of net (listed_releases net)) most can_be_early rows k
+can_make_row net turns most can_be_early rows k h next few bounded = record {
+  rules = h.rules;
+  order = h.order;
+  early = λ t e. let never : At (pos 0) ≡ Early = e in absurd (cc);
+  bounded = bounded;
+  one = omega (arith, next);
+  few = few;
+  reach = record {
+    width = h.width;
+    last = λ l. omega (arith, l, next, h.one, h.there);
+    tokens = λ i d l m. omega (arith, m, next, h.reach i d l, h.there);
+  };
+  past = rw next h.least;
 }

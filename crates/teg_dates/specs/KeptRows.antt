@@ -1,12 +1,11 @@
 -- Rows of dates, all of them kept, and when they are those of the least dating of a system.
-use Rattle.std.specs.Prelude.{ℕ, ℤ, ◌+◌, ◌*◌, ◌<◌, ◌≤◌, ◌≡◌, ◌^◌, List, length, map}
+use Rattle.std.specs.Prelude.{ℕ, ◌+◌, ◌*◌, ◌<◌, ◌≤◌, ◌≡◌, ◌^◌, List, length}
 use Rattle.dioid.specs.declared.dates.Date.{Date}
 use Rattle.teg_net.specs.Limits.{most_transitions, greatest_hold, greatest_firing_number, most_rows}
 use Rattle.teg_net.specs.Nets.{NetLists, IsNet}
 use Rattle.teg_model.specs.Systems.{System, IsLeastIn}
 use Rattle.teg_model.specs.Datings.{listed_releases, system_of}
 use Rattle.teg_model.specs.DateBounds.{IsBoundedBy}
-use Rattle.teg_dates.specs.DateCells.{date_of_signed_cell}
 use Rattle.teg_dates.specs.DateTables.{TableDates, HasDatesOf, date_in_list}
 
 -- a bound of initial dates and of releases that leaves room for all holds up to the greatest number
@@ -58,12 +57,3 @@ pub record AreFirst (net : NetLists) (x : ℕ → ℕ → Date) (count : ℕ) (d
   pub full : length dates ≡ count * length net.transitions
   pub same : (t k : ℕ) → t < length net.transitions → 1 ≤ k → k ≤ count
       → date_in_list (length net.transitions) dates t k ≡ x t k
-
--- the dates of numbers 1 to count in each least dating of the system, and nothing else
-abbrev pub AreFirstLeast : NetLists → System → ℕ → List Date → Type 0
-AreFirstLeast net s count dates = (x : ℕ → ℕ → Date) → IsLeastIn s x → AreFirst net x count dates
-
--- cells of the net's width hold these dates
-pub record AreCellsOf (net : NetLists) (s : System) (width count : ℕ) (cells : List ℤ) : Type 0 where
-  pub width_is : width ≡ length net.transitions
-  pub least : AreFirstLeast net s count (map date_of_signed_cell cells)

@@ -46,6 +46,12 @@ pub record AreLastColumns (w : WindowCells) : Type 0 where
   pub number_in : w.number ≤ greatest_firing_number
   pub full : length w.cells ≡ w.width * w.room
 
+-- columns of so many cells have one at `at`, and more than are always kept
+pub record HasRoomAt (reach room at : ℕ) : Type 0 where
+  pub room_in : room ≤ most_room
+  pub reach_in : reach < room
+  pub at_in : at < room
+
 -- the columns have the row's dates at `at`, and else what they had
 pub record HasColumnSet (room at : ℕ) (old new row : List ℕ) : Type 0 where
   pub full : length new ≡ length old

@@ -5,6 +5,7 @@ pub mod PlaceOrder
 pub mod KeptRows
 pub mod Sources
 pub mod Passes
+pub mod RowPasses
 pub mod Streams
 pub use Rattle.dioid.specs as dioid
 pub use Rattle.teg_net.specs as teg_net

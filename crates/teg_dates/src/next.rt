@@ -7,7 +7,7 @@ ghost use Rattle.teg_dates.specs.Streams.{CanMakeNextRow, IsLeastRow};
 
 use crate::date_cell::DateCell;
 use crate::order::OrderedPlace;
-use crate::passes::fill_row;
+use crate::passes::RowPass;
 use crate::past::Past;
 use crate::sources::NetInputs;
 use teg_model::least_datings_are_one;
@@ -44,5 +44,5 @@ pub(crate) fn next_row<C: DateCell, P: Past<C>>(
     ensures full { length row.new ≡ length net.now.transitions }
 {
     least_datings_are_one();
-    fill_row(net, order, &NetInputs, past, row, number);
+    RowPass::new(net, order, &NetInputs, past, number).fill(row);
 }

@@ -1,16 +1,15 @@
 //! The rows of the least dating of a system, as many as a caller asks for.
-ghost use Rattle.std.specs.Prelude.{◌≡◌, ◌+◌, ◌-◌, ◌*◌, ◌<◌, ◌≤◌, ◌++◌, length, map, [], IfOk};
+ghost use Rattle.std.specs.Prelude.{◌≡◌, ◌+◌, ◌<◌, ◌≤◌, length, [], IfOk};
 ghost use Rattle.teg_net.specs.Nets.{IsNet};
 ghost use Rattle.teg_net.specs.Limits.{most_rows};
 ghost use Rattle.teg_dates.specs.DateTables.{date_at};
 ghost use Rattle.teg_dates.specs.PlaceOrder.{OrdersPlaces};
 ghost use Rattle.teg_dates.specs.Sources.{system_by};
-ghost use Rattle.teg_dates.specs.DateCells.{date_of_signed_cell};
-ghost use Rattle.teg_dates.specs.KeptRows.{AreCellsOf, KeepsBounds, KeepsShortBounds, AreFirstLeast, AreLeastRows, HasLeastDating, most_in_cells};
+ghost use Rattle.teg_dates.specs.KeptRows.{KeepsBounds, KeepsShortBounds, AreLeastRows, HasLeastDating};
 
 use crate::date_list::PackedDates;
-use crate::order::{OrderedPlace, PlaceOrder};
-use crate::passes::fill_row;
+use crate::order::PlaceOrder;
+use crate::passes::RowPass;
 use crate::past::{AllCells, AllRows, cell_of};
 use crate::sources::Source;
 use dioid::Date;
@@ -20,62 +19,6 @@ use teg_net::{Net, OutOfMemory, TransitionId};
 
 // The numbers of rows that can be made in cells of eight bytes.
 const MOST_IN_CELLS: u64 = 1_000_000;
-
-// Writes the row of the number behind the dates of the numbers before it.
-fn fill_next<S: Source>(
-    net: &Net,
-    order: &[OrderedPlace],
-    source: &S,
-    dates: &PackedDates,
-    row: &mut [Date],
-    number: u64,
-)
-    requires order { OrdersPlaces net.now order.now }
-    requires bounded { KeepsBounds (system_by S.Source source.now net.now) }
-    requires number { 1 ≤ number }
-    requires few { number ≤ most_rows }
-    requires kept { length dates.now ≡ (number - 1) * length net.now.transitions }
-    requires full { length row.old ≡ length net.now.transitions }
-    requires before { AreFirstLeast net.now (system_by S.Source source.now net.now) (number - 1)
-        dates.now }
-    ensures full { length row.new ≡ length net.now.transitions }
-    ensures least { AreFirstLeast net.now (system_by S.Source source.now net.now) number
-        (dates.now ++ row.new) }
-    ensures exists { HasLeastDating (system_by S.Source source.now net.now) }
-{
-    let past = AllRows {
-        width: net.transitions().len(),
-        count: number - 1,
-        dates,
-    };
-    fill_row(net, order, source, &past, row, number);
-}
-
-// Writes the row of the next number in cells.
-fn fill_next_cells<S: Source>(
-    net: &Net,
-    order: &[OrderedPlace],
-    source: &S,
-    past: &AllCells<'_>,
-    row: &mut [i64],
-)
-    requires order { OrdersPlaces net.now order.now }
-    requires bounded { KeepsShortBounds (system_by S.Source source.now net.now) }
-    requires few { past.now.count < most_in_cells }
-    requires full { length row.old ≡ length net.now.transitions }
-    requires before { AreCellsOf net.now (system_by S.Source source.now net.now) past.now.width
-        past.now.count past.now.cells.now }
-    ensures full { length row.new ≡ length net.now.transitions }
-    ensures least { AreFirstLeast net.now (system_by S.Source source.now net.now)
-        (past.now.count + 1) (map date_of_signed_cell past.now.cells.now ++ map date_of_signed_cell
-        row.new) }
-    ensures exists { HasLeastDating (system_by S.Source source.now net.now) }
-{
-    // The net keeps its rules.
-    net.rules();
-    let number = past.count + 1;
-    fill_row(net, order, source, past, row, number);
-}
 
 /// The dates of the first firings of each transition, number by number: one row a number, at most
 /// 10^15 of them, which is more than any memory holds. A date takes eight bytes, as long as each is
@@ -142,14 +85,14 @@ impl Rows {
         let mut rows = self;
         let number = rows.count + 1;
         rows.next.resize(rows.width, Date::Early)?;
-        fill_next(
-            net,
-            order.turns(),
-            source,
-            &rows.dates,
-            &mut rows.next,
-            number,
-        );
+        // The net keeps its rules.
+        net.rules();
+        let past = AllRows {
+            width: rows.width,
+            count: rows.count,
+            dates: &rows.dates,
+        };
+        RowPass::new(net, order.turns(), source, &past, number).fill(&mut rows.next);
         rows.dates.extend(&rows.next)?;
         rows.count = number;
         Ok(rows)
@@ -186,7 +129,10 @@ impl Rows {
                     count: rows.count,
                     cells,
                 };
-                fill_next_cells(net, order.turns(), source, &past, &mut rows.next_cells);
+                // The net keeps its rules.
+                net.rules();
+                let number = past.count + 1;
+                RowPass::new(net, order.turns(), source, &past, number).fill(&mut rows.next_cells);
             }
         }
         rows.dates.extend_cells(&rows.next_cells)?;

@@ -1,7 +1,7 @@
 //! The last dates of each transition in eight bytes each, one transition after another.
 ghost use Rattle.std.specs.Prelude.{◌≡◌, ◌+◌, ◌-◌, ◌*◌, ◌<◌, ◌≤◌, length, map, IfOk};
 ghost use Rattle.teg_net.specs.Limits.{most_transitions, most_place_tokens, greatest_firing_number};
-ghost use Rattle.teg_dates.specs.LastColumns.{AreMoved, HasColumnSet, HaveRowAdded, AreLastColumns, most_room};
+ghost use Rattle.teg_dates.specs.LastColumns.{AreMoved, HasColumnSet, HasRoomAt, HaveRowAdded, AreLastColumns, most_room};
 
 use crate::past::Past;
 use std::alloc::{AllocError, Global};
@@ -93,9 +93,7 @@ fn move_to_front(width: usize, reach: usize, room: usize, cells: &mut [u64])
 // index they then end.
 fn add_row(reach: usize, room: usize, at: usize, cells: &mut [u64], row: &[u64]) -> usize
     requires few { length row.now ≤ most_transitions }
-    requires room { room ≤ most_room }
-    requires reach { reach < room }
-    requires at { at < room }
+    requires room { HasRoomAt reach room at }
     requires full { length cells.old ≡ length row.now * room }
     ensures { HaveRowAdded reach room at cells.old cells.new row.now result }
 {

@@ -1,5 +1,5 @@
 mod Packing
-mod Turning
+mod Transposing
 mod TableCells
 mod Sorting
 mod DueRows

@@ -5,9 +5,11 @@ use Rattle.teg_dates.specs.dioid.declared.dates.Date.{Date}
 use Rattle.teg_dates.specs.dioid.declared.dates.Date.TheVariants.{At}
 use Rattle.teg_net.specs.Nets.{NetLists}
 use Rattle.teg_dates.specs.DateCells.{date_of_cell}
-use Rattle.teg_dates.specs.Streams.{IsLeastRow}
+use Rattle.teg_dates.specs.DateTables.{most_numbers}
+use Rattle.teg_dates.specs.Streams.{FirstLists, AreFirstRowsOf, IsLeastRow}
 use Rattle.teg_due.specs.declared.rows.DueRow.{DueRow}
 use Rattle.teg_jit.specs.declared.due_numbers.Numbered.{Numbered}
+use Rattle.teg_jit.specs.DueDates.{NameFirings}
 use Rattle.teg_jit.specs.LatestCells.{most_cell_date}
 
 -- the number of a firing that the row at this index names
@@ -24,6 +26,22 @@ pub record AreRowsNumbered (rows : List DueRow) (order : List Numbered) : Type 0
 -- after the first number, the cells have the dates of this number by the least dating of the net
 abbrev pub HaveRow : NetLists → ℕ → List ℕ → Type 0
 HaveRow net k cells = 1 ≤ k → IsLeastRow net k (map date_of_cell cells)
+
+-- the rows name firings of the net, of numbers that a table may have, and the order has each with its number
+pub record AreAsked (net : NetLists) (rows : List DueRow) (numbered : List Numbered) : Type 0 where
+  pub order : AreRowsNumbered rows numbered
+  pub due : NameFirings net rows
+  pub few : All (λ r. r.number ≤ most_numbers) rows
+
+-- first rows of the net, of which none was given
+pub record NoRowsGiven (net : NetLists) (first : FirstLists) : Type 0 where
+  pub stands : AreFirstRowsOf net first
+  pub none : first.window.number ≡ 0
+
+-- first rows of the net, and the cells have the dates of the last that was given
+pub record HaveLastRow (net : NetLists) (first : FirstLists) (cells : List ℕ) : Type 0 where
+  pub stands : AreFirstRowsOf net first
+  pub row : HaveRow net first.window.number cells
 
 -- the date that x gives to the firing of the row at this index
 abbrev pub IsDateOfRow : (ℕ → ℕ → Date) → List DueRow → List ℕ → ℕ → Type 0

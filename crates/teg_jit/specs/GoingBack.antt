@@ -1,18 +1,36 @@
 -- Working definitions of the passes of one number, going back: how far the latest dates are settled.
-use Rattle.std.specs.Prelude.{ℕ, ◌+◌, ◌*◌, ◌<◌, ◌≤◌, ◌≡◌, List, length, slice_index_or, Option, Some, None, nat_lt, if◌then◌else◌}
+use Rattle.std.specs.Prelude.{ℕ, ◌+◌, ◌*◌, ◌<◌, ◌≤◌, ◌≡◌, List, length, All, slice_index_or, Option, Some, None, nat_lt, if◌then◌else◌}
 use Rattle.teg_dates.specs.dioid.declared.dates.Date.{Date}
 use Rattle.teg_dates.specs.dioid.Dates.{IsAtMostDate, delayed}
 use Rattle.teg_net.specs.declared.entries.PlaceId.{PlaceId}
 use Rattle.teg_net.specs.Nets.{NetLists}
 use Rattle.teg_net.specs.Circuits.{place_at}
 use Rattle.teg_dates.specs.teg_model.Datings.{IsFeasibleUnder}
+use Rattle.teg_dates.specs.DateTables.{most_numbers}
+use Rattle.teg_due.specs.declared.rows.DueRow.{DueRow}
 use Rattle.due_laws.specs.MeetingDueDates.{KeepsDues, inputs_at_zero}
 use Rattle.teg_jit.specs.declared.answers.Onward.{Onward}
 use Rattle.teg_jit.specs.declared.answers.Onward.TheVariants.{Due, By}
 use Rattle.teg_jit.specs.declared.answers.LatestDate.{LatestDate}
 use Rattle.teg_jit.specs.declared.answers.LatestDate.TheVariants.{Free, At}
 use Rattle.teg_jit.specs.declared.order.Depth.{Depth}
+use Rattle.teg_jit.specs.DueDates.{NameFirings, IsGreatestNumber}
+use Rattle.teg_jit.specs.LatestCells.{most_cell_date}
 use Rattle.teg_jit.specs.Plans.{latest_in, dates_of_latest, HaveOnward}
+
+-- each row names a firing of the net, and no two the same, the greatest number is this one, and the dates fit into cells
+pub record AreListedUpTo (net : NetLists) (rows : List DueRow) (last : ℕ) : Type 0 where
+  pub due : NameFirings net rows
+  pub greatest : IsGreatestNumber rows last
+  pub few : last ≤ most_numbers
+  pub fits : All (λ r. r.date < most_cell_date) rows
+
+-- these are dates of numbers 1 to last, of which this number is one
+pub record HasNumber (net : NetLists) (last number : ℕ) (dates : List LatestDate) : Type 0 where
+  pub one : 1 ≤ number
+  pub within : number ≤ last
+  pub few : last ≤ most_numbers
+  pub full : length dates ≡ last * length net.transitions
 
 -- the date with its step, where it comes before what is there
 abbrev pub lowered : LatestDate → ℕ → Onward → LatestDate

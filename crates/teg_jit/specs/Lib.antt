@@ -4,7 +4,7 @@ pub mod LateRefusals
 pub mod PlansAndLateness
 pub mod FirstSteps
 pub mod LatestCells
-pub mod Turned
+pub mod Transposed
 pub mod DueNumbers
 pub mod FirstLate
 pub mod BackwardOrder

@@ -6,7 +6,7 @@ ghost use Rattle.teg_dates.specs.teg_model.Datings.{IsLeastDating};
 ghost use Rattle.teg_dates.specs.Streams.{AreFirstRowsOf};
 ghost use Rattle.teg_dates.specs.DateTables.{most_numbers};
 ghost use Rattle.teg_jit.specs.DueDates.{NameFirings};
-ghost use Rattle.teg_jit.specs.DueNumbers.{AreRowsNumbered, HaveRow, AreDatesOfRows};
+ghost use Rattle.teg_jit.specs.DueNumbers.{AreRowsNumbered, AreAsked, HaveRow, HaveLastRow, NoRowsGiven, AreDatesOfRows};
 
 use std::alloc::{AllocError, Global};
 use teg_check::Live;
@@ -19,6 +19,14 @@ use teg_net::{Net, OutOfMemory};
 pub(crate) struct Numbered {
     pub(crate) number: u32,
     pub(crate) index: usize,
+}
+
+// The rows of a due list for a net, and these by number.
+#[derive(Drop)]
+struct AskedRows<'a> {
+    net: &'a Net,
+    rows: &'a [DueRow],
+    order: &'a [Numbered],
 }
 
 // The rows in the order of their numbers.
@@ -38,11 +46,10 @@ fn by_number(alloc: Global, rows: &[DueRow]) -> Result<Vec<Numbered>, AllocError
 
 // Goes on to the dates of this number.
 fn go_on(net: &Net, first: &mut FirstRows, cells: &mut [u64], number: u32)
-    requires stands { AreFirstRowsOf net.now first.old }
+    requires stands { HaveLastRow net.now first.old cells.old }
     requires number { first.old.window.number ≤ number }
     requires few { number ≤ most_numbers }
     requires full { length cells.old ≡ length net.now.transitions }
-    requires row { HaveRow net.now first.old.window.number cells.old }
     ensures stands { AreFirstRowsOf net.now first.new }
     ensures number { first.new.window.number ≡ number }
     ensures row { HaveRow net.now number cells.new }
@@ -53,26 +60,17 @@ fn go_on(net: &Net, first: &mut FirstRows, cells: &mut [u64], number: u32)
 }
 
 // Takes the date of each row's firing from the row of dates of its number.
-fn take_dates(
-    net: &Net,
-    first: &mut FirstRows,
-    order: &[Numbered],
-    rows: &[DueRow],
-    cells: &mut [u64],
-    dates: &mut [u64],
-)
-    requires stands { AreFirstRowsOf net.now first.old }
-    requires begins { first.old.window.number ≡ 0 }
-    requires order { AreRowsNumbered rows.now order.now }
-    requires due { NameFirings net.now rows.now }
-    requires few { All (λ r. r.number ≤ most_numbers) rows.now }
-    requires cells { length cells.old ≡ length net.now.transitions }
-    requires dates { length dates.old ≡ length rows.now }
-    ensures { (x : ℕ → ℕ → Date) → IsLeastDating net.now x → AreDatesOfRows x rows.now dates.new }
+fn take_dates(asked: &AskedRows<'_>, first: &mut FirstRows, cells: &mut [u64], dates: &mut [u64])
+    requires asked { AreAsked asked.now.net.now asked.now.rows.now asked.now.order.now }
+    requires begins { NoRowsGiven asked.now.net.now first.old }
+    requires cells { length cells.old ≡ length asked.now.net.now.transitions }
+    requires dates { length dates.old ≡ length asked.now.rows.now }
+    ensures { (x : ℕ → ℕ → Date) → IsLeastDating asked.now.net.now x
+        → AreDatesOfRows x asked.now.rows.now dates.new }
 {
-    for at in order {
-        let row = rows[at.index];
-        go_on(net, first, cells, row.number);
+    for at in asked.order {
+        let row = asked.rows[at.index];
+        go_on(asked.net, first, cells, row.number);
         dates[at.index] = cells[row.transition.index as usize];
     }
 }
@@ -80,25 +78,21 @@ fn take_dates(
 // The same from the first row of dates on.
 fn fill_dates(
     alloc: Global,
-    net: &Net,
     live: &Live,
-    order: &[Numbered],
-    rows: &[DueRow],
+    asked: &AskedRows<'_>,
     cells: &mut [u64],
     dates: &mut [u64],
 ) -> Result<(), OutOfMemory>
-    requires stands { IsRanking net.now live.now }
-    requires order { AreRowsNumbered rows.now order.now }
-    requires due { NameFirings net.now rows.now }
-    requires few { All (λ r. r.number ≤ most_numbers) rows.now }
-    requires cells { length cells.old ≡ length net.now.transitions }
-    requires dates { length dates.old ≡ length rows.now }
-    ensures dates { OnOk result ((x : ℕ → ℕ → Date) → IsLeastDating net.now x
-        → AreDatesOfRows x rows.now dates.new) }
-    ensures exists { IfOk result (λ _. (x : ℕ → ℕ → Date) × IsLeastDating net.now x) }
+    requires stands { IsRanking asked.now.net.now live.now }
+    requires asked { AreAsked asked.now.net.now asked.now.rows.now asked.now.order.now }
+    requires cells { length cells.old ≡ length asked.now.net.now.transitions }
+    requires dates { length dates.old ≡ length asked.now.rows.now }
+    ensures dates { OnOk result ((x : ℕ → ℕ → Date) → IsLeastDating asked.now.net.now x
+        → AreDatesOfRows x asked.now.rows.now dates.new) }
+    ensures exists { IfOk result (λ _. (x : ℕ → ℕ → Date) × IsLeastDating asked.now.net.now x) }
 {
-    let mut first = FirstRows::new(alloc, net, live)?;
-    take_dates(net, &mut first, order, rows, cells, dates);
+    let mut first = FirstRows::new(alloc, asked.net, live)?;
+    take_dates(asked, &mut first, cells, dates);
     Ok(())
 }
 
@@ -119,6 +113,11 @@ pub(crate) fn dates_of_rows(
     let order = by_number(alloc, rows)?;
     let mut cells = vec![in alloc; 0u64; net.transitions().len()]?;
     let mut dates = vec![in alloc; 0u64; rows.len()]?;
-    fill_dates(alloc, net, live, &order, rows, &mut cells, &mut dates)?;
+    let asked = AskedRows {
+        net,
+        rows,
+        order: &order,
+    };
+    fill_dates(alloc, live, &asked, &mut cells, &mut dates)?;
     Ok(dates)
 }

@@ -42,7 +42,7 @@ mod passes;
 mod plan;
 mod planning;
 mod starts;
-mod turned_list;
+mod transposed_list;
 
 pub use answers::{JitRefusal, LatestDate, Onward};
 pub use laws::{dues_are_kept_by_rows, late_excludes_meet, meet_or_late, plans_lead};

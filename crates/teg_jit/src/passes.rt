@@ -1,15 +1,14 @@
 //! One number after another, going back: the due dates are set, then each date of a number is
 //! lowered to that of the next number, and to what each place leaves of the date at its end.
-ghost use Rattle.std.specs.Prelude.{◌≡◌, ◌+◌, ◌-◌, ◌*◌, ◌<◌, ◌≤◌, ℕ, List, length, All, IfOk, IfSome, slice_index_or, slice_set, Option};
-ghost use Rattle.teg_net.specs.Limits.{most_transitions};
+ghost use Rattle.std.specs.Prelude.{◌≡◌, ◌+◌, ◌-◌, ◌*◌, ◌<◌, ◌≤◌, ℕ, List, length, IfOk, IfSome, slice_index_or, slice_set, Option};
 ghost use Rattle.teg_check.specs.Ranks.{IsRanking};
 ghost use Rattle.teg_dates.specs.DateTables.{most_numbers};
-ghost use Rattle.teg_jit.specs.DueDates.{due_in, IsGreatestNumber, NameFirings};
+ghost use Rattle.teg_jit.specs.DueDates.{due_in};
 ghost use Rattle.teg_jit.specs.BackwardOrder.{IsBackOrder};
 ghost use Rattle.teg_jit.specs.declared.answers.LatestDate.TheVariants.{Free};
-ghost use Rattle.teg_jit.specs.Plans.{latest_in};
+ghost use Rattle.teg_jit.specs.Plans.{KeepsSizes, latest_in};
 ghost use Rattle.teg_jit.specs.LatestCells.{most_cell_date, HasStepNumber};
-ghost use Rattle.teg_jit.specs.GoingBack.{lowered, date_there, AreNext, ArePassedAbove, HaveRoom};
+ghost use Rattle.teg_jit.specs.GoingBack.{lowered, date_there, AreListedUpTo, AreNext, ArePassedAbove, HasNumber, HaveRoom};
 
 use crate::answers::{LatestDate, Onward};
 use crate::cells::cell_of;
@@ -44,11 +43,10 @@ fn date_at(
     transition: TransitionId,
     number: u32,
 ) -> Option<u64>
-    requires width { width ≤ most_transitions }
+    requires sizes { KeepsSizes
+        (record { width = width; numbers = last; dates = dates.now }) }
     requires transition { transition.index < width }
     requires number { 1 ≤ number }
-    requires last { last ≤ most_numbers }
-    requires full { length dates.now ≡ last * width }
     ensures date { result ≡ date_there (latest_in width dates.now transition.index number) }
     ensures fits { IfSome result (λ date. date < most_cell_date) }
 {
@@ -63,10 +61,7 @@ fn date_at(
 
 // Sets the due dates.
 fn set_dues(net: &Net, rows: &[DueRow], dates: &mut LatestList, last: u32)
-    requires due { NameFirings net.now rows.now }
-    requires greatest { IsGreatestNumber rows.now last }
-    requires few { last ≤ most_numbers }
-    requires fits { All (λ r. r.date < most_cell_date) rows.now }
+    requires due { AreListedUpTo net.now rows.now last }
     requires full { length dates.old ≡ last * length net.now.transitions }
     requires free { (i : ℕ) → slice_index_or dates.old i Free ≡ Free }
     ensures full { length dates.new ≡ last * length net.now.transitions }
@@ -86,10 +81,7 @@ pub(crate) fn begin(
     rows: &[DueRow],
     last: u32,
 ) -> Result<LatestList, AllocError>
-    requires due { NameFirings net.now rows.now }
-    requires greatest { IsGreatestNumber rows.now last }
-    requires few { last ≤ most_numbers }
-    requires fits { All (λ r. r.date < most_cell_date) rows.now }
+    requires { AreListedUpTo net.now rows.now last }
     ensures full { IfOk result (λ dates. length dates ≡ last * length net.now.transitions) }
     ensures settled { IfOk result (ArePassedAbove net.now (due_in rows.now) last last) }
 {
@@ -101,10 +93,7 @@ pub(crate) fn begin(
 
 // Lowers the dates of the number to those of the next.
 fn pass_next(net: &Net, dates: &mut LatestList, last: u32, number: u32)
-    requires number { 1 ≤ number }
-    requires last { number ≤ last }
-    requires few { last ≤ most_numbers }
-    requires full { length dates.old ≡ last * length net.now.transitions }
+    requires { HasNumber net.now last number dates.old }
     ensures full { length dates.new ≡ last * length net.now.transitions }
     ensures passed { (due : ℕ → ℕ → Option ℕ) → ArePassedAbove net.now due last number dates.old
         → AreNext net.now due last number (length net.now.transitions) dates.new }
@@ -130,10 +119,7 @@ fn pass_next(net: &Net, dates: &mut LatestList, last: u32, number: u32)
 fn pass_places(net: &Net, order: &[Depth], dates: &mut LatestList, last: u32, number: u32)
     requires order { (ranks : List ℕ) × IsRanking net.now ranks
         × IsBackOrder net.now ranks order.now }
-    requires number { 1 ≤ number }
-    requires last { number ≤ last }
-    requires few { last ≤ most_numbers }
-    requires full { length dates.old ≡ last * length net.now.transitions }
+    requires number { HasNumber net.now last number dates.old }
     requires passed { (due : ℕ → ℕ → Option ℕ) × AreNext net.now due last number
         (length net.now.transitions) dates.old × HaveRoom net.now due }
     ensures full { length dates.new ≡ last * length net.now.transitions }

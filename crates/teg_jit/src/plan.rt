@@ -7,7 +7,7 @@ ghost use Rattle.teg_jit.specs.Plans.{latest_at, dates_of_plan, IsPlanFor, Stand
 
 use crate::answers::{LatestDate, Onward};
 use crate::cells::cell_of;
-use crate::turned_list::TurnedList;
+use crate::transposed_list::TransposedList;
 use std::alloc::{AllocError, Global};
 use std::marker::Model;
 use teg_net::{Net, OutOfMemory, Step, TransitionId, Walk};
@@ -18,7 +18,7 @@ use teg_net::{Net, OutOfMemory, Step, TransitionId, Walk};
 pub struct Plan {
     width: usize,
     numbers: u32,
-    dates: TurnedList,
+    dates: TransposedList,
 }
 
 impl Model for Plan {
@@ -36,7 +36,7 @@ impl Plan {
     ghost use Rattle.teg_jit.specs.Plans.{PlanDates, KeepsSizes};
 
     // The plan with these dates. It takes no memory.
-    pub(crate) fn new(width: usize, numbers: u32, dates: TurnedList) -> Plan
+    pub(crate) fn new(width: usize, numbers: u32, dates: TransposedList) -> Plan
         requires { KeepsSizes (record { width = width; numbers = numbers; dates = dates }) }
         ensures { result ≡ record { width = width; numbers = numbers; dates = dates } }
     {

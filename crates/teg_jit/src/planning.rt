@@ -1,14 +1,13 @@
 //! The latest dates, going back from the greatest number that is due.
-ghost use Rattle.std.specs.Prelude.{◌≡◌, ◌≤◌, ◌<◌, All, IfOk, IfErr};
+ghost use Rattle.std.specs.Prelude.{◌≡◌, IfOk, IfErr};
 ghost use Rattle.teg_net.specs.Nets.{IsNet};
 ghost use Rattle.teg_check.specs.Ranks.{IsRanking};
-ghost use Rattle.teg_dates.specs.DateTables.{most_numbers};
 ghost use Rattle.teg_form.specs.StandardForms.{IsStandardFormOf};
 ghost use Rattle.due_laws.specs.MeetingDueDates.{InputsMeet, AreLatestInputs, inputs_at_zero};
 ghost use Rattle.teg_due.specs.RowRules.{IsDueOf};
 ghost use Rattle.teg_jit.specs.LateRefusals.{LateIsRight};
-ghost use Rattle.teg_jit.specs.DueDates.{due_in, IsGreatestNumber, NameFirings};
-ghost use Rattle.teg_jit.specs.LatestCells.{most_cell_date};
+ghost use Rattle.teg_jit.specs.DueDates.{due_in, IsGreatestNumber};
+ghost use Rattle.teg_jit.specs.GoingBack.{AreListedUpTo};
 ghost use Rattle.teg_jit.specs.Plans.{dates_of_plan, IsPlanFor};
 
 use crate::answers::JitRefusal;
@@ -17,7 +16,7 @@ use crate::late::keep_dues;
 use crate::order::by_depth;
 use crate::passes::{begin, pass_all};
 use crate::plan::Plan;
-use crate::turned_list::TurnedList;
+use crate::transposed_list::TransposedList;
 use std::alloc::{AllocError, Global};
 use teg_check::Live;
 use teg_due::{Due, DueRow};
@@ -33,10 +32,7 @@ pub(crate) fn plan_for(
     last: u32,
 ) -> Result<Plan, AllocError>
     requires stands { IsRanking net.now live.now }
-    requires due { NameFirings net.now rows.now }
-    requires greatest { IsGreatestNumber rows.now last }
-    requires few { last ≤ most_numbers }
-    requires fits { All (λ r. r.date < most_cell_date) rows.now }
+    requires due { AreListedUpTo net.now rows.now last }
     requires kept { InputsMeet net.now (due_in rows.now) inputs_at_zero }
     ensures rules { IfOk result (λ _. IsNet net.now) }
     ensures numbers { IfOk result (λ plan. plan.numbers ≡ last) }
@@ -46,7 +42,7 @@ pub(crate) fn plan_for(
     let mut dates = begin(alloc, net, rows, last)?;
     pass_all(net, &order, &mut dates, last);
     let width = net.transitions().len();
-    let dates = TurnedList::new(alloc, width, last as usize, &dates)?;
+    let dates = TransposedList::new(alloc, width, last as usize, &dates)?;
     Ok(Plan::new(width, last, dates))
 }
 

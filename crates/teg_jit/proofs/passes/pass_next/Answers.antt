@@ -28,7 +28,7 @@ loop-index-preserved c =
                 let cell : w.cell_of.result ≡ firing_position n i c.args.number = rw width at w.cell_of.ensures.value in
                 rw (w.dates-is, w.lower.ensures, cell)
                 (next_some net due order c.args.last c.args.number i w.in-Some.date c.loop-index.dates ok
-                (c.loop-index.invariant.passed due s order) l c.requires.number c.requires.last (sym w.in-Some.is ∙ read))
+                (c.loop-index.invariant.passed due s order) l c.requires.one c.requires.within (sym w.in-Some.is ∙ read))
             | in-None w ↦
                 rw w.dates-is (next_none net due order c.args.last c.args.number i c.loop-index.dates (c.loop-index.invariant.passed due s order) (sym w.in-None.is ∙ read))
           ];

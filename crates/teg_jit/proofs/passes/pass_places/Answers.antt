@@ -28,10 +28,10 @@ overflow_sub-date c =
     rw item
     ((has_room net room.0 c.args.order.now c.args.last c.args.number
     (length net.transitions) i i c.in-Some.date o.place c.loop-depth.dates room.2.0 ok room.2.1 room.2.2 h known.in_range
-    c.requires.number (sym c.in-Some.is ∙ read)).0)
+    c.requires.number.one (sym c.in-Some.is ∙ read)).0)
 
 pub loop-depth-init : goal.loop-depth-init
-loop-depth-init c = record { full = c.requires.full; passed = λ due h. h c.args.order.now }
+loop-depth-init c = record { full = c.requires.number.full; passed = λ due h. h c.args.order.now }
 
 pub loop-depth-preserved : goal.loop-depth-preserved
 loop-depth-preserved c = record {
@@ -61,11 +61,11 @@ loop-depth-preserved c = record {
             let cell : w.cell_of.result ≡ firing_position n p.from.index c.args.number = rw (width, item) at w.cell_of.ensures.value in
             let room = c.requires.passed in
             let fits = (has_room net room.0 c.args.order.now c.args.last c.args.number n i i w.in-Some.date o.place c.loop-depth.dates
-            room.2.0 ok room.2.1 room.2.2 (c.loop-depth.invariant.passed room.0 room.1) known.in_range c.requires.number some).0 in
+            room.2.0 ok room.2.1 room.2.2 (c.loop-depth.invariant.passed room.0 room.1) known.in_range c.requires.number.one some).0 in
             rw (w.dates-is, w.lower.ensures, cell, item)
             (place_some net due c.requires.order.0 c.args.order.now c.args.last c.args.number i w.in-Some.date o c.loop-depth.dates ok c.requires.order.1 c.requires.order.2
-            (λ x f keeps. (has_room net due c.args.order.now c.args.last c.args.number n i i w.in-Some.date o.place c.loop-depth.dates x ok f keeps h known.in_range c.requires.number some).1)
-            fits h l at c.requires.number c.requires.last some)
+            (λ x f keeps. (has_room net due c.args.order.now c.args.last c.args.number n i i w.in-Some.date o.place c.loop-depth.dates x ok f keeps h known.in_range c.requires.number.one some).1)
+            fits h l at c.requires.number.one c.requires.number.within some)
         | in-None w ↦ rw w.dates-is (place_none net due c.args.order.now c.args.last c.args.number i o c.loop-depth.dates h at (sym w.in-None.is ∙ read))
       ];
 }
@@ -74,4 +74,4 @@ pub returns-clause-settled : goal.returns-clause-settled
 returns-clause-settled c = λ due s.
     let last : c.loop-depth.depth-index ≡ length c.args.order.now = omega (arith, c.loop-depth-test.false, c.loop-depth.auto.depth-index-end) in
     number_done c.args.net.now due c.requires.order.0 c.args.order.now c.args.last c.args.number c.loop-depth.depth-index
-    c.loop-depth.dates c.requires.order.2 c.requires.number last (c.loop-depth.invariant.passed due s)
+    c.loop-depth.dates c.requires.order.2 c.requires.number.one last (c.loop-depth.invariant.passed due s)

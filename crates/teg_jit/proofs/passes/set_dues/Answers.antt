@@ -17,13 +17,13 @@ loop-row-preserved c =
     let l = c.loop-row-test.true in
     let r : DueRow = get_or rows i no_row in
     let at : (q : DueRow) → get_or rows i q ≡ r = λ q. get_or_default rows i q no_row l in
-    let own : NamesFiring net r = c.requires.due.each i no_row l in
+    let own : NamesFiring net r = c.requires.due.due.each i no_row l in
     let width = c.transitions-width.ensures.value in
     rw (c.lower.ensures, c.cell_of-cell.ensures.value, width)
     (begun_more (length net.transitions) rows c.args.last c.loop-row.dates i r
-    (λ j q m. let o = c.requires.due.each j q m in (o.in_range, o.from_one)) c.loop-row.invariant l at own.in_range own.from_one
-    (c.requires.greatest.most i no_row l)
-    (due_of_row rows i r c.requires.due.once l (at r)))
+    (λ j q m. let o = c.requires.due.due.each j q m in (o.in_range, o.from_one)) c.loop-row.invariant l at own.in_range own.from_one
+    (c.requires.due.greatest.most i no_row l)
+    (due_of_row rows i r c.requires.due.due.once l (at r)))
 
 pub returns-clause-settled : goal.returns-clause-settled
 returns-clause-settled c = begun_is c.args.net.now c.args.rows.now c.args.last c.loop-row.dates c.loop-row.row-index c.transitions-width.ensures.rules c.loop-row.invariant c.loop-row-test.false

@@ -2,7 +2,7 @@
 //! number by number.
 ghost use Rattle.std.specs.Prelude.{◌≡◌, ◌+◌, ◌*◌, ◌≤◌, ◌<◌, length, slice_index_or, IfOk};
 ghost use Rattle.teg_jit.specs.declared.answers.LatestDate.TheVariants.{Free};
-ghost use Rattle.teg_jit.specs.Turned.{AreTurnedTo, HasShape};
+ghost use Rattle.teg_jit.specs.Transposed.{AreTransposedTo, HasShape};
 
 use crate::answers::LatestDate;
 use crate::latest_list::LatestList;
@@ -10,20 +10,20 @@ use std::alloc::{AllocError, Global};
 use std::marker::Model;
 
 // Puts the dates of a number, counted from 0, where they stand transition by transition.
-fn turn_number(
+fn transpose_number(
     width: usize,
     numbers: usize,
     dates: &LatestList,
-    turns: &mut LatestList,
+    columns: &mut LatestList,
     number: usize,
 )
     requires shape { HasShape width numbers dates.now }
     requires number { number < numbers }
-    requires turned { AreTurnedTo width numbers dates.now turns.old (number * width) }
-    ensures { AreTurnedTo width numbers dates.now turns.new ((number + 1) * width) }
+    requires columns { AreTransposedTo width numbers dates.now columns.old (number * width) }
+    ensures { AreTransposedTo width numbers dates.now columns.new ((number + 1) * width) }
 {
     for transition in 0..width {
-        turns.copy(
+        columns.copy(
             transition * numbers + number,
             dates,
             number * width + transition,
@@ -32,59 +32,60 @@ fn turn_number(
 }
 
 // The dates transition by transition.
-fn turn(
+fn transpose(
     alloc: Global,
     width: usize,
     numbers: usize,
     dates: &LatestList,
 ) -> Result<LatestList, AllocError>
     requires { HasShape width numbers dates.now }
-    ensures { IfOk result (λ turns. AreTurnedTo width numbers dates.now turns (numbers * width)) }
+    ensures { IfOk result (λ columns. AreTransposedTo width numbers dates.now columns
+        (numbers * width)) }
 {
-    let mut turns = LatestList::new(alloc, numbers * width)?;
+    let mut columns = LatestList::new(alloc, numbers * width)?;
     for number in 0..numbers {
-        turn_number(width, numbers, dates, &mut turns, number);
+        transpose_number(width, numbers, dates, &mut columns, number);
     }
-    Ok(turns)
+    Ok(columns)
 }
 
 // Latest dates that are read transition by transition. Contracts see the list of them number by
 // number.
 #[derive(Debug, Drop)]
-pub(crate) struct TurnedList {
+pub(crate) struct TransposedList {
     width: usize,
     numbers: usize,
-    turns: LatestList,
+    columns: LatestList,
 }
 
-impl Model for TurnedList {
+impl Model for TransposedList {
     ghost use Rattle.std.specs.Prelude.{List};
     ghost use Rattle.teg_jit.specs.declared.answers.LatestDate.{LatestDate};
-    ghost use Rattle.teg_jit.specs.Turned.{turned_back, HasShape};
+    ghost use Rattle.teg_jit.specs.Transposed.{listed_back, HasShape};
 
     ghost Value = { List LatestDate };
 
-    ghost view = { λ a. turned_back a.width a.numbers a.turns };
+    ghost view = { λ a. listed_back a.width a.numbers a.columns };
 
-    ghost invariant = { λ a. HasShape a.width a.numbers a.turns };
+    ghost invariant = { λ a. HasShape a.width a.numbers a.columns };
 }
 
-impl TurnedList {
+impl TransposedList {
     // The same dates.
     pub(crate) fn new(
         alloc: Global,
         width: usize,
         numbers: usize,
         dates: &LatestList,
-    ) -> Result<TurnedList, AllocError>
+    ) -> Result<TransposedList, AllocError>
         requires { HasShape width numbers dates.now }
         ensures { IfOk result (λ list. list ≡ dates.now) }
     {
-        let turns = turn(alloc, width, numbers, dates)?;
-        Ok(TurnedList {
+        let columns = transpose(alloc, width, numbers, dates)?;
+        Ok(TransposedList {
             width,
             numbers,
-            turns,
+            columns,
         })
     }
 
@@ -93,7 +94,7 @@ impl TurnedList {
         requires { index < length self.now }
         ensures { result ≡ slice_index_or self.now index Free }
     {
-        let turned = index % self.width * self.numbers + index / self.width;
-        self.turns.get(turned)
+        let place = index % self.width * self.numbers + index / self.width;
+        self.columns.get(place)
     }
 }

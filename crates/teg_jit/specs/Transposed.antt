@@ -7,20 +7,20 @@ use Rattle.teg_jit.specs.declared.answers.LatestDate.{LatestDate}
 use Rattle.teg_jit.specs.declared.answers.LatestDate.TheVariants.{Free}
 
 -- where a date stands transition by transition, by where it stands number by number
-abbrev pub transposed : ℕ → ℕ → ℕ → ℕ
-transposed width numbers i = (i % width) * numbers + i / width
+abbrev pub transposed_place : ℕ → ℕ → ℕ → ℕ
+transposed_place width numbers i = (i % width) * numbers + i / width
 
 -- the dates number by number, by those transition by transition
-abbrev pub turned_back : ℕ → ℕ → List LatestDate → List LatestDate
-turned_back width numbers turns = map (λ i. slice_index_or turns (transposed width numbers i) Free) (range_with_len 0 (numbers * width))
+abbrev pub listed_back : ℕ → ℕ → List LatestDate → List LatestDate
+listed_back width numbers columns = map (λ i. slice_index_or columns (transposed_place width numbers i) Free) (range_with_len 0 (numbers * width))
 
 -- there is a date for each transition and number, within the limits
-pub record HasShape (width numbers : ℕ) (turns : List LatestDate) : Type 0 where
+pub record HasShape (width numbers : ℕ) (columns : List LatestDate) : Type 0 where
   pub width_in : width ≤ most_transitions
   pub numbers_in : numbers ≤ most_numbers
-  pub full : length turns ≡ numbers * width
+  pub full : length columns ≡ numbers * width
 
 -- the first so many of the dates stand where they stand transition by transition
-pub record AreTurnedTo (width numbers : ℕ) (dates turns : List LatestDate) (m : ℕ) : Type 0 where
-  pub full : length turns ≡ numbers * width
-  pub each : (i : ℕ) → i < m → slice_index_or turns (transposed width numbers i) Free ≡ slice_index_or dates i Free
+pub record AreTransposedTo (width numbers : ℕ) (dates columns : List LatestDate) (m : ℕ) : Type 0 where
+  pub full : length columns ≡ numbers * width
+  pub each : (i : ℕ) → i < m → slice_index_or columns (transposed_place width numbers i) Free ≡ slice_index_or dates i Free
