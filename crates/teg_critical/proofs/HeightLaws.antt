@@ -1,5 +1,6 @@
 -- What holds of heights: each is that of a path and keeps its limit, and where no place lifts its end, the best circuits are tight.
-use Rattle.std.proofs.Common.{ℕ, zero, suc, ◌+◌, ◌*◌, ◌<◌, ◌≤◌, ◌≡◌, ◌≢◌, ◌⊎◌, List, [], ◌∷◌, ◌++◌, Bool, true, false, eqb, length, get_or, set, replicate, refl, sym, ap, subst, ◌∙◌, arith, inl, inr, ⊎_elim}
+use Rattle.std.proofs.Common.{ℕ, zero, suc, ◌+◌, ◌*◌, ◌<◌, ◌≤◌, ◌≡◌, ◌≢◌, ◌⊎◌, List, [], ◌∷◌, ◌++◌, Bool}
+use Rattle.std.proofs.Common.{true, false, eqb, length, get_or, set, replicate, refl, sym, ap, subst, ◌∙◌, arith, inl, inr, ⊎_elim}
 use Rattle.std.specs.Prelude.{All, AllPairs, Contains, sum_by, if◌then◌else◌, ◌==◌}
 use Rattle.std.proofs.lemmas.Bool.{cases_eq, eq-eqb, ne_eqb}
 use Rattle.std.proofs.lemmas.List.{length-set, get_or-set_same, get_or-set_other, get_or_default, get_or-replicate, length-replicate}
@@ -19,7 +20,7 @@ use Rattle.teg_loops.proofs.Taking.{sum_most}
 use Rattle.teg_loops.proofs.Splitting.{shorten}
 use Rattle.teg_loops.proofs.Through.{IsThrough, through}
 use Rattle.teg_critical.specs.declared.heights.Raised.{Raised}
-use Rattle.teg_critical.specs.Heights.{most_height, gain_by, cost_by, height_at, CanRaise, IsHeight, AreHeights, IsKeptBy, IsLifted, AreFinal, IsTight}
+use Rattle.teg_critical.specs.Heights.{most_height, gain_by, cost_by, height_at, CanRaise, IsHeight, AreHeights, IsKeptBy, IsLifted, AreFinal, IsTightBy}
 use Rattle.teg_critical.proofs.Rises.{any_places}
 use Rattle.teg_critical.proofs.GapLaws.{time_cons, tokens_cons, best_circuit, through_lacks}
 use Rattle.teg_critical.proofs.Telling.{ends_below}
@@ -198,7 +199,7 @@ module _ (net : NetLists) (raised : Raised) where
 
         -- a path that loses nothing is tight
         tight_along : (ps : List PlaceId) (a b : ℕ) → IsPathBetween net a ps b → height_at hs b + sum_by cost ps ≤ height_at hs a + sum_by gain ps
-            → All (λ q. IsTight raised q.index (place_at net q) hs) ps
+            → All (λ q. IsTightBy raised q.index (place_at net q) hs) ps
         tight_along [] a b h low i d l = absurd (omega arith)
         tight_along (q ∷ ps) a b h low i d l =
             let here : height_at hs (from_of net q) + gain q ≤ height_at hs (to_of net q) + cost q = still q h.0 in
@@ -207,8 +208,8 @@ module _ (net : NetLists) (raised : Raised) where
             let one = sum_by-cons gain q ps in
             let two = sum_by-cons cost q ps in
             both i d l (omega (arith, here, rest, from, one, two, low)) (λ j x m. tight_along ps (to_of net q) b h.2 (omega (arith, here, rest, from, one, two, low)) j x m) where
-              both : (i : ℕ) (d : PlaceId) → i < length (q ∷ ps) → IsTight raised q.index (place_at net q) hs → All (λ x. IsTight raised x.index (place_at net x) hs) ps
-                  → IsTight raised (get_or (q ∷ ps) i d).index (place_at net (get_or (q ∷ ps) i d)) hs
+              both : (i : ℕ) (d : PlaceId) → i < length (q ∷ ps) → IsTightBy raised q.index (place_at net q) hs → All (λ x. IsTightBy raised x.index (place_at net x) hs) ps
+                  → IsTightBy raised (get_or (q ∷ ps) i d).index (place_at net (get_or (q ∷ ps) i d)) hs
               both zero d l e f = e
               both (suc i) d l e f = f i d (omega arith)
 
@@ -216,8 +217,8 @@ module _ (net : NetLists) (raised : Raised) where
         pub record IsTightBack : Type 0 where
           pub others : List PlaceId
           pub path : IsPathBetween net (to_of net p) others (from_of net p)
-          pub own : IsTight raised p.index (place_at net p) hs
-          pub tight : All (λ q. IsTight raised q.index (place_at net q) hs) others
+          pub own : IsTightBy raised p.index (place_at net p) hs
+          pub tight : All (λ q. IsTightBy raised q.index (place_at net q) hs) others
 
         pub tight_back : IsTightBack
         tight_back =
@@ -232,7 +233,7 @@ module _ (net : NetLists) (raised : Raised) where
             let all = tight_along (p ∷ t.others) (from_of net p) (from_of net p) (can.in_range, refl, t.path) (omega (arith, g, k, e, lacks)) in
             record { others = t.others; path = t.path; own = all 0 p (omega arith); tight = λ i d l. all (suc i) d (omega arith) }
 
-        tight_sum : (ps : List PlaceId) (a b : ℕ) → IsPathBetween net a ps b → All (λ q. IsTight raised q.index (place_at net q) hs) ps
+        tight_sum : (ps : List PlaceId) (a b : ℕ) → IsPathBetween net a ps b → All (λ q. IsTightBy raised q.index (place_at net q) hs) ps
             → height_at hs a + sum_by gain ps ≡ height_at hs b + sum_by cost ps
         tight_sum [] a b e h = let same : height_at hs a ≡ height_at hs b = ap (height_at hs) e in omega (arith, same)
         tight_sum (q ∷ ps) a b path h =
@@ -244,7 +245,7 @@ module _ (net : NetLists) (raised : Raised) where
             omega (arith, here, rest, from, one, two)
 
         -- a circuit of the place and of tight places lacks just the gap
-        pub lacks_gap : (others : List PlaceId) → IsCircuit net (p ∷ others) → All (λ q. IsTight raised q.index (place_at net q) hs) others
+        pub lacks_gap : (others : List PlaceId) → IsCircuit net (p ∷ others) → All (λ q. IsTightBy raised q.index (place_at net q) hs) others
             → time_of net (p ∷ others) * raised.ratio.tokens + raised.gap ≡ raised.ratio.time * tokens_of net (p ∷ others)
         lacks_gap others c h =
             let g = gains_are (p ∷ others) in
@@ -252,7 +253,7 @@ module _ (net : NetLists) (raised : Raised) where
             let e = extras_through others c.leaves_once in
             let sum = tight_sum (p ∷ others) c.closed.0 c.closed.0 c.closed.1 both in
             omega (arith, g, k, e, sum) where
-              both : All (λ q. IsTight raised q.index (place_at net q) hs) (p ∷ others)
+              both : All (λ q. IsTightBy raised q.index (place_at net q) hs) (p ∷ others)
               both zero d l = tight_back.own
               both (suc i) d l = h i d (omega arith)
 

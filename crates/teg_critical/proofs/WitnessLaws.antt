@@ -1,5 +1,6 @@
 -- What shows the slack of a place: numbers of transitions that are reached from its end or not, and a tight circuit with heights.
-use Rattle.std.proofs.Common.{ℕ, ℤ, pos, zero, suc, ◌+◌, ◌-◌, ◌*◌, ◌/◌, ◌%◌, ◌<◌, ◌≤◌, ◌≡◌, ◌≢◌, Bool, true, false, eqb, List, [], ◌∷◌, ◌++◌, length, get_or, replicate, Option, Some, None, refl, sym, ap, subst, ◌∙◌, arith, ⊎_elim, below_more}
+use Rattle.std.proofs.Common.{ℕ, ℤ, pos, zero, suc, ◌+◌, ◌*◌, ◌/◌, ◌%◌, ◌<◌, ◌≤◌, ◌≡◌, ◌≢◌, Bool, true, false, eqb}
+use Rattle.std.proofs.Common.{List, [], ◌∷◌, ◌++◌, length, get_or, replicate, Option, Some, None, refl, sym, ap, subst, ◌∙◌, arith, ⊎_elim, below_more}
 use Rattle.std.specs.Prelude.{IsSome, IsSomeAnd, slice_index, max, if◌then◌else◌, ◌==◌, ◌+ℤ◌, ◌-ℤ◌, ◌≤ℤ◌}
 use Rattle.std.specs.Int.{IsGcd}
 use Rattle.std.proofs.lemmas.Int.{ints}
@@ -34,7 +35,7 @@ use Rattle.teg_critical.specs.declared.witnesses.SlackWitness.{SlackWitness}
 use Rattle.teg_critical.specs.declared.witnesses.SlackWitness.TheVariants.{NoCircuit, Critical, Rise}
 use Rattle.teg_critical.specs.SlackWitnessed.{IsSlackWitness, IsWitnessAt}
 use Rattle.teg_critical.specs.Slacks.{IsOnCircuit}
-use Rattle.teg_critical.specs.Hops.{hop_at, IsUsable, AreHops, AreClosed, IsTrace, number_in}
+use Rattle.teg_critical.specs.Hops.{hop_at, IsUsable, AreHops, AreClosed, IsTrace, reached_number}
 use Rattle.teg_critical.specs.Heights.{height_at, CanRaise, AreHeights, AreFinal, ArePotentialsBy, AreTight, LacksGap}
 use Rattle.teg_critical.specs.Told.{IsGapWithin}
 use Rattle.teg_critical.proofs.LossFacts.{IsToldBy, best_told}
@@ -73,15 +74,15 @@ module _ (net : NetLists) (ok : IsNet net) (p : PlaceId) (l : p.index < length n
       let before = hop_path n (from_of net h.last) on.before on.told (let k = on.count in omega (arith, c, k)) in
       (before.0 ++ (h.last ∷ []), IsPathBetween-append net before.0 (h.last ∷ []) (to_of net p) (from_of net h.last) t before.1 (on.in_range, refl, on.to))
 
-  module _ (none : IsOnCircuit net p → ⊥) (numbers : List ℕ) (count : length numbers ≡ length hops) (each : (t : ℕ) → t < length hops → get_or numbers t 0 ≡ number_in (hop_at hops t)) where
-    number_is : (t : ℕ) → t < length net.transitions → slice_index numbers t ≡ number_in (hop_at hops t)
+  module _ (none : IsOnCircuit net p → ⊥) (numbers : List ℕ) (count : length numbers ≡ length hops) (each : (t : ℕ) → t < length hops → get_or numbers t 0 ≡ reached_number (hop_at hops t)) where
+    number_is : (t : ℕ) → t < length net.transitions → slice_index numbers t ≡ reached_number (hop_at hops t)
     number_is t m = each t (let c = are.count in omega (arith, c, m))
 
-    one_of : (o : Option Hop) → IsSome o → number_in o ≡ 1
+    one_of : (o : Option Hop) → IsSome o → reached_number o ≡ 1
     one_of None s = absurd (false≢true s)
     one_of (Some h) s = refl
 
-    most_one : (o : Option Hop) → number_in o ≤ 1
+    most_one : (o : Option Hop) → reached_number o ≤ 1
     most_one None = omega arith
     most_one (Some h) = omega arith
 
@@ -90,14 +91,14 @@ module _ (net : NetLists) (ok : IsNet net) (p : PlaceId) (l : p.index < length n
         let from = number_is (from_of net q) (rules_of q m).from_in in
         let to = number_is (to_of net q) (rules_of q m).to_in in
         omega (arith, from, to, low (hop_at hops (from_of net q)) refl) where
-          low : (o : Option Hop) → hop_at hops (from_of net q) ≡ o → number_in (hop_at hops (from_of net q)) ≤ number_in (hop_at hops (to_of net q))
-          low None e = let z = ap number_in e in omega (arith, z)
+          low : (o : Option Hop) → hop_at hops (from_of net q) ≡ o → reached_number (hop_at hops (from_of net q)) ≤ reached_number (hop_at hops (to_of net q))
+          low None e = let z = ap reached_number e in omega (arith, z)
           low (Some h) e =
               let there = one_of (hop_at hops (to_of net q)) (closed q m (may q m) (some_hop (hop_at hops (from_of net q)) h e)) in
               let most = most_one (hop_at hops (from_of net q)) in
               omega (arith, there, most)
 
-    start_open : (o : Option Hop) → hop_at hops (from_of net p) ≡ o → number_in o ≡ 0
+    start_open : (o : Option Hop) → hop_at hops (from_of net p) ≡ o → reached_number o ≡ 0
     start_open None e = refl
     start_open (Some h) e = absurd (none ((pass_back net p l).1 (hop_path h.count (from_of net p) h e refl)))
 

@@ -81,13 +81,13 @@ pub record ArePotentialsBy (hs : List ℕ) (vs : List ℤ) : Type 0 where
   pub each : (t : ℕ) → t < length hs → slice_index_or vs t (pos 0) ≡ pos (height_at hs t)
 
 -- the place makes of the height of its start just that of its end
-abbrev pub IsTight : Raised → ℕ → Place → List ℕ → Type 0
-IsTight raised number p hs = height_at hs p.from.index + gain_of_place raised number p ≡ height_at hs p.to.index + cost_of_place raised p
+abbrev pub IsTightBy : Raised → ℕ → Place → List ℕ → Type 0
+IsTightBy raised number p hs = height_at hs p.from.index + gain_of_place raised number p ≡ height_at hs p.to.index + cost_of_place raised p
 
 -- which places of the net do
 pub record AreTight (net : NetLists) (raised : Raised) (hs : List ℕ) (tight : List Bool) : Type 0 where
   pub count : length tight ≡ length net.places
-  pub each : (q : PlaceId) → q.index < length net.places → IsUsable tight q ↔ IsTight raised q.index (place_at net q) hs
+  pub each : (q : PlaceId) → q.index < length net.places → IsUsable tight q ↔ IsTightBy raised q.index (place_at net q) hs
 
 -- a circuit that passes the place and lacks just the gap to the ratio
 pub record LacksGap (net : NetLists) (raised : Raised) (ps : List PlaceId) : Type 0 where

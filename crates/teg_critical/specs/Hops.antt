@@ -73,6 +73,6 @@ IsLastHop hop None = (h : Hop) → hop ≡ Some h → h.count ≡ 0
 IsLastHop hop (Some last) = (h : Hop) × (hop ≡ Some h) × (0 < h.count) × (h.last ≡ last)
 
 -- 1 where the transition is reached, and 0 where it is not
-abbrev pub number_in : Option Hop → ℕ
-number_in None = 0
-number_in (Some h) = 1
+abbrev pub reached_number : Option Hop → ℕ
+reached_number None = 0
+reached_number (Some h) = 1

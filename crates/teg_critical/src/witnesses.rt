@@ -9,8 +9,8 @@ ghost use Rattle.teg_certificates.specs.SlackWitnesses.{RiseAtPlace};
 ghost use Rattle.teg_critical.specs.Slacks.{IsOnCircuit};
 ghost use Rattle.teg_critical.specs.Losses.{most_gap};
 ghost use Rattle.teg_critical.specs.Told.{IsGapWithin};
-ghost use Rattle.teg_critical.specs.Hops.{number_in};
-ghost use Rattle.teg_critical.specs.Heights.{most_height, CanRaise, AreHeights, AreFinal, IsTight, AreTight, LacksGap};
+ghost use Rattle.teg_critical.specs.Hops.{reached_number};
+ghost use Rattle.teg_critical.specs.Heights.{most_height, CanRaise, AreHeights, AreFinal, IsTightBy, AreTight, LacksGap};
 ghost use Rattle.teg_critical.specs.SlackWitnessed.{IsSlackWitness, IsWitnessAt};
 
 use crate::each_place::gap_from;
@@ -37,7 +37,7 @@ pub enum SlackWitness {
 
 // 1 for a transition that is reached, 0 for another.
 fn number_of(hop: Option<Hop>) -> u32
-    ensures { result ≡ number_in hop }
+    ensures { result ≡ reached_number hop }
 {
     match hop {
         None => 0,
@@ -69,7 +69,7 @@ fn is_tight(raised: &Raised, heights: &[u64], number: usize, place: &Place) -> b
     requires gap { raised.now.gap ≤ most_gap }
     requires place { (place.now.hold ≤ greatest_hold) × (place.now.tokens ≤ most_place_tokens) }
     requires small { All (λ h. h ≤ most_height) heights.now }
-    ensures { IsTrue result ↔ IsTight raised.now number place.now heights.now }
+    ensures { IsTrue result ↔ IsTightBy raised.now number place.now heights.now }
 {
     let from = heights[place.from.index as usize] + gain_of(raised, number, place);
     from == heights[place.to.index as usize] + cost_of(raised, place)

@@ -11,7 +11,8 @@ pub returns-in_default-clause-none : goal.returns-in_default-clause-none
 returns-in_default-clause-none c = no_loss c.args.net.now c.args.best c.args.losses.now c.requires.can c.args.ending c.requires.ending (none_by _ c.in_default.not-Some)
 
 pub returns-in_default-back-clause-none : goal.returns-in_default-back-clause-none
-returns-in_default-back-clause-none c = no_back c.args.net.now c.args.best c.args.losses.now c.requires.can c.args.ending c.requires.ending c.args.back.now c.requires.back (none_by _ c.in_default-back.not-Some)
+returns-in_default-back-clause-none c = no_back c.args.net.now c.args.best c.args.losses.now c.requires.can c.args.ending c.requires.ending c.args.back.now
+    c.requires.back (none_by _ c.in_default-back.not-Some)
 
 pub gap_by-requires : goal.gap_by-requires
 gap_by-requires c =

@@ -10,20 +10,23 @@ back-init c =
     let count = c.requires.hops.count in
     let low = c.start_of-end.ensures.in_range in
     let start = c.start_of-end.ensures.start in
-    rw (start, c.new-places.ensures.items) (trace_begins net c.args._usable.now c.args.place c.args.hops.now c.requires.hops (from_of net c.args.place) (omega (arith, count, low, start)) c.requires.reached)
+    rw (start, c.new-places.ensures.items) (trace_begins net c.args._usable.now c.args.place c.args.hops.now c.requires.hops (from_of net c.args.place) (omega
+    (arith, count, low, start)) c.requires.reached)
 
 pub start_of-at-requires : goal.start_of-at-requires
 start_of-at-requires c =
     let step = c.in-Some.ensures in
     subst (λ z. z.index < length c.args.net.now.places) step.3
-    (trace_in c.args.net.now c.args._usable.now c.args.place c.args.hops.now c.requires.hops c.start_of-end.ensures.rules (from_of c.args.net.now c.args.place) c.back.at c.back.places.items c.back.invariant step.0 step.1 step.2)
+    (trace_in c.args.net.now c.args._usable.now c.args.place c.args.hops.now c.requires.hops c.start_of-end.ensures.rules (from_of c.args.net.now c.args.place)
+    c.back.at c.back.places.items c.back.invariant step.0 step.1 step.2)
 
 pub back-smaller : goal.back-smaller
 back-smaller c =
     let step = c.in-Some.ensures in
     rw c.start_of-at.ensures.start
     (subst (λ z. count_of c.args.hops.now (from_of c.args.net.now z) < count_of c.args.hops.now c.back.at) step.3
-    (trace_smaller c.args.net.now c.args._usable.now c.args.place c.args.hops.now c.requires.hops c.start_of-end.ensures.rules (from_of c.args.net.now c.args.place) c.back.at c.back.places.items c.back.invariant step.0 step.1 step.2))
+    (trace_smaller c.args.net.now c.args._usable.now c.args.place c.args.hops.now c.requires.hops c.start_of-end.ensures.rules (from_of c.args.net.now c.args.place)
+    c.back.at c.back.places.items c.back.invariant step.0 step.1 step.2))
 
 pub back-preserved : goal.back-preserved
 back-preserved c =
@@ -31,7 +34,8 @@ back-preserved c =
     let step = c.in-Some.ensures in
     rw (c.in_ok-insert.ensures.items, c.start_of-at.ensures.start)
     (subst (λ z. IsTraced net c.args._usable.now c.args.hops.now (from_of net c.args.place) (from_of net z) (z ∷ c.back.places.items)) step.3
-    (trace_back net c.args._usable.now c.args.place c.args.hops.now c.requires.hops c.start_of-end.ensures.rules (from_of net c.args.place) c.back.at c.back.places.items c.back.invariant step.0 step.1 step.2))
+    (trace_back net c.args._usable.now c.args.place c.args.hops.now c.requires.hops c.start_of-end.ensures.rules (from_of net c.args.place) c.back.at
+    c.back.places.items c.back.invariant step.0 step.1 step.2))
 
 pub returns-clause-circuit : goal.returns-clause-circuit
 returns-clause-circuit c =

@@ -4,7 +4,7 @@ use Rattle.teg_net.specs.declared.entries.PlaceId.{PlaceId}
 use Rattle.teg_net.specs.Nets.{IsPlaceOf}
 use Rattle.teg_net.specs.Circuits.{no_place, place_at}
 use Rattle.teg_net.proofs.Reading.{read_place}
-use Rattle.teg_critical.specs.Heights.{IsTight}
+use Rattle.teg_critical.specs.Heights.{IsTightBy}
 use Rattle.teg_critical.proofs.HeightLaws.{all_low}
 use Rattle.teg_critical.proofs.WitnessLaws.{pushed}
 use Rattle.teg_critical.proofs.witnesses.tight_places.Goals as goal
@@ -46,7 +46,7 @@ loop-number-preserved c =
     let q : PlaceId = record { index = k } in
     let l : q.index < length net.places = rw c.places-place-items.ensures.value at c.loop-number-test.true in
     let item : c.place-item.result ≡ place_at net q = read_place net c.places-place-items.result.now q c.place-item.result c.places-place-items.ensures.value l c.place-item.is in
-    pushed (λ j b. (b ≡ true) ↔ IsTight c.args.raised.now j (place_at net (record { index = j })) c.args.heights.now) true c.loop-number.tight.items c.push.new.self.items c.is_tight.result k
+    pushed (λ j b. (b ≡ true) ↔ IsTightBy c.args.raised.now j (place_at net (record { index = j })) c.args.heights.now) true c.loop-number.tight.items c.push.new.self.items c.is_tight.result k
     c.loop-number.invariant.0 c.in_ok-push.ensures.items c.loop-number.invariant.1 (rw item at c.is_tight.ensures)
 
 pub returns : goal.returns
