@@ -54,7 +54,7 @@ module _ (net : NetLists) (r : Fraction) (p : PlaceId) (gap : ℕ) (ratio : IsGr
   no_gain c circuit = rw (scaled_right r.tokens (λ q. (place_at net q).hold) c, scaled_left r.time (λ q. (place_at net q).tokens) c) (ratio.greatest c circuit (any_places c))
 
   -- the best path back, cut down, makes with the place a circuit that lacks just the gap
-  best_circuit : (ps : List PlaceId) × IsCircuit net ps × Contains ps p × (time_of net ps * r.tokens + gap ≡ r.time * tokens_of net ps)
+  pub best_circuit : (ps : List PlaceId) × IsCircuit net ps × Contains ps p × (time_of net ps * r.tokens + gap ≡ r.time * tokens_of net ps)
   best_circuit =
       let ps = h.attained.0 in
       let s = shorten net (λ q. (place_at net q).hold * r.tokens) (λ q. r.time * (place_at net q).tokens) no_gain ps (to_of net p) (from_of net p) h.attained.1 in
@@ -76,7 +76,7 @@ module _ (net : NetLists) (r : Fraction) (p : PlaceId) (gap : ℕ) (ratio : IsGr
       (p ∷ qs, closes net p qs l straight, (0, omega arith, refl), omega arith)
 
   -- each circuit through the place lacks at least the gap
-  through_lacks : (ps : List PlaceId) → IsCircuit net ps → Contains ps p → time_of net ps * r.tokens + gap ≤ r.time * tokens_of net ps
+  pub through_lacks : (ps : List PlaceId) → IsCircuit net ps → Contains ps p → time_of net ps * r.tokens + gap ≤ r.time * tokens_of net ps
   through_lacks ps c passes =
       let t : IsThrough net p ps = through net p ps c passes in
       let low = h.least t.others t.path in
@@ -111,7 +111,11 @@ module _ (net : NetLists) (r : Fraction) (p : PlaceId) (gap : ℕ) (ratio : IsGr
     slack = λ some.
         let parts : gap / r.tokens * r.tokens + gap % r.tokens ≡ gap = div-add-mod' gap r.tokens in
         let low : gap % r.tokens < r.tokens = mod_below gap r.tokens ratio.some in
-        record { same = stays net r p (gap / r.tokens) l ratio (may_rise (gap / r.tokens) some (omega arith)); most = no_more net r p (gap / r.tokens) l best_circuit.0 (too_much (gap / r.tokens) (omega arith)) };
+        record {
+          same = stays net r p (gap / r.tokens) l ratio (may_rise (gap / r.tokens) some (omega arith));
+          most = no_more net r p (gap / r.tokens)
+              l best_circuit.0 (too_much (gap / r.tokens) (omega arith));
+        };
   }
 
 pub gaps_tell : GapsTellSlacks

@@ -15,4 +15,7 @@ pub mod LossFacts
 pub mod Ending
 pub mod Telling
 pub mod EachPlace
+pub mod HeightLaws
+pub mod HopLaws
+pub mod WitnessLaws
 pub use Rattle.teg_certificates.proofs as teg_certificates_proofs

@@ -15,7 +15,7 @@ use Rattle.teg_net.specs.declared.answers.PartAnswer.TheVariants.{NoCircuit, Bes
 use Rattle.teg_net.specs.declared.answers.CycleAnswer.{CycleAnswer}
 use Rattle.teg_net.specs.Limits.{greatest_checked_potential}
 use Rattle.teg_net.specs.Nets.{NetLists, IsNet, IsPlaceOf}
-use Rattle.teg_net.specs.Ratios.{Fraction, IsRatioWithin}
+use Rattle.teg_net.specs.Ratios.{Fraction, IsLowestTerms, IsRatioWithin}
 use Rattle.teg_net.specs.Circuits.{no_place, place_at, from_of, IsCircuit, time_of, tokens_of}
 use Rattle.teg_net.specs.Parts.{to_of, IsPlaceOfPart}
 use Rattle.teg_net.specs.ReducedTimes.{IsMagnitudeWithin, reduced_time_of_place}
@@ -40,6 +40,7 @@ lost_low n gain cost s t e f g l = omega (arith, ints, e, f.low, g.high, l)
 pub record IsToldBy (net : NetLists) (r : Fraction) : Type 0 where
   pub small : IsRatioWithin r
   pub some : 1 ≤ r.tokens
+  pub terms : IsLowestTerms r
   pub places : List PlaceId
   pub circuit : IsCircuit net places
   pub attains : time_of net places * r.tokens ≡ r.time * tokens_of net places
@@ -52,7 +53,14 @@ told_facts net part_of k NoCircuit r h e = absurd (none_told r e) where
   none_told r e = cc
 told_facts net part_of k (Best ratio circuit potentials) r h e =
     let same : ratio ≡ r = cc in
-    subst (IsToldBy net) same (record { small = record { time_in = h.time_in; tokens_in = h.tokens_in }; some = h.terms.some; places = circuit.places.items; circuit = h.circuit; attains = h.attains })
+    subst (IsToldBy net) same (record {
+      small = record { time_in = h.time_in; tokens_in = h.tokens_in };
+      some = h.terms.some;
+      terms = h.terms;
+      places = circuit.places.items;
+      circuit = h.circuit;
+      attains = h.attains;
+    })
 
 -- the part that the answer names tells this ratio
 record IsBestOf (answer : CycleAnswer) (r : Fraction) : Type 0 where

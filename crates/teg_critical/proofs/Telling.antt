@@ -13,7 +13,7 @@ use Rattle.teg_loops.specs.Loops.{EndsBelow, IsStraight}
 use Rattle.teg_loops.proofs.Straight.{straight_short}
 use Rattle.teg_loops.proofs.Taking.{sum_most}
 use Rattle.teg_loops.proofs.Splitting.{split}
-use Rattle.teg_loops.proofs.Through.{IsThrough, through, closes}
+use Rattle.teg_loops.proofs.Through.{IsThrough, through, pass_back}
 use Rattle.teg_critical.proofs.Certified.{path_inside}
 use Rattle.teg_critical.specs.declared.losses.Loss.{Loss}
 use Rattle.teg_critical.specs.declared.slacks.Slack.{Slack}
@@ -23,7 +23,7 @@ use Rattle.teg_critical.specs.Gaps.{IsGap}
 use Rattle.teg_critical.specs.SlackAndPaths.{GapTells}
 use Rattle.teg_critical.specs.Losses.{most_gap, part_of_transition, loss_at, LeavesGap}
 use Rattle.teg_critical.specs.LeastLosses.{amount_in, loss_of_path, IsWay, IsLeastLoss}
-use Rattle.teg_critical.specs.Told.{CanTellSlack, IsSlackOfGap}
+use Rattle.teg_critical.specs.Told.{CanTellSlack, IsSlackOfGap, IsGapWithin}
 use Rattle.teg_critical.proofs.GapLaws.{gaps_tell}
 use Rattle.teg_critical.proofs.Rounds.{HasLoss, has_loss, round_is, is_way}
 
@@ -153,23 +153,20 @@ module _ (net : NetLists) (ok : IsNet net) (r : Fraction) (losses : List (Option
     pub leaves : LeavesGap (loss.amount + rest) loss.scale
     leaves = record { gap = gap; some = some_scale; is = total_is; low = gap_low }
 
-    on_circuit : IsOnCircuit net p
-    on_circuit =
-        let s = split net best (to_of net p) (from_of net p) best_path in
-        (p ∷ s.0, closes net p s.0 l s.2.path, (0, omega arith, refl))
-
     quotient : (loss.amount + rest) / loss.scale ≡ gap
     quotient = ap (λ (z : ℕ). z / loss.scale) total_is ∙ mul-div_cancel_left gap {n = loss.scale} (let some = some_scale in omega arith)
 
-    -- what the gap tells is the slack
-    pub tells_slack : (s : Slack) → IsSlackOfGap (loss.amount + rest) loss.scale r s → IsSlackOf net r p s
-    tells_slack NoCircuit h = absurd h
-    tells_slack Critical h = (gaps_tell net r p gap can.greatest l is_gap).critical.0 (sym quotient ∙ h)
-    tells_slack (Rise by) h =
-        let tells : GapTells net r p gap = gaps_tell net r p gap can.greatest l is_gap in
-        let some : 0 < gap = subst (λ (z : ℕ). 0 < z) quotient h.0 in
-        let by_is : by ≡ gap / r.tokens = h.1 ∙ ap (λ (z : ℕ). z / r.tokens) quotient in (
-          on_circuit,
-          λ c. (let none = tells.critical.1 c in omega arith),
-          subst (λ (z : ℕ). IsSlack net r p z) (sym by_is) (tells.slack some),
-        )
+    -- the gap is what the total is over the scale
+    pub gap_within : IsGapWithin net r p ((loss.amount + rest) / loss.scale)
+    gap_within = subst (IsGapWithin net r p) (sym quotient) (record { is = is_gap; low = gap_low })
+
+  -- what the gap tells is the slack
+  pub tells_slack : (gap : ℕ) → IsGap net r p gap → (s : Slack) → IsSlackOfGap gap r s → IsSlackOf net r p s
+  tells_slack gap is NoCircuit h = absurd h
+  tells_slack gap is Critical h = (gaps_tell net r p gap can.greatest l is).critical.0 h
+  tells_slack gap is (Rise by) h =
+      let tells : GapTells net r p gap = gaps_tell net r p gap can.greatest l is in (
+        (pass_back net p l).1 (is.attained.0, is.attained.1),
+        λ c. (let some = h.0 in let none = tells.critical.1 c in omega arith),
+        subst (λ (z : ℕ). IsSlack net r p z) (sym h.1) (tells.slack h.0),
+      )

@@ -1,5 +1,5 @@
 -- Working definitions of how each place is told its slack.
-use Rattle.std.specs.Prelude.{ℕ, ◌/◌, ◌<◌, ◌≡◌, List, length, Option, slice_index_or, replicate, All}
+use Rattle.std.specs.Prelude.{ℕ, ◌/◌, ◌<◌, ◌≤◌, ◌≡◌, List, length, Option, slice_index_or, replicate, All}
 use Rattle.teg_net.specs.declared.entries.PlaceId.{PlaceId}
 use Rattle.teg_net.specs.declared.answers.CycleAnswer.{CycleAnswer}
 use Rattle.teg_net.specs.Nets.{NetLists, IsNet}
@@ -12,13 +12,19 @@ use Rattle.teg_critical.specs.declared.losses.Loss.{Loss}
 use Rattle.teg_critical.specs.declared.slacks.Slack.{Slack}
 use Rattle.teg_critical.specs.declared.slacks.Slack.TheVariants.{NoCircuit, Critical, Rise}
 use Rattle.teg_critical.specs.Slacks.{IsSlackOf}
-use Rattle.teg_critical.specs.Losses.{AreLosses}
+use Rattle.teg_critical.specs.Gaps.{IsGap}
+use Rattle.teg_critical.specs.Losses.{most_gap, AreLosses}
 
--- the slack that a gap tells, given the gap times the scale
-abbrev pub IsSlackOfGap : ℕ → ℕ → Fraction → Slack → Type 0
-IsSlackOfGap total scale r NoCircuit = ⊥
-IsSlackOfGap total scale r Critical = total / scale ≡ 0
-IsSlackOfGap total scale r (Rise by) = (0 < total / scale) × (by ≡ total / scale / r.tokens)
+-- the gap of the place, which is not great
+pub record IsGapWithin (net : NetLists) (r : Fraction) (p : PlaceId) (gap : ℕ) : Type 0 where
+  pub is : IsGap net r p gap
+  pub low : gap ≤ most_gap
+
+-- the slack that a gap tells
+abbrev pub IsSlackOfGap : ℕ → Fraction → Slack → Type 0
+IsSlackOfGap gap r NoCircuit = ⊥
+IsSlackOfGap gap r Critical = gap ≡ 0
+IsSlackOfGap gap r (Rise by) = (0 < gap) × (by ≡ gap / r.tokens)
 
 -- the losses are those of a certified answer, against the greatest ratio of a live net
 pub record CanTellSlack (net : NetLists) (r : Fraction) (losses : List (Option Loss)) : Type 0 where

@@ -1,5 +1,5 @@
 //! The slack of each place, by what the best path back from its end to its start lacks.
-ghost use Rattle.std.specs.Prelude.{◌≡◌, ◌<◌, length, All, IfOk, Some};
+ghost use Rattle.std.specs.Prelude.{◌≡◌, ◌<◌, ◌≤◌, ◌/◌, length, All, IfOk, IfNone, IfSome, Some};
 ghost use Rattle.teg_net.specs.Ratios.{Fraction};
 ghost use Rattle.teg_net.specs.Nets.{IsNet};
 ghost use Rattle.teg_net.specs.Circuits.{IsLive};
@@ -7,11 +7,11 @@ ghost use Rattle.teg_net.specs.GreatestRatios.{IsGreatestRatio, IsAnyPlace, HasN
 ghost use Rattle.teg_net.specs.Certificates.{IsCertificate};
 ghost use Rattle.teg_certificates.specs.BestRatios.{best_ratio_of};
 ghost use Rattle.teg_critical.specs.declared.slacks.Slack.TheVariants.{NoCircuit};
-ghost use Rattle.teg_critical.specs.Slacks.{IsSlackOf, AreSlacks};
+ghost use Rattle.teg_critical.specs.Slacks.{IsOnCircuit, IsSlackOf, AreSlacks};
 ghost use Rattle.teg_critical.specs.LossEndings.{IsEnding};
 ghost use Rattle.teg_critical.specs.Losses.{LeavesGap};
 ghost use Rattle.teg_critical.specs.LeastLosses.{AreSteps, AreToldBack, IsToldBack};
-ghost use Rattle.teg_critical.specs.Told.{IsSlackOfGap, CanTellSlack, AreToldMore, AreUntold};
+ghost use Rattle.teg_critical.specs.Told.{IsSlackOfGap, IsGapWithin, CanTellSlack, AreToldMore, AreUntold};
 
 use crate::endings::{Ending, by_end, group_length};
 use crate::losses::{Loss, losses_of};
@@ -21,17 +21,50 @@ use std::alloc::{AllocError, Global};
 use teg_certificates::best_ratio;
 use teg_net::{CycleAnswer, Net, OutOfMemory, Ratio};
 
-// The slack that a loss of the whole round tells.
-fn slack_by(total: u128, scale: u64, best: Ratio) -> Slack
+// The gap that a loss of the whole round tells.
+fn gap_by(total: u128, scale: u64) -> u64
     requires { LeavesGap total scale }
-    ensures { IsSlackOfGap total scale best result }
+    ensures { result ≡ total / scale }
 {
-    let gap = total / u128::from(scale);
+    (total / u128::from(scale)) as u64
+}
+
+// What the best circuit that passes a place lacks to the greatest ratio, given the least that the
+// paths back from its end to its start lose; none where no circuit passes it.
+pub(crate) fn gap_from(
+    net: &Net,
+    best: Ratio,
+    losses: &[Option<Loss>],
+    back: &[Option<u128>],
+    ending: Ending,
+) -> Option<u64>
+    requires can { CanTellSlack net.now best losses.now }
+    requires ending { IsEnding net.now ending }
+    requires count { length back.now ≡ length net.now.transitions }
+    requires back { IsToldBack net.now losses.now back.now ending }
+    ensures none { IfNone result (IsOnCircuit net.now ending.place → ⊥) }
+    ensures some { IfSome result (IsGapWithin net.now best ending.place) }
+{
+    let (_net, _best) = (net, best);
+    let Some(loss) = losses[ending.place.index as usize] else {
+        return None;
+    };
+    let Some(rest) = back[ending.start] else {
+        return None;
+    };
+    Some(gap_by(loss.amount + rest, loss.scale))
+}
+
+// The slack that a gap tells.
+fn slack_by(gap: u64, best: Ratio) -> Slack
+    requires { 1 ≤ best.tokens }
+    ensures { IsSlackOfGap gap best result }
+{
     if gap == 0 {
         Slack::Critical
     } else {
         Slack::Rise {
-            by: (gap / u128::from(best.tokens())) as u64,
+            by: gap / best.tokens(),
         }
     }
 }
@@ -50,14 +83,10 @@ fn slack_from(
     requires back { IsToldBack net.now losses.now back.now ending }
     ensures { IsSlackOf net.now best ending.place result }
 {
-    let _net = net;
-    let Some(loss) = losses[ending.place.index as usize] else {
-        return Slack::NoCircuit;
-    };
-    let Some(rest) = back[ending.start] else {
-        return Slack::NoCircuit;
-    };
-    slack_by(loss.amount + rest, loss.scale, best)
+    match gap_from(net, best, losses, back, ending) {
+        None => Slack::NoCircuit,
+        Some(gap) => slack_by(gap, best),
+    }
 }
 
 // Tells these places, given the least that the paths back from their ends to their starts lose.

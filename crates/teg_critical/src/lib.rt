@@ -8,17 +8,22 @@
 //! paths back into a search for shortest paths. The crate stands on `teg_net`, on
 //! `teg_certificates` for the ratio that an answer tells, and on `teg_loops` for the laws of paths
 //! and circuits. That what the checkers of `teg_certificates` show of a place is its slack is the
-//! law [`witnesses_tell_slacks`].
+//! law [`witnesses_tell_slacks`], and [`slack_witness`] hands out what they say yes to, for one
+//! place.
 //! Its examples stand in `worked_examples`.
 #![tactic(auto)]
 
 mod each_place;
 mod endings;
+mod heights;
+mod hops;
 mod laws;
 mod losses;
 mod searches;
 mod slacks;
+mod witnesses;
 
 pub use each_place::critical;
 pub use laws::{gaps_tell_slacks, slacks_are_of_the_net, slacks_are_one, witnesses_tell_slacks};
 pub use slacks::{Slack, Slacks};
+pub use witnesses::{SlackWitness, slack_witness};

@@ -9,7 +9,8 @@ use Rattle.teg_critical.proofs.each_place.tell_all.Goals as goal
 
 pub tell-init : goal.tell-init
 tell-init c = (
-  rw c.as_slice-rest.ensures.value (told_begin c.args.known.now.net.now c.args.best c.args.known.now.losses.now c.requires.can c.args.slacks.now c.requires.untold c.in_ok-order.order.items c.in_ok-order.ensures),
+  rw c.as_slice-rest.ensures.value (told_begin c.args.known.now.net.now c.args.best c.args.known.now.losses.now c.requires.can c.args.slacks.now c.requires.untold
+      c.in_ok-order.order.items c.in_ok-order.ensures),
   omega arith,
 )
 

@@ -114,7 +114,8 @@ search-smaller-else-next-wanted c =
     let l = first_in h c.in-Some.ensures.permutation in
     let count = c.requires.steps.count in
     let near = near_of h c.in-Some.ensures.permutation c.in-Some.ensures.below_top c.index.ensures c.if-not-index.true in
-    let own : c.as_slice.result.now ≡ get_or c.args.known.now.steps.now at [] = c.as_slice.ensures ∙ get_or_read c.args.known.now.steps.now at c.index-steps-at.result (omega arith) c.index-steps-at.is [] in
+    let own : c.as_slice.result.now ≡ get_or c.args.known.now.steps.now at [] = c.as_slice.ensures ∙ get_or_read c.args.known.now.steps.now at c.index-steps-at.result
+    (omega arith) c.index-steps-at.is [] in
     less_left settled (set settled at true) c.args.known.now.steps.now c.as_slice.result.now at (heap_len c.search.queue) (heap_len c.pop.new.self) (heap_len c.relax.new.queue) (omega arith) own
     (one_settled settled at near.in_range near.open_) c.in-Some.ensures.len c.in_ok-relax.ensures.few
 
@@ -175,5 +176,6 @@ pub returns : goal.returns
 returns c =
     let h = c.search.invariant.0 in
     let nothing : heap_items c.search.queue ≡ [] = empty_of (heap_items c.search.queue) (search rules) in
-    let over : IsOver c.search.least.items c.search.settled.items = queue_over (subst (IsQueueing c.args.known.now.net.now c.args.known.now.losses.now c.args.end c.search.least.items c.search.settled.items) nothing h) in
+    let over : IsOver c.search.least.items c.search.settled.items = queue_over (subst (IsQueueing c.args.known.now.net.now c.args.known.now.losses.now c.args.end
+    c.search.least.items c.search.settled.items) nothing h) in
     searched h.searching c.transitions-count.ensures.rules over c.args.wanted.now c.requires.wanted

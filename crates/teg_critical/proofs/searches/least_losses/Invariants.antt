@@ -6,7 +6,8 @@ use Rattle.teg_critical.proofs.searches.least_losses.Given as goal
 use Rattle.teg_critical.proofs.SearchStates.{IsQueueing}
 
 abbrev pub invariant-search : goal.invariant-search
-invariant-search l = IsQueueing l.known.net.now l.known.losses.now l.end l.least.items l.settled.items (heap_items l.queue) × (l.next ≤ length l.wanted) × AreSettled l.settled.items (take l.next l.wanted)
+invariant-search l = IsQueueing l.known.net.now l.known.losses.now l.end l.least.items l.settled.items (heap_items l.queue) ×
+    (l.next ≤ length l.wanted) × AreSettled l.settled.items (take l.next l.wanted)
 
 abbrev pub decreases-search : goal.decreases-search
 decreases-search l = left l.settled.items l.known.steps.now (heap_len l.queue)
