@@ -91,7 +91,9 @@ each_list net period t d h k e lt =
     let l : InputList = get_or d.inputs k e in
     let few = is.few in
     let some = is.is.some in
-    let small = h.period_in in
+    let small = h.planned.period_in in
+    let least = h.planned.some in
+    let narrow = h.planned.few in
     let input : IsInput d (n + k) = is_input d n (n + k) h.transitions (omega arith) (omega arith) in
     record {
       is_input = subst (λ (i : ℕ). IsInput d i) (sym is.is.of) input;
@@ -105,8 +107,8 @@ pub made_rules : (net : NetLists) (period : ℕ) (t : Timetable) (d : NetLists) 
 made_rules net period t d rules h =
     let n : ℕ = length net.transitions in
     let some = rules.some_transition in
-    let few = h.few in
-    let fits = h.fits in
+    let few = h.planned.few in
+    let fits = h.planned.fits in
     let long = h.transitions.long in
     let wide = h.places.long in
     let deep = h.lists.long in

@@ -10,12 +10,13 @@ use Rattle.std.proofs.lemmas.List.Elements.{All-append, All-cons, All-head, All-
 use Rattle.std.proofs.Math.Nat.{mul-le-mul_left, mul-le-mul_right}
 use Rattle.delay_laws.specs.declared.table.Delay.{Delay}
 use Rattle.delay_laws.specs.declared.table.Timetable.{Timetable}
-use Rattle.delay_laws.specs.PlannedTimetables.{delay_given, delay_in, planned, greatest_delay}
+use Rattle.delay_laws.specs.PlannedTimetables.{IsDelayOf, delay_given, delay_in, planned, greatest_delay}
 use Rattle.delay_laws.specs.Delays.{IsReleaseAt}
 use Rattle.delay_laws.proofs.Releases.{release_rises}
 use Rattle.teg_net.specs.Limits.{greatest_input_date}
+use Rattle.teg_net.specs.Nets.{NetLists}
 use Rattle.teg_timetable.specs.Departures.{or_second}
-use Rattle.teg_timetable.specs.DelaysByNumber.{IsSmall, given_in}
+use Rattle.teg_timetable.specs.DelaysByNumber.{given_in}
 use Rattle.teg_timetable.specs.ReleaseNetsBuilt.{ArePlannedReleases}
 
 -- so many periods are enough, and they are not more than the delay
@@ -74,12 +75,12 @@ given_number ds i s = same (find (λ d. (d.transition.index == i) && (d.number =
     same (Some d) = refl
 
 -- no delay that is given exceeds its limit
-pub given_small : (ds : List Delay) (i s : ℕ) → All IsSmall ds → delay_in ds i s ≤ greatest_delay
-given_small [] i s h = omega arith
-given_small (d ∷ ds) i s h = by ((d.transition.index == i) && (d.number == s)) (given_small ds i s (All-tail IsSmall d ds h))
+pub given_small : (net : NetLists) (ds : List Delay) (i s : ℕ) → All (IsDelayOf net) ds → delay_in ds i s ≤ greatest_delay
+given_small net [] i s h = omega arith
+given_small net (d ∷ ds) i s h = by ((d.transition.index == i) && (d.number == s)) (given_small net ds i s (All-tail (IsDelayOf net) d ds h))
   where
     by : (b : Bool) → delay_in ds i s ≤ greatest_delay → option_map_or (λ (x : Delay). x.by) (cond b (Some d) (find (λ x. (x.transition.index == i) && (x.number == s)) ds)) 0 ≤ greatest_delay
-    by true rest = let small = (All-head IsSmall d ds h).by_in in omega arith
+    by true rest = let small = (All-head (IsDelayOf net) d ds h).by_in in omega arith
     by false rest = rest
 
 -- the next release, where the departure asks for a later date, and where it does not

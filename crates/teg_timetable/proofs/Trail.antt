@@ -1,19 +1,18 @@
 -- The way back along which a delay is passed on: the trail so far, which begins at `at`, and at each transition how long it was when
 -- the transition was left.
-use Rattle.std.proofs.Common.{ℕ, zero, suc, ◌-◌, ◌<◌, ◌≡◌, ◌≢◌, List, [], ◌∷◌, length, get_or, set, take, drop, Option, Some, None, refl, sym, ap, subst, ◌∙◌, arith, ⊎_elim}
+use Rattle.std.proofs.Common.{ℕ, zero, suc, ◌-◌, ◌<◌, ◌≡◌, ◌≢◌, List, [], ◌∷◌, length, get_or, set, take, drop, Option, Some, None}
+use Rattle.std.proofs.Common.{refl, sym, ap, subst, ◌∙◌, arith, ⊎_elim}
 use Rattle.std.specs.Prelude.{AllPairs}
 use Rattle.std.proofs.lemmas.Bool.{cases_eq}
 use Rattle.std.proofs.lemmas.List.{length-set, get_or-set_same, get_or-set_other, get_or_default, get_or-take, length-take-le, take-append-drop}
 use Rattle.std.proofs.lemmas.List.Elements.{All-cons, All-take}
 use Rattle.std.proofs.lemmas.List.Kept.{AllPairs-cons}
-use Rattle.delay_laws.specs.declared.table.Timetable.{Timetable}
 use Rattle.teg_net.specs.declared.entries.PlaceId.{PlaceId}
 use Rattle.teg_net.specs.Nets.{NetLists}
 use Rattle.teg_net.specs.Circuits.{from_of, IsPathBetween, IsCircuit}
 use Rattle.teg_net.specs.Parts.{to_of}
 use Rattle.teg_net.proofs.PathLaws.{IsPathBetween-split}
-use Rattle.delay_laws.specs.DelayOutcomes.{HasNoSpare}
-use Rattle.teg_timetable.specs.WaysBack.{AreGood, IsFedCircuit, IsFeeder}
+use Rattle.teg_timetable.specs.WaysBack.{AreGood, IsFedCircuit, IsFeeder, IsGood, TopDelays, greatest_top}
 
 abbrev pub first_id : PlaceId
 first_id = record { index = 0 }
@@ -22,15 +21,15 @@ first_id = record { index = 0 }
 abbrev pub found_at : List PlaceId → ℕ → PlaceId
 found_at trail k = get_or trail (length trail - 1 - k) first_id
 
-pub record Trail (net : NetLists) (period : ℕ) (t : Timetable) (tops : List ℕ) (most start : ℕ) (left : List (Option ℕ)) (trail : List PlaceId) (at : ℕ) : Type 0 where
-  pub count : length left ≡ length net.transitions
-  pub at_in : at < length net.transitions
-  pub is_most : get_or tops at 0 ≡ most
-  pub leads : IsPathBetween net at trail start
-  pub good : AreGood net period t tops most trail
-  pub marks : (i k : ℕ) → get_or left i None ≡ Some k → (k < length trail) × (to_of net (found_at trail k) ≡ i)
-  pub marked : (k : ℕ) → k < length trail → get_or left (to_of net (get_or trail k first_id)) None ≢ None
-  pub distinct : AllPairs (λ p q. to_of net p ≢ to_of net q) trail
+pub record Trail (s : TopDelays) (left : List (Option ℕ)) (trail : List PlaceId) (at : ℕ) : Type 0 where
+  pub count : length left ≡ length s.net.transitions
+  pub at_in : at < length s.net.transitions
+  pub is_most : get_or s.tops at 0 ≡ greatest_top s
+  pub leads : IsPathBetween s.net at trail s.start
+  pub good : AreGood s trail
+  pub marks : (i k : ℕ) → get_or left i None ≡ Some k → (k < length trail) × (to_of s.net (found_at trail k) ≡ i)
+  pub marked : (k : ℕ) → k < length trail → get_or left (to_of s.net (get_or trail k first_id)) None ≢ None
+  pub distinct : AllPairs (λ p q. to_of s.net p ≢ to_of s.net q) trail
 
 -- found before, it is one further from the front
 found_on : (p : PlaceId) (trail : List PlaceId) (k : ℕ) → k < length trail → found_at (p ∷ trail) k ≡ found_at trail k
@@ -43,43 +42,42 @@ found_now p trail =
     let n : length (p ∷ trail) - 1 - length trail ≡ 0 = omega arith in
     ap (λ (i : ℕ). get_or (p ∷ trail) i first_id) n
 
-pub trail_more : (net : NetLists) (period : ℕ) (t : Timetable) (tops : List ℕ) (most start : ℕ) (left : List (Option ℕ)) (trail : List PlaceId) (at : ℕ) (p : PlaceId)
-    → Trail net period t tops most start left trail at → get_or left at None ≡ None → IsFeeder net period t tops most at p → from_of net p < length net.transitions
-    → Trail net period t tops most start (set left at (Some (length trail))) (p ∷ trail) (from_of net p)
-trail_more net period t tops most start left trail at p h none f in' =
-    let mark : Option ℕ = Some (length trail) in
-    let count = h.count in
-    let at_in = h.at_in in
-    let same : get_or (set left at mark) at None ≡ mark = get_or-set_same left at mark None (omega arith) in
-    record {
-      count = length-set left at mark ∙ h.count;
-      at_in = in';
-      is_most = f.feeds.from;
-      leads = (f.feeds.in_range, refl, subst (λ (z : ℕ). IsPathBetween net z trail start) (sym f.ends) h.leads);
-      good = All-cons (λ q. HasNoSpare net period t q × (get_or tops (from_of net q) 0 ≡ most)) p trail (f.feeds.no_spare, f.feeds.from) h.good;
-      marks = λ i k e.
-          ⊎_elim
-          (λ (q : i ≡ at).
-          let k_is : length trail ≡ k = cc in
-          (omega (arith, k_is), ap (to_of net) (ap (found_at (p ∷ trail)) (sym k_is) ∙ found_now p trail) ∙ (f.ends ∙ sym q)))
-          (λ (q : i ≢ at).
-          let old = h.marks i k (sym (get_or-set_other left at i mark None q) ∙ e) in
-          (omega (arith, old.0), ap (to_of net) (found_on p trail k old.0) ∙ old.1))
-          (cases_eq i at);
-      marked = marked_more (λ k l. h.marked k l) same;
-      distinct = AllPairs-cons (λ a b. to_of net a ≢ to_of net b) p trail (λ k d l e.
-          let read : get_or trail k d ≡ get_or trail k first_id = get_or_default trail k d first_id l in
-          h.marked k l (ap (λ (x : ℕ). get_or left x None) (ap (to_of net) (sym read) ∙ (sym e ∙ f.ends)) ∙ none)) h.distinct;
-    } where
-      marked_more : ((k : ℕ) → k < length trail → get_or left (to_of net (get_or trail k first_id)) None ≢ None)
-          → get_or (set left at (Some (length trail))) at None ≡ Some (length trail)
-          → (k : ℕ) → k < length (p ∷ trail) → get_or (set left at (Some (length trail))) (to_of net (get_or (p ∷ trail) k first_id)) None ≢ None
-      marked_more old same zero l = λ e. let to = f.ends in let here = ap (λ (x : ℕ). get_or (set left at (Some (length trail))) x None) to in cc
-      marked_more old same (suc k) l = λ e. ⊎_elim
-          (λ (s : to_of net (get_or trail k first_id) ≡ at). let here = ap (λ (x : ℕ). get_or (set left at (Some (length trail))) x None) s in cc)
-          (λ (s : to_of net (get_or trail k first_id) ≢ at).
-          old k (omega (arith, l)) (sym (get_or-set_other left at (to_of net (get_or trail k first_id)) (Some (length trail)) None s) ∙ e))
-          (cases_eq (to_of net (get_or trail k first_id)) at)
+module _ (s : TopDelays) (left : List (Option ℕ)) (trail : List PlaceId) (at : ℕ) (h : Trail s left trail at) where
+  pub trail_more : (p : PlaceId) → get_or left at None ≡ None → IsFeeder s at p → from_of s.net p < length s.net.transitions
+      → Trail s (set left at (Some (length trail))) (p ∷ trail) (from_of s.net p)
+  trail_more p none f in' =
+      let mark : Option ℕ = Some (length trail) in
+      let count = h.count in
+      let at_in = h.at_in in
+      let same : get_or (set left at mark) at None ≡ mark = get_or-set_same left at mark None (omega arith) in
+      record {
+        count = length-set left at mark ∙ h.count;
+        at_in = in';
+        is_most = f.feeds.good.from;
+        leads = (f.feeds.in_range, refl, subst (λ (z : ℕ). IsPathBetween s.net z trail s.start) (sym f.ends) h.leads);
+        good = All-cons (IsGood s) p trail f.feeds.good h.good;
+        marks = λ i k e.
+            ⊎_elim
+            (λ (q : i ≡ at).
+            let k_is : length trail ≡ k = cc in
+            (omega (arith, k_is), ap (to_of s.net) (ap (found_at (p ∷ trail)) (sym k_is) ∙ found_now p trail) ∙ (f.ends ∙ sym q)))
+            (λ (q : i ≢ at).
+            let old = h.marks i k (sym (get_or-set_other left at i mark None q) ∙ e) in
+            (omega (arith, old.0), ap (to_of s.net) (found_on p trail k old.0) ∙ old.1))
+            (cases_eq i at);
+        marked = marked_more (λ k l. h.marked k l) same;
+        distinct = AllPairs-cons (λ a b. to_of s.net a ≢ to_of s.net b) p trail (λ k d l e.
+            let read : get_or trail k d ≡ get_or trail k first_id = get_or_default trail k d first_id l in
+            h.marked k l (ap (λ (x : ℕ). get_or left x None) (ap (to_of s.net) (sym read) ∙ (sym e ∙ f.ends)) ∙ none)) h.distinct;
+      } where
+        marked_more : ((k : ℕ) → k < length trail → get_or left (to_of s.net (get_or trail k first_id)) None ≢ None)
+            → get_or (set left at (Some (length trail))) at None ≡ Some (length trail)
+            → (k : ℕ) → k < length (p ∷ trail) → get_or (set left at (Some (length trail))) (to_of s.net (get_or (p ∷ trail) k first_id)) None ≢ None
+        marked_more old same zero l = λ e. let to = f.ends in let here = ap (λ (x : ℕ). get_or (set left at (Some (length trail))) x None) to in cc
+        marked_more old same (suc k) l = λ e. let to : ℕ = to_of s.net (get_or trail k first_id) in ⊎_elim
+            (λ (q : to ≡ at). let here = ap (λ (x : ℕ). get_or (set left at (Some (length trail))) x None) q in cc)
+            (λ (q : to ≢ at). old k (omega (arith, l)) (sym (get_or-set_other left at to (Some (length trail)) None q) ∙ e))
+            (cases_eq to at)
 
 -- a path that is not empty ends where its last place does
 ends_as : (net : NetLists) (ps : List PlaceId) (a b : ℕ) → 0 < length ps → IsPathBetween net a ps b → to_of net (get_or ps (length ps - 1) first_id) ≡ b
@@ -123,25 +121,26 @@ closed_circuit net ps a some h apart = record {
         let two = joined net ps a a j h m in
         apart i j first_id (omega (arith, l)) (omega (arith, m)) (sym one ∙ e ∙ two)
 
-pub circuit_of_trail : (net : NetLists) (period : ℕ) (t : Timetable) (tops : List ℕ) (most start : ℕ) (left : List (Option ℕ)) (trail : List PlaceId) (at first : ℕ)
-    → Trail net period t tops most start left trail at → get_or left at None ≡ Some first → IsFedCircuit net period t tops most (take (length trail - first) trail)
-circuit_of_trail net period t tops most start left trail at first h is =
+-- where the trail comes to a transition again, its front is a circuit
+pub circuit_of_trail : (s : TopDelays) (left : List (Option ℕ)) (trail : List PlaceId) (at first : ℕ) → Trail s left trail at → get_or left at None ≡ Some first
+    → IsFedCircuit s (take (length trail - first) trail)
+circuit_of_trail s left trail at first h is =
     let mark = h.marks at first is in
     let m : ℕ = length trail - first in
     let own : List PlaceId = take m trail in
     let long : length own ≡ m = length-take-le m trail (omega arith) in
     let some : 0 < length own = omega (arith, mark.0) in
-    let split = IsPathBetween-split net own (drop m trail) at start (rw (take-append-drop m trail) h.leads) in
-    let last : to_of net (get_or own (length own - 1) first_id) ≡ split.0 = ends_as net own at split.0 some split.1 in
+    let split = IsPathBetween-split s.net own (drop m trail) at s.start (rw (take-append-drop m trail) h.leads) in
+    let last : to_of s.net (get_or own (length own - 1) first_id) ≡ split.0 = ends_as s.net own at split.0 some split.1 in
     let n : length own - 1 ≡ length trail - 1 - first = omega (arith, mark.0) in
     let read : get_or own (length own - 1) first_id ≡ found_at trail first =
     get_or-take m trail (length own - 1) first_id (omega (arith, mark.0)) ∙ ap (λ (i : ℕ). get_or trail i first_id) n in
-    let closes : split.0 ≡ at = sym last ∙ ap (to_of net) read ∙ mark.1 in
+    let closes : split.0 ≡ at = sym last ∙ ap (to_of s.net) read ∙ mark.1 in
     record {
-      circuit = closed_circuit net own at some (subst (λ (z : ℕ). IsPathBetween net at own z) closes split.1) (λ i j d l r.
+      circuit = closed_circuit s.net own at some (subst (λ (z : ℕ). IsPathBetween s.net at own z) closes split.1) (λ i j d l r.
           let before : i < m = omega (arith, l, r) in
           let below : j < m = omega (arith, r) in
           let inside : j < length trail = omega (arith, r) in
           rw (get_or-take m trail i d before, get_or-take m trail j d below) (h.distinct i j d l inside));
-      good = All-take (λ q. HasNoSpare net period t q × (get_or tops (from_of net q) 0 ≡ most)) m trail h.good;
+      good = All-take (IsGood s) m trail h.good;
     }

@@ -71,11 +71,3 @@ IsSettlingRefusal net limit (TooLarge transitions places) = ⊥
 IsSettlingRefusal net limit (Unworkable place) = ⊥
 IsSettlingRefusal net limit (TooLong l) = (limit ≡ Some l) × NetSettlesPast net l
 IsSettlingRefusal net limit OutOfMemory = ⊤
-
--- the search for a settled form of delayed dates and releases gives up for a limit that is given and that each form exceeds, or
--- for want of memory
-abbrev pub DelaysExceedLimit : NetLists → ℕ → Timetable → Option ℕ → DelayRefusal → Type 0
-DelaysExceedLimit net period t limit (TooLarge transitions places) = ⊥
-DelaysExceedLimit net period t limit (Unworkable place) = ⊥
-DelaysExceedLimit net period t limit (TooLong l) = (limit ≡ Some l) × DelaysSettlePast net period t l
-DelaysExceedLimit net period t limit OutOfMemory = ⊤

@@ -4,6 +4,7 @@ pub mod TimetableFiles
 pub mod TableFiles
 pub mod Departures
 pub mod Spreads
+pub mod PlannedNets
 pub mod DelaysByNumber
 pub mod ReleaseNetsBuilt
 pub mod WaysBack

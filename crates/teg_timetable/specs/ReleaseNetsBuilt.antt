@@ -13,8 +13,8 @@ use Rattle.teg_net.specs.Circuits.{place_at}
 use Rattle.teg_net.specs.Limits.{greatest_input_date}
 use Rattle.teg_net.specs.Names.{is_name}
 use Rattle.teg_net.specs.Nets.{NetLists}
-use Rattle.teg_timetable.specs.Spreads.{greatest_period, most_timetable_entries, most_timetable_transitions}
 use Rattle.teg_timetable.specs.DelaysByNumber.{most_releases}
+use Rattle.teg_timetable.specs.PlannedNets.{IsPlannedNet}
 
 -- a list of so many entries, of which the one at k is of its kind
 pub record AreBuilt {X : Type 0} (Is : ℕ → X → Type 0) (count : ℕ) (xs : List X) : Type 0 where
@@ -56,7 +56,4 @@ pub record IsNetMade (net : NetLists) (period : ℕ) (t : Timetable) (d : NetLis
   pub transitions : AreBuilt (IsDerivedTransition (length net.transitions)) (length net.transitions + length net.transitions) d.transitions
   pub places : AreBuilt (IsDerivedPlace net) (length net.places + length net.transitions) d.places
   pub lists : AreBuilt (IsDerivedList period t (length net.transitions)) (length net.transitions) d.inputs
-  pub few : length net.transitions ≤ most_timetable_transitions
-  pub fits : length net.transitions + length net.places ≤ most_timetable_entries
-  pub some : 1 ≤ period
-  pub period_in : period ≤ greatest_period
+  pub planned : IsPlannedNet net period t

@@ -1,28 +1,48 @@
 //! The circuit along which the greatest delay is passed on.
 ghost use Rattle.std.specs.Prelude.{◌≡◌, ◌≢◌, ◌≤◌, ◌<◌, true, false, length, None, Some, IfOk, slice_index, slice_index_or};
 ghost use Rattle.delay_laws.specs.DelayOutcomes.{HasNoSpare};
-ghost use Rattle.delay_laws.specs.PlannedTimetables.{IsTableOf};
 ghost use Rattle.teg_net.specs.Circuits.{from_of, IsCircuit, BeginsLowest};
 ghost use Rattle.teg_net.specs.Parts.{to_of};
-ghost use Rattle.teg_timetable.specs.Spreads.{greatest_period};
-ghost use Rattle.teg_timetable.specs.WaysBack.{AreFeeders, AreGood, FeedersGoBack, FeedsAt, IsFedCircuit};
+ghost use Rattle.teg_timetable.specs.WaysBack.{AreFeeders, AreGood, FeedersGoBack, FeedsAt, IsFedCircuit, greatest_top, top_delays};
 
-use delay_laws::Timetable;
+use crate::planned::Planned;
 use std::alloc::{AllocError, Global};
+use std::marker::Model;
 use teg_net::{Circuit, Net, PlaceId};
 
+// A delay that is kept: for each transition of a net with a timetable the greatest delay that is
+// left in each period, and a transition that has the greatest of them.
+#[derive(Drop)]
+pub(crate) struct KeptDelay<'a> {
+    planned: &'a Planned<'a>,
+    tops: &'a [u64],
+    start: usize,
+}
+
+impl<'a> Model for KeptDelay<'a> {
+    ghost use Rattle.teg_timetable.specs.WaysBack.{AreTopDelays, TopDelays, top_delays};
+
+    ghost Value = { TopDelays };
+
+    ghost view = { λ d. top_delays d.planned.now.net.now d.planned.now.period
+        d.planned.now.table.now d.tops.now d.start };
+
+    ghost invariant = { λ d. AreTopDelays (top_delays d.planned.now.net.now d.planned.now.period
+        d.planned.now.table.now d.tops.now d.start) };
+}
+
 // Whether the plan leaves the place just the time that it takes.
-fn has_no_spare(net: &Net, period: u64, table: &Timetable, id: PlaceId) -> bool
-    requires period { period ≤ greatest_period }
-    requires table { IsTableOf net.now table.now }
-    requires place { id.index < length net.now.places }
-    ensures yes { result ≡ true → HasNoSpare net.now period table.now id }
-    ensures no { result ≡ false → HasNoSpare net.now period table.now id → ⊥ }
+fn has_no_spare(planned: &Planned<'_>, id: PlaceId) -> bool
+    requires { id.index < length planned.now.net.now.places }
+    ensures yes { result ≡ true → HasNoSpare planned.now.net.now planned.now.period
+        planned.now.table.now id }
+    ensures no { result ≡ false → HasNoSpare planned.now.net.now planned.now.period
+        planned.now.table.now id → ⊥ }
 {
-    let place = &net.places()[id.index as usize];
-    let from = table.firsts[place.from.index as usize];
-    let to = table.firsts[place.to.index as usize];
-    from + place.hold == to + period * u64::from(place.tokens)
+    let place = &planned.net.places()[id.index as usize];
+    let from = planned.table.firsts[place.from.index as usize];
+    let to = planned.table.firsts[place.to.index as usize];
+    from + place.hold == to + planned.period * u64::from(place.tokens)
 }
 
 // The numbers of the transitions that the place leaves and enters.
@@ -37,47 +57,6 @@ fn ends(net: &Net, id: PlaceId) -> (usize, usize)
     (place.from.index as usize, place.to.index as usize)
 }
 
-// Whether both ends of the place have this greatest delay, and the place has no spare time.
-fn feeds(net: &Net, period: u64, table: &Timetable, tops: &[u64], most: u64, id: PlaceId) -> bool
-    requires period { period ≤ greatest_period }
-    requires table { IsTableOf net.now table.now }
-    requires count { length tops.now ≡ length net.now.transitions }
-    requires place { id.index < length net.now.places }
-    ensures yes { result ≡ true → FeedsAt net.now period table.now tops.now most id }
-    ensures no { result ≡ false → FeedsAt net.now period table.now tops.now most id → ⊥ }
-{
-    let (from, to) = ends(net, id);
-    tops[from] == most && tops[to] == most && has_no_spare(net, period, table, id)
-}
-
-// For each transition with this greatest delay a place without spare time that leads to it from
-// another one, where there is one.
-pub(crate) fn feeders(
-    alloc: Global,
-    net: &Net,
-    period: u64,
-    table: &Timetable,
-    tops: &[u64],
-    most: u64,
-) -> Result<Vec<Option<PlaceId>>, AllocError>
-    requires period { period ≤ greatest_period }
-    requires table { IsTableOf net.now table.now }
-    requires count { length tops.now ≡ length net.now.transitions }
-    ensures { IfOk result (λ feeders. AreFeeders net.now period table.now tops.now most
-        (length net.now.places) feeders.items) }
-{
-    let mut feeders = vec![in alloc; None; tops.len()]?;
-    for index in 0..net.places().len() {
-        let id = PlaceId {
-            index: index as u32,
-        };
-        if feeds(net, period, table, tops, most, id) {
-            feeders[ends(net, id).1] = Some(id);
-        }
-    }
-    Ok(feeders)
-}
-
 // The feeder that is there.
 fn feeder_at(feeders: &[Option<PlaceId>], at: usize) -> PlaceId
     requires { slice_index_or feeders.now at None ≢ None }
@@ -86,59 +65,95 @@ fn feeder_at(feeders: &[Option<PlaceId>], at: usize) -> PlaceId
     feeders[at].unwrap()
 }
 
-// A circuit of feeders: they are followed back from a transition until a transition comes again.
-fn fed_circuit(
-    alloc: Global,
-    net: &Net,
-    _period: u64,
-    _table: &Timetable,
-    tops: &[u64],
-    most: u64,
-    feeders: &[Option<PlaceId>],
-    from: usize,
-) -> Result<Vec<PlaceId>, AllocError>
-    requires count { length feeders.now ≡ length net.now.transitions }
-    requires starts { from < length net.now.transitions }
-    requires most { slice_index tops.now from ≡ most }
-    requires back { FeedersGoBack net.now _period _table.now tops.now most feeders.now }
-    ensures { IfOk result (λ ps. IsFedCircuit net.now _period _table.now tops.now most ps.items) }
-{
-    let mut left: Vec<Option<usize>> = vec![in alloc; None; feeders.len()]?;
-    let mut trail = Vec::new(alloc);
-    let mut at = from;
-    'walk: while left[at].is_none() {
-        left[at] = Some(trail.len());
-        let feeder = feeder_at(feeders, at);
-        trail.insert(0, feeder)?;
-        at = ends(net, feeder).0;
+impl<'a> KeptDelay<'a> {
+    // The delay of the transition `start`, of these greatest delays.
+    pub(crate) fn new(planned: &'a Planned<'a>, tops: &'a [u64], start: usize) -> KeptDelay<'a>
+        requires count { length tops.now ≡ length planned.now.net.now.transitions }
+        requires start { start < length tops.now }
+        ensures { result ≡ top_delays planned.now.net.now planned.now.period planned.now.table.now
+            tops.now start }
+    {
+        KeptDelay {
+            planned,
+            tops,
+            start,
+        }
     }
-    let first = left[at].unwrap();
-    trail.truncate(trail.len() - first);
-    Ok(trail)
-}
 
-// The same, told from its lowest numbered transition on.
-pub(crate) fn circuit_back(
-    alloc: Global,
-    net: &Net,
-    period: u64,
-    table: &Timetable,
-    tops: &[u64],
-    most: u64,
-    feeders: &[Option<PlaceId>],
-    from: usize,
-) -> Result<Circuit, AllocError>
-    requires count { length feeders.now ≡ length net.now.transitions }
-    requires starts { from < length net.now.transitions }
-    requires most { slice_index tops.now from ≡ most }
-    requires back { FeedersGoBack net.now period table.now tops.now most feeders.now }
-    ensures circuit { IfOk result (λ c. IsCircuit net.now c.places.items) }
-    ensures lowest { IfOk result (λ c. BeginsLowest net.now c.places.items) }
-    ensures good { IfOk result (λ c. AreGood net.now period table.now tops.now most
-        c.places.items) }
-{
-    let places = fed_circuit(alloc, net, period, table, tops, most, feeders, from)?;
-    let mut circuit = Circuit { places };
-    circuit.begin_lowest(net);
-    Ok(circuit)
+    // The delay that is kept.
+    pub(crate) fn most(&self) -> u64
+        ensures { result ≡ greatest_top self.now }
+    {
+        self.tops[self.start]
+    }
+
+    // Whether both ends of the place have the delay that is kept, and it has no spare time.
+    fn feeds(&self, id: PlaceId) -> bool
+        requires { id.index < length self.now.net.places }
+        ensures yes { result ≡ true → FeedsAt self.now id }
+        ensures no { result ≡ false → FeedsAt self.now id → ⊥ }
+    {
+        let (from, to) = ends(self.planned.net, id);
+        let most = self.most();
+        self.tops[from] == most && self.tops[to] == most && has_no_spare(self.planned, id)
+    }
+
+    // For each transition with that delay a place without spare time that leads to it from another
+    // one, where there is one.
+    pub(crate) fn feeders(&self, alloc: Global) -> Result<Vec<Option<PlaceId>>, AllocError>
+        ensures { IfOk result (λ feeders. AreFeeders self.now (length self.now.net.places)
+            feeders.items) }
+    {
+        let net = self.planned.net;
+        let mut feeders = vec![in alloc; None; self.tops.len()]?;
+        for index in 0..net.places().len() {
+            let id = PlaceId {
+                index: index as u32,
+            };
+            if self.feeds(id) {
+                feeders[ends(net, id).1] = Some(id);
+            }
+        }
+        Ok(feeders)
+    }
+
+    // A circuit of feeders: they are followed back from `start` until a transition comes again.
+    fn fed_circuit(
+        &self,
+        alloc: Global,
+        feeders: &[Option<PlaceId>],
+    ) -> Result<Vec<PlaceId>, AllocError>
+        requires { FeedersGoBack self.now feeders.now }
+        ensures { IfOk result (λ ps. IsFedCircuit self.now ps.items) }
+    {
+        let mut left: Vec<Option<usize>> = vec![in alloc; None; feeders.len()]?;
+        let mut trail = Vec::new(alloc);
+        let mut at = self.start;
+        'walk: while left[at].is_none() {
+            left[at] = Some(trail.len());
+            let feeder = feeder_at(feeders, at);
+            trail.insert(0, feeder)?;
+            at = ends(self.planned.net, feeder).0;
+        }
+        let first = left[at].unwrap();
+        trail.truncate(trail.len() - first);
+        Ok(trail)
+    }
+
+    // The same, told from its lowest numbered transition on.
+    pub(crate) fn circuit(
+        &self,
+        alloc: Global,
+        feeders: &[Option<PlaceId>],
+    ) -> Result<Circuit, AllocError>
+        requires { FeedersGoBack self.now feeders.now }
+        ensures circuit { IfOk result (λ c. IsCircuit self.now.net c.places.items) }
+        ensures lowest { IfOk result (λ c. BeginsLowest self.now.net c.places.items) }
+        ensures good { IfOk result (λ c. AreGood self.now c.places.items) }
+    {
+        let places = self.fed_circuit(alloc, feeders)?;
+        let mut circuit = Circuit { places };
+        circuit.begin_lowest(self.planned.net);
+        Ok(circuit)
+    }
 }

@@ -2,14 +2,14 @@
 //! own, whose list has the releases.
 ghost use Rattle.std.specs.Prelude.{◌≡◌, ◌≤◌, ◌<◌, ◌+◌, length, IfOk};
 ghost use Rattle.delay_laws.specs.ReleaseNets.{IsReleaseNet};
-ghost use Rattle.delay_laws.specs.PlannedTimetables.{first_planned, greatest_departure, IsTableOf};
+ghost use Rattle.delay_laws.specs.SettlingLaws.{TellsDelays};
+ghost use Rattle.teg_net.specs.Circuits.{IsLive};
 ghost use Rattle.teg_net.specs.Nets.{IsNet, lists_of};
-ghost use Rattle.teg_timetable.specs.Spreads.{greatest_period, most_timetable_entries, most_timetable_transitions};
-ghost use Rattle.teg_timetable.specs.DelaysByNumber.{AreDelaysSmall};
+ghost use Rattle.teg_timetable.specs.Spreads.{most_timetable_transitions};
 ghost use Rattle.teg_timetable.specs.ReleaseNetsBuilt.{AreBuilt, IsDerivedList, IsDerivedPlace, IsDerivedTransition, IsNetMade, IsNumberName};
 
+use crate::planned::Planned;
 use crate::releases::{number_past, releases};
-use delay_laws::Timetable;
 use std::alloc::{AllocError, Global};
 use teg_net::{
     Again, DateList, InputList, Name, Net, OutOfMemory, Place, Role, Transition, TransitionId,
@@ -113,24 +113,14 @@ fn places(alloc: Global, net: &Net) -> Result<Vec<Place>, AllocError>
 }
 
 // The list of the input of this transition.
-fn list(
-    alloc: Global,
-    period: u64,
-    table: &Timetable,
-    count: usize,
-    transition: u32,
-) -> Result<InputList, AllocError>
-    requires some { 1 ≤ period }
-    requires period { period ≤ greatest_period }
-    requires small { AreDelaysSmall table.now }
-    requires few { count ≤ most_timetable_transitions }
-    requires transition { transition < count }
-    requires firsts { length table.now.firsts.items ≡ count }
-    requires first { first_planned table.now transition ≤ greatest_departure }
-    ensures { IfOk result (IsDerivedList period table.now count transition) }
+fn list(alloc: Global, planned: &Planned<'_>, transition: u32) -> Result<InputList, AllocError>
+    requires { transition < length planned.now.net.now.transitions }
+    ensures { IfOk result (IsDerivedList planned.now.period planned.now.table.now
+        (length planned.now.net.now.transitions) transition) }
 {
-    let last = number_past(period, table, transition);
-    let dates = releases(alloc, period, table, transition, last as usize)?;
+    let count = planned.net.transitions().len();
+    let last = number_past(planned, transition);
+    let dates = releases(alloc, planned, transition, last as usize)?;
     Ok(InputList {
         transition: TransitionId {
             index: count as u32 + transition,
@@ -138,29 +128,20 @@ fn list(
         dates: DateList::new(dates),
         again: Some(Again {
             every: 1,
-            gap: period,
+            gap: planned.period,
         }),
     })
 }
 
 // The list of each input.
-fn lists(
-    alloc: Global,
-    net: &Net,
-    period: u64,
-    table: &Timetable,
-) -> Result<Vec<InputList>, AllocError>
-    requires some { 1 ≤ period }
-    requires period { period ≤ greatest_period }
-    requires table { IsTableOf net.now table.now }
-    requires few { length net.now.transitions ≤ most_timetable_transitions }
-    ensures { IfOk result (λ lists. AreBuilt (IsDerivedList period table.now
-        (length net.now.transitions)) (length net.now.transitions) lists.items) }
+fn lists(alloc: Global, planned: &Planned<'_>) -> Result<Vec<InputList>, AllocError>
+    ensures { IfOk result (λ lists. AreBuilt (IsDerivedList planned.now.period planned.now.table.now
+        (length planned.now.net.now.transitions)) (length planned.now.net.now.transitions)
+        lists.items) }
 {
-    let count = net.transitions().len();
     let mut lists = Vec::new(alloc);
-    for index in 0..count {
-        let made = list(alloc, period, table, count, index as u32)?;
+    for index in 0..planned.net.transitions().len() {
+        let made = list(alloc, planned, index as u32)?;
         lists.push(made)?;
     }
     Ok(lists)
@@ -168,40 +149,30 @@ fn lists(
 
 // The net of these lists.
 fn net_of(
-    _net: &Net,
-    _period: u64,
-    _table: &Timetable,
+    _planned: &Planned<'_>,
     transitions: Vec<Transition>,
     places: Vec<Place>,
     lists: Vec<InputList>,
 ) -> Net
-    requires rules { IsNet _net.now }
-    requires made { IsNetMade _net.now _period _table.now (lists_of transitions.items places.items
-        lists.items) }
-    ensures derived { IsReleaseNet _net.now _period _table.now result }
+    requires rules { IsNet _planned.now.net.now }
+    requires made { IsNetMade _planned.now.net.now _planned.now.period _planned.now.table.now
+        (lists_of transitions.items places.items lists.items) }
+    ensures derived { IsReleaseNet _planned.now.net.now _planned.now.period _planned.now.table.now
+        result }
     ensures rules { IsNet result }
 {
     Net::new(transitions, places, lists)
 }
 
 // The net with an input for each transition, whose list has the releases of its departures.
-pub(crate) fn derived(
-    alloc: Global,
-    net: &Net,
-    period: u64,
-    table: &Timetable,
-) -> Result<Net, OutOfMemory>
-    requires some { 1 ≤ period }
-    requires period { period ≤ greatest_period }
-    requires table { IsTableOf net.now table.now }
-    requires few { length net.now.transitions ≤ most_timetable_transitions }
-    requires fits { length net.now.transitions + length net.now.places
-        ≤ most_timetable_entries }
-    ensures derived { IfOk result (IsReleaseNet net.now period table.now) }
-    ensures rules { IfOk result IsNet }
+pub(crate) fn derived(alloc: Global, planned: &Planned<'_>) -> Result<Net, OutOfMemory>
+    requires { IsNet planned.now.net.now }
+    ensures live { IfOk result IsLive }
+    ensures tells { IfOk result (TellsDelays planned.now.net.now planned.now.period
+        planned.now.table.now) }
 {
-    let transitions = transitions(alloc, net.transitions().len())?;
-    let places = places(alloc, net)?;
-    let lists = lists(alloc, net, period, table)?;
-    Ok(net_of(net, period, table, transitions, places, lists))
+    let transitions = transitions(alloc, planned.net.transitions().len())?;
+    let places = places(alloc, planned.net)?;
+    let lists = lists(alloc, planned)?;
+    Ok(net_of(planned, transitions, places, lists))
 }

@@ -22,6 +22,7 @@ mod entries;
 mod late;
 mod left;
 mod outcomes;
+mod planned;
 mod reading;
 mod refusals;
 mod releases;

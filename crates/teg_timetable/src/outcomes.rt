@@ -1,48 +1,54 @@
 //! What becomes of delays: they die out, or a circuit without spare time keeps them.
-ghost use Rattle.std.specs.Prelude.{◌≡◌, ◌≤◌, length, IfOk};
+ghost use Rattle.std.specs.Prelude.{◌≡◌, length, IfOk};
 ghost use Rattle.delay_laws.specs.SettlingLaws.{AreSettledDelays};
-ghost use Rattle.delay_laws.specs.PlannedTimetables.{IsTableOf, IsWorkable};
-ghost use Rattle.teg_net.specs.Circuits.{IsLive};
 ghost use Rattle.teg_net.specs.Nets.{IsNet};
 ghost use Rattle.teg_timetable.specs.DelayAnswers.{IsRightOutcome};
-ghost use Rattle.teg_timetable.specs.Spreads.{greatest_period, delay_left, outcome_told};
+ghost use Rattle.teg_timetable.specs.Spreads.{delay_left, outcome_told};
+ghost use Rattle.teg_timetable.specs.WaysBack.{AreTopsOf};
 
-use crate::circuits::{circuit_back, feeders};
+use crate::circuits::KeptDelay;
 use crate::late::{highest, last_late, tops};
 use crate::left::Left;
-use delay_laws::{Outcome, Timetable};
+use crate::planned::Planned;
+use delay_laws::Outcome;
 use std::alloc::Global;
-use teg_net::{Net, OutOfMemory};
+use teg_net::OutOfMemory;
 
-// What becomes of the delays of a timetable that the net can keep.
-pub(crate) fn outcome(
-    alloc: Global,
-    net: &Net,
-    period: u64,
-    table: &Timetable,
-    left: &Left,
-) -> Result<Outcome, OutOfMemory>
-    requires rules { IsNet net.now }
-    requires live { IsLive net.now }
-    requires some { 1 ≤ period }
-    requires period { period ≤ greatest_period }
-    requires table { IsTableOf net.now table.now }
-    requires workable { IsWorkable net.now period table.now }
-    requires width { length left.now.firsts ≡ length net.now.transitions }
-    requires settled { AreSettledDelays net.now period table.now (delay_left left.now)
-        left.now.form.after left.now.form.period }
-    ensures { IfOk result (λ outcome. IsRightOutcome net.now period (delay_left left.now)
-        (outcome_told outcome)) }
+// What becomes of delays of which these are the greatest.
+fn outcome_by(alloc: Global, kept: &KeptDelay<'_>, left: &Left) -> Result<Outcome, OutOfMemory>
+    requires rules { IsNet kept.now.net }
+    requires tops { AreTopsOf left.now kept.now }
+    requires width { length left.now.firsts ≡ length kept.now.net.transitions }
+    requires settled { AreSettledDelays kept.now.net kept.now.period kept.now.table
+        (delay_left left.now) left.now.form.after left.now.form.period }
+    ensures { IfOk result (λ outcome. IsRightOutcome kept.now.net kept.now.period
+        (delay_left left.now) (outcome_told outcome)) }
 {
-    let tops = tops(alloc, left)?;
-    let start = highest(&tops);
-    let most = tops[start];
-    if most == 0 {
+    if kept.most() == 0 {
         return Ok(Outcome::Recovered {
             after: last_late(left),
         });
     }
-    let feeders = feeders(alloc, net, period, table, &tops, most)?;
-    let circuit = circuit_back(alloc, net, period, table, &tops, most, &feeders, start)?;
+    let feeders = kept.feeders(alloc)?;
+    let circuit = kept.circuit(alloc, &feeders)?;
     Ok(Outcome::Kept { circuit })
+}
+
+// What becomes of the delays of a timetable that the net can keep.
+pub(crate) fn outcome(
+    alloc: Global,
+    planned: &Planned<'_>,
+    left: &Left,
+) -> Result<Outcome, OutOfMemory>
+    requires rules { IsNet planned.now.net.now }
+    requires width { length left.now.firsts ≡ length planned.now.net.now.transitions }
+    requires settled { AreSettledDelays planned.now.net.now planned.now.period planned.now.table.now
+        (delay_left left.now) left.now.form.after left.now.form.period }
+    ensures { IfOk result (λ outcome. IsRightOutcome planned.now.net.now planned.now.period
+        (delay_left left.now) (outcome_told outcome)) }
+{
+    let tops = tops(alloc, left)?;
+    let start = highest(&tops);
+    let kept = KeptDelay::new(planned, &tops, start);
+    outcome_by(alloc, &kept, left)
 }

@@ -1,54 +1,48 @@
 //! The releases of a transition: its planned departures with their delays, none before an earlier
 //! one.
 ghost use Rattle.std.specs.Prelude.{ℕ, ◌≡◌, ◌≤◌, ◌<◌, ◌+◌, ◌*◌, ◌∷◌, [], None, length, IfOk, slice_index_or};
-ghost use Rattle.delay_laws.specs.PlannedTimetables.{IsPastDelays, first_planned, greatest_delay, greatest_departure};
+ghost use Rattle.delay_laws.specs.PlannedTimetables.{IsDelayOf, IsPastDelays, greatest_delay};
 ghost use Rattle.teg_timetable.specs.Departures.{or_second};
-ghost use Rattle.teg_timetable.specs.Spreads.{greatest_period};
-ghost use Rattle.teg_timetable.specs.DelaysByNumber.{AreDelaysSmall, IsSmall, given_in, most_releases};
+ghost use Rattle.teg_timetable.specs.DelaysByNumber.{given_in, most_releases};
 ghost use Rattle.teg_timetable.specs.ReleaseNetsBuilt.{AreBuilt, ArePlannedReleases};
 
+use crate::planned::Planned;
 use delay_laws::{Delay, Timetable};
 use std::alloc::{AllocError, Global};
 
 // How many periods are as long as the delay.
-fn periods_for(by: u64, period: u64) -> u64
-    requires some { 1 ≤ period }
-    requires period { period ≤ greatest_period }
-    requires by { by ≤ greatest_delay }
-    ensures enough { by ≤ period * result }
+fn periods_for(planned: &Planned<'_>, by: u64) -> u64
+    requires { by ≤ greatest_delay }
+    ensures enough { by ≤ planned.now.period * result }
     ensures few { result ≤ by }
 {
-    (by + period - 1) / period
+    (by + planned.period - 1) / planned.period
 }
 
 // A number that is past this delay too.
-fn past_delay(period: u64, last: u64, delay: &Delay) -> u64
-    requires some { 1 ≤ period }
-    requires period { period ≤ greatest_period }
-    requires small { IsSmall delay.now }
+fn past_delay(planned: &Planned<'_>, last: u64, delay: &Delay) -> u64
+    requires delay { IsDelayOf planned.now.net.now delay.now }
     requires few { last ≤ most_releases }
     ensures rises { last ≤ result }
     ensures few { result ≤ most_releases }
-    ensures past { period * delay.now.number + delay.now.by ≤ period * result }
+    ensures past { planned.now.period * delay.now.number + delay.now.by
+        ≤ planned.now.period * result }
 {
-    let own = u64::from(delay.number) + periods_for(delay.by, period);
+    let own = u64::from(delay.number) + periods_for(planned, delay.by);
     own.max(last)
 }
 
 // A number at which the departures of the transition are past its delays: from there on they are
 // released as they are planned.
-pub(crate) fn number_past(period: u64, table: &Timetable, transition: u32) -> u64
-    requires some { 1 ≤ period }
-    requires period { period ≤ greatest_period }
-    requires small { AreDelaysSmall table.now }
+pub(crate) fn number_past(planned: &Planned<'_>, transition: u32) -> u64
     ensures some { 1 ≤ result }
     ensures few { result ≤ most_releases }
-    ensures past { IsPastDelays period table.now transition result }
+    ensures past { IsPastDelays planned.now.period planned.now.table.now transition result }
 {
     let mut last = 1;
-    for delay in &table.delays {
+    for delay in &planned.table.delays {
         if delay.transition.index == transition {
-            last = past_delay(period, last, delay);
+            last = past_delay(planned, last, delay);
         }
     }
     last
@@ -89,26 +83,22 @@ fn given(
 // The releases of the first `count` departures of the transition.
 pub(crate) fn releases(
     alloc: Global,
-    period: u64,
-    table: &Timetable,
+    planned: &Planned<'_>,
     transition: u32,
     count: usize,
 ) -> Result<Vec<u64>, AllocError>
-    requires period { period ≤ greatest_period }
-    requires small { AreDelaysSmall table.now }
-    requires transition { transition < length table.now.firsts.items }
-    requires first { first_planned table.now transition ≤ greatest_departure }
+    requires transition { transition < length planned.now.net.now.transitions }
     requires few { count ≤ most_releases }
-    ensures { IfOk result (λ dates. ArePlannedReleases period table.now transition count
-        dates.items) }
+    ensures { IfOk result (λ dates. ArePlannedReleases planned.now.period planned.now.table.now
+        transition count dates.items) }
 {
-    let given = given(alloc, table, transition, count)?;
-    let first = table.firsts[transition as usize];
+    let given = given(alloc, planned.table, transition, count)?;
+    let first = planned.table.firsts[transition as usize];
     let mut dates = Vec::new(alloc);
     let mut latest = 0;
     for index in 0..count {
         let by = given[index].unwrap_or(0);
-        let date = first + period * (index as u64) + by;
+        let date = first + planned.period * (index as u64) + by;
         latest = date.max(latest);
         dates.push(latest)?;
     }

@@ -1,19 +1,20 @@
 //! How the delays of a timetable spread, or why they are not followed.
-ghost use Rattle.std.specs.Prelude.{◌≡◌, ◌≤◌, ◌+◌, length, Some, IfOk, IfErr, IfSome};
-ghost use Rattle.delay_laws.specs.PlannedTimetables.{IsTableOf, IsWorkable};
+ghost use Rattle.std.specs.Prelude.{◌≡◌, ◌≤◌, Some, IfOk, IfErr, IfSome};
+ghost use Rattle.delay_laws.specs.PlannedTimetables.{IsTableOf};
 ghost use Rattle.delay_laws.specs.Delays.{IsFormOfDelays};
 ghost use Rattle.teg_settle.specs.settled_laws.SettledForms.{IsSettledFormOf, settled_length};
 ghost use Rattle.teg_check.specs.Ranks.{IsRanking};
 ghost use Rattle.teg_net.specs.Circuits.{IsLive};
 ghost use Rattle.teg_net.specs.Nets.{IsNet};
 ghost use Rattle.teg_settle.specs.LimitRefusals.{greatest_limit};
-ghost use Rattle.teg_timetable.specs.DelayAnswers.{DelaysExceedLimit, IsDelayRefusal, IsOutcomeIn, IsSettlingRefusal, IsSpread, IsLengthWithinLimit};
-ghost use Rattle.teg_timetable.specs.Spreads.{greatest_period, most_timetable_entries, most_timetable_transitions};
+ghost use Rattle.teg_timetable.specs.DelayAnswers.{IsDelayRefusal, IsOutcomeIn, IsSettlingRefusal, IsSpread, IsLengthWithinLimit};
+ghost use Rattle.teg_timetable.specs.Spreads.{greatest_period};
 
 use crate::delayed::Delayed;
 use crate::derived::derived;
 use crate::left::Left;
 use crate::outcomes::outcome;
+use crate::planned::Planned;
 use crate::refusals::DelayRefusal;
 use crate::workable::first_unworkable;
 use delay_laws::Timetable;
@@ -71,35 +72,42 @@ fn firsts_of(alloc: Global, table: &Timetable) -> Result<Vec<u64>, OutOfMemory>
 }
 
 // The delays that are left, by the settled form of the net with the releases as inputs.
-fn left_by(
-    alloc: Global,
-    net: &Net,
-    period: u64,
-    table: &Timetable,
-    limit: Option<u32>,
-) -> Result<Left, DelayRefusal>
-    requires rules { IsNet net.now }
-    requires live { IsLive net.now }
-    requires some { 1 ≤ period }
-    requires period { period ≤ greatest_period }
-    requires table { IsTableOf net.now table.now }
+fn left_by(alloc: Global, planned: &Planned<'_>, limit: Option<u32>) -> Result<Left, DelayRefusal>
+    requires rules { IsNet planned.now.net.now }
     requires limit { IfSome limit (λ l. l ≤ greatest_limit) }
-    requires few { length net.now.transitions ≤ most_timetable_transitions }
-    requires fits { length net.now.transitions + length net.now.places
-        ≤ most_timetable_entries }
-    requires workable { IsWorkable net.now period table.now }
-    ensures firsts { IfOk result (λ left. left.firsts ≡ table.now.firsts.items) }
-    ensures every { IfOk result (λ left. left.every ≡ period) }
-    ensures form { IfOk result (λ left. IsFormOfDelays net.now period table.now left.form) }
+    ensures firsts { IfOk result (λ left. left.firsts ≡ planned.now.table.now.firsts.items) }
+    ensures every { IfOk result (λ left. left.every ≡ planned.now.period) }
+    ensures form { IfOk result (λ left. IsFormOfDelays planned.now.net.now planned.now.period
+        planned.now.table.now left.form) }
     ensures within { IfOk result (λ left. IsLengthWithinLimit limit (settled_length left.form)) }
-    ensures refused { IfErr result (DelaysExceedLimit net.now period table.now limit) }
+    ensures refused { IfErr result (IsDelayRefusal planned.now.net.now planned.now.period
+        planned.now.table.now limit) }
 {
-    let derived = derived(alloc, net, period, table)?;
+    let derived = derived(alloc, planned)?;
     let settled = settled_in(alloc, &derived, limit)?;
-    let firsts = firsts_of(alloc, table)?;
+    let firsts = firsts_of(alloc, planned.table)?;
     // That the form is short, and its period at least 1.
     settled.period();
-    Ok(Left::new(firsts, period, settled))
+    Ok(Left::new(firsts, planned.period, settled))
+}
+
+// How the delays of a timetable spread that the net can keep.
+fn followed(
+    alloc: Global,
+    planned: &Planned<'_>,
+    limit: Option<u32>,
+) -> Result<Delayed, DelayRefusal>
+    requires rules { IsNet planned.now.net.now }
+    requires limit { IfSome limit (λ l. l ≤ greatest_limit) }
+    ensures spread { IfOk result (IsSpread planned.now.net.now planned.now.period
+        planned.now.table.now limit) }
+    ensures about { IfOk result (λ delayed. IsOutcomeIn planned.now.net.now delayed.outcome) }
+    ensures refused { IfErr result (IsDelayRefusal planned.now.net.now planned.now.period
+        planned.now.table.now limit) }
+{
+    let left = left_by(alloc, planned, limit)?;
+    let outcome = outcome(alloc, planned, &left)?;
+    Ok(Delayed::new(left, outcome))
 }
 
 /// How the delays of a timetable spread through a live net that departs again every `period`
@@ -145,7 +153,6 @@ pub fn spread(
     if let Some(place) = first_unworkable(net, period, table) {
         return Err(DelayRefusal::Unworkable { place });
     }
-    let left = left_by(alloc, net, period, table, limit)?;
-    let outcome = outcome(alloc, net, period, table, &left)?;
-    Ok(Delayed::new(left, outcome))
+    let planned = Planned { net, period, table };
+    followed(alloc, &planned, limit)
 }

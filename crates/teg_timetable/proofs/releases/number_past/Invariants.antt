@@ -7,6 +7,6 @@ abbrev pub invariant-loop-delay : goal.invariant-loop-delay
 invariant-loop-delay l = record {
   some : 1 ≤ l.last;
   few : l.last ≤ most_releases;
-  past : (k : ℕ) (d : Delay) → k < l.delay-index → (get_or l.table.delays.items k d).transition.index ≡ l.transition
-      → l.period * (get_or l.table.delays.items k d).number + (get_or l.table.delays.items k d).by ≤ l.period * l.last;
+  past : (k : ℕ) (d : Delay) → k < l.delay-index → (get_or l.planned.table.now.delays.items k d).transition.index ≡ l.transition
+      → l.planned.period * (get_or l.planned.table.now.delays.items k d).number + (get_or l.planned.table.now.delays.items k d).by ≤ l.planned.period * l.last;
 }

@@ -6,8 +6,8 @@ use Rattle.teg_timetable.proofs.releases.releases.Given as goal
 
 abbrev pub invariant-loop-index : goal.invariant-loop-index
 invariant-loop-index l = record {
-  dates : ArePlannedReleases l.period l.table l.transition l.index l.dates.items;
+  dates : ArePlannedReleases l.planned.period l.planned.table.now l.transition l.index l.dates.items;
   none : l.index ≡ 0 → l.latest ≡ 0;
-  latest : 1 ≤ l.index → IsReleaseAt l.period l.table l.transition l.index l.latest;
+  latest : 1 ≤ l.index → IsReleaseAt l.planned.period l.planned.table.now l.transition l.index l.latest;
   small : l.latest ≤ greatest_input_date;
 }
