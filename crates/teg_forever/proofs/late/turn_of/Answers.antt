@@ -1,4 +1,4 @@
-use Rattle.std.proofs.Common.{◌≡◌, ◌≤◌, ◌*◌, ◌/◌, refl, arith}
+use Rattle.std.proofs.Common.{◌≤◌, ◌*◌, ◌/◌, refl, arith}
 use Rattle.std.proofs.lemmas.Nat.{div-add-mod', mul-le}
 use Rattle.teg_forever.proofs.Cycles.{rises_times}
 use Rattle.teg_forever.proofs.late.turn_of.Goals as goal

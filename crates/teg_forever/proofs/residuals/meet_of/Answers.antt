@@ -8,14 +8,16 @@ pub returns-in_err-meet-clause-stopped : goal.returns-in_err-meet-clause-stopped
 returns-in_err-meet-clause-stopped c =
     let p = err_from_is_err_and c.from_residual.result c.from_residual.ensures.1 in
     rw (p.1, p.2)
-    (stopped_at c.args.asked.now c.rows-count.ensures.asked c.columns_exist.ensures 0 c.requires.some (λ walks dues columns j l. absurd (omega arith)) c.in_err-meet.field-0.0 c.in_err-meet.ensures.refused)
+    (stopped_at c.args.asked.now c.rows-count.ensures.asked c.columns_exist.ensures 0 c.requires.some
+    (λ walks dues columns j l. absurd (omega arith)) c.in_err-meet.field-0.0 c.in_err-meet.ensures.refused)
 
 pub returns-in_err-meet-2-clause-stopped : goal.returns-in_err-meet-2-clause-stopped
 returns-in_err-meet-2-clause-stopped c =
     let p = err_from_is_err_and c.from_residual-in_err-meet-2.result c.from_residual-in_err-meet-2.ensures.1 in
     let within = rw c.rows-count.ensures.value at c.loop-place-test.true in
     rw (p.1, p.2)
-    (stopped_at c.args.asked.now c.rows-count.ensures.asked c.columns_exist.ensures c.loop-place.place within (λ walks dues columns. (c.loop-place.invariant.meet.over walks dues columns).fit) c.in_err-meet-2.field-0.0 c.in_err-meet-2.ensures.refused)
+    (stopped_at c.args.asked.now c.rows-count.ensures.asked c.columns_exist.ensures c.loop-place.place within
+    (λ walks dues columns. (c.loop-place.invariant.meet.over walks dues columns).fit) c.in_err-meet-2.field-0.0 c.in_err-meet-2.ensures.refused)
 
 pub returns-clause-meet : goal.returns-clause-meet
 returns-clause-meet c =
