@@ -7,15 +7,16 @@ use Rattle.dioid.specs.declared.dates.Date.TheVariants.{Early, At}
 use Rattle.teg_net.specs.Nets.{NetLists, IsNet, without_inputs}
 use Rattle.teg_net.specs.Circuits.{IsLive}
 use Rattle.forever_laws.specs.teg_model.Datings.{IsLeastUnder}
-use Rattle.forever_laws.specs.due_laws.MeetingDueDates.{InputsMeet, inputs_at_zero}
+use Rattle.forever_laws.specs.due_laws.MeetingDueDates.{inputs_at_zero}
 use Rattle.teg_dates.specs.Streams.{IsLeastRow}
 use Rattle.forever_laws.specs.declared.rows.EndlessRow.{EndlessRow}
-use Rattle.forever_laws.specs.EndlessRows.{row_due, due_on, IsEndlessRow, IsEndlessOf}
+use Rattle.forever_laws.specs.EndlessRows.{row_due, IsEndlessRow}
 use Rattle.forever_laws.specs.Late.{IsLeastLate, NoneLate, NoneLateTo}
 use Rattle.forever_laws.specs.EndlessDues.{LateIsSoon, ZeroInputsAreNoLists, ZeroMeetsWhereNoneLate}
 use Rattle.forever_laws.specs.PacedRows.{NoRowsAreMet}
 use Rattle.forever_laws.proofs.Zeros.{date_is, least_number}
 use Rattle.teg_check.specs.Ranks.{IsRanking}
+use Rattle.teg_forever.specs.Asked.{AreMetAtZero, AreRankedRows, RankedRows}
 use Rattle.teg_forever.specs.LateFirings.{InLeastAtZero}
 use Rattle.teg_forever.specs.LatestReleases.{IsLateAnswer}
 use Rattle.teg_forever.proofs.LateNumbers.{first_found, none_more}
@@ -53,26 +54,25 @@ ranking_without net plain e ranks h = subst (λ (n : NetLists). IsRanking n rank
 
 -- ---- the answer at a row
 
-pub late_answer_in : (net : NetLists) → IsNet net → IsLive net → LateIsSoon → (rows : List EndlessRow) → IsEndlessOf net rows
-    → (x : ℕ → ℕ → Date) → IsLeastUnder net inputs_at_zero x → (i : ℕ) (r : EndlessRow) → slice_get rows i ≡ Some r
-    → All (NoneLate x) (take i rows) → (k due date : ℕ) → IsLeastLate x r k due date → IsLateAnswer net rows r.transition.index k due date
-late_answer_in net ok live law rows ends x least i r at none k due date h =
-    let rule : IsEndlessRow net r = subst (IsEndlessRow net) (get_or_from_slice_get rows i r r at) (ends.each i r (slice_get_within rows i r at)) in
-    let low = law net ok live x least r rule k due date h in
-    record {
-      dating = x;
-      is_least = least;
-      row = r;
-      first = record { index = i; is_row = at; none_before = none; least_late = h };
-      transition = refl;
-      number_in = omega (arith, low.0);
-      due_in = omega (arith, low.1);
-      least_in = omega (arith, low.2);
-    }
+module _ (a : RankedRows) (h : AreRankedRows a) where
+  pub late_answer_in : LateIsSoon → (x : ℕ → ℕ → Date) → IsLeastUnder a.net inputs_at_zero x → (i : ℕ) (r : EndlessRow) → slice_get a.rows i ≡ Some r
+      → All (NoneLate x) (take i a.rows) → (k due date : ℕ) → IsLeastLate x r k due date → IsLateAnswer a.net a.rows r.transition.index k due date
+  late_answer_in law x least i r at none k due date late =
+      let rule : IsEndlessRow a.net r = subst (IsEndlessRow a.net) (get_or_from_slice_get a.rows i r r at) (h.ends.each i r (slice_get_within a.rows i r at)) in
+      let low = law a.net h.rules h.is_live x least r rule k due date late in
+      record {
+        dating = x;
+        is_least = least;
+        row = r;
+        first = record { index = i; is_row = at; none_before = none; least_late = late };
+        transition = refl;
+        number_in = omega (arith, low.0);
+        due_in = omega (arith, low.1);
+        least_in = omega (arith, low.2);
+      }
 
--- where no row is late the inputs at 0 meet the due dates
-pub all_meet_in : (net : NetLists) → IsNet net → IsLive net → NoRowsAreMet → ZeroMeetsWhereNoneLate → (rows : List EndlessRow) → IsEndlessOf net rows → InLeastAtZero net (λ x. All (NoneLate x) rows)
-    → InputsMeet net (due_on rows) inputs_at_zero
-all_meet_in net ok live zero law rows ends none =
-    let some = zero net ok live in
-    (law net ok live rows ends some.0 some.1).1 (none some.0 some.1)
+  -- where no row is late the inputs at 0 meet the due dates
+  pub all_meet_in : NoRowsAreMet → ZeroMeetsWhereNoneLate → InLeastAtZero a.net (λ x. All (NoneLate x) a.rows) → AreMetAtZero a
+  all_meet_in zero law none =
+      let some = zero a.net h.rules h.is_live in
+      (law a.net h.rules h.is_live a.rows h.ends some.0 some.1).1 (none some.0 some.1)

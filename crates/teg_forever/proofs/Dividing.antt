@@ -19,11 +19,10 @@ use Rattle.forever_laws.specs.periodic_laws.Equations.{gains}
 use Rattle.teg_net.specs.declared.entries.Again.{Again}
 use Rattle.teg_net.specs.declared.entries.TransitionId.{TransitionId}
 use Rattle.teg_net.specs.Inputs.{list_date}
-use Rattle.teg_net.specs.Nets.{NetLists, IsNet, IsInput}
-use Rattle.teg_net.specs.Circuits.{IsLive}
+use Rattle.teg_net.specs.Nets.{NetLists}
 use Rattle.forever_laws.specs.teg_model.Datings.{as_date}
 use Rattle.forever_laws.specs.declared.rows.EndlessRow.{EndlessRow}
-use Rattle.forever_laws.specs.EndlessRows.{IsEndlessOf, again_of_row}
+use Rattle.forever_laws.specs.EndlessRows.{again_of_row}
 use Rattle.forever_laws.specs.SeriesColumns.{AreSeriesColumns, IsDueSeries, IsWalkSeries, due_date_at, gain_residuals, residual_over}
 use Rattle.forever_laws.specs.ColumnLaws.{ColumnsExist}
 use Rattle.forever_laws.proofs.OneColumn.{one_due, one_walk}
@@ -34,7 +33,7 @@ use Rattle.teg_forever.specs.declared.releases.ForeverRefusal.{ForeverRefusal}
 use Rattle.teg_forever.specs.declared.releases.ForeverRefusal.TheVariants.{Late, TooLong, TooWide, OutOfMemory}
 use Rattle.teg_forever.specs.InputAnswers.{IsStopped}
 use Rattle.teg_forever.specs.Divisions.{AreAlike, AreDivisions, AreFirstsTo, IsAlikeAt, IsDivided, IsKeptIn, IsMeetOver, IsMeetTo, IsMisfit, IsDividedAt, IsRefusedAt, IsResidualOf, refusal_at}
-use Rattle.teg_forever.specs.LatestReleases.{WalkTimesSettleSoon}
+use Rattle.teg_forever.specs.Asked.{InputAsked, IsAskedWith}
 use Rattle.teg_forever.proofs.Series.{behind, some_is}
 
 -- ---- rows that ask the same dates
@@ -219,25 +218,24 @@ refused_meet net rows id i r list place q m NoRoom some at before h stands other
 -- ---- why an input has no release
 
 -- the first row that does not fit stops the search for the release of the input
-pub stopped_at : (net : NetLists) (rows : List EndlessRow) (id : TransitionId) (i : ℕ) → ColumnsExist → IsNet net → IsLive net
-    → IsEndlessOf net rows → IsInput net id.index → WalkTimesSettleSoon net id.index → i < length rows
-    → ((walks dues : ℕ → Gain) → AreSeriesColumns net id.index rows walks dues → (j : ℕ) → j < i
-    → RowFits gains gain_residuals walks dues j) → (why : ForeverRefusal) → IsRefusedAt net rows id i why → IsStopped net rows id why
-stopped_at net rows id i exist ok live ends input settles l fit (Late t k due least) h = absurd h
-stopped_at net rows id i exist ok live ends input settles l fit (TooLong v) h = absurd h
-stopped_at net rows id i exist ok live ends input settles l fit (TooWide v row) h =
-    let c = exist net ok live rows ends id.index input in (
-      h.0,
+pub stopped_at : (a : InputAsked) → IsAskedWith a → ColumnsExist → (i : ℕ) → i < length a.rows
+    → ((walks dues : ℕ → Gain) → AreSeriesColumns a.net a.input.index a.rows walks dues → (j : ℕ) → j < i → RowFits gains gain_residuals walks dues j)
+    → (why : ForeverRefusal) → IsRefusedAt a.net a.rows a.input i why → IsStopped a.net a.rows a.input why
+stopped_at a h exist i l fit (Late t k due least) at = absurd at
+stopped_at a h exist i l fit (TooLong v) at = absurd at
+stopped_at a h exist i l fit (TooWide v row) at =
+    let c = exist a.net h.rules h.is_live a.rows h.ends a.input.index h.input in (
+      at.0,
       record {
-        settles = settles;
+        settles = (a.settled, h.transfer, h.short);
         walks = c.0;
         dues = c.1;
         columns = c.2;
         place = i;
-        stops = record { within = l; before = fit c.0 c.1 c.2; here = h.1.misfits c.0 c.1 c.2 };
-        stopped = h.1.stopped;
-        is_row = h.1.is_row;
-        row_is = h.1.row_is;
+        stops = record { within = l; before = fit c.0 c.1 c.2; here = at.1.misfits c.0 c.1 c.2 };
+        stopped = at.1.stopped;
+        is_row = at.1.is_row;
+        row_is = at.1.row_is;
       },
     )
-stopped_at net rows id i exist ok live ends input settles l fit OutOfMemory h = tt
+stopped_at a h exist i l fit OutOfMemory at = tt

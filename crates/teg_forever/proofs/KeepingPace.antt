@@ -5,11 +5,12 @@ use Rattle.std.proofs.lemmas.Int.{ints}
 use Rattle.std.proofs.lemmas.List.Sums.{sum_by-cons}
 use Rattle.teg_net.specs.declared.entries.PlaceId.{PlaceId}
 use Rattle.teg_net.specs.declared.entries.Place.{Place}
-use Rattle.teg_net.specs.Nets.{NetLists}
+use Rattle.teg_net.specs.Nets.{NetLists, IsPlaceOf}
 use Rattle.teg_net.specs.Circuits.{no_place, place_at, IsPathBetween, time_of, tokens_of}
 use Rattle.forever_laws.specs.declared.rows.EndlessRow.{EndlessRow}
+use Rattle.forever_laws.specs.EndlessRows.{IsEndlessRow}
 use Rattle.forever_laws.specs.PacedRows.{KeepsPace}
-use Rattle.teg_forever.specs.Paces.{IsKept, time_told}
+use Rattle.teg_forever.specs.Paces.{IsKept, IsWeighable, time_told}
 
 -- what is told of the start of a path is no less than what it adds to what is told of its end
 record IsToldOn (r : EndlessRow) (times : List (Option ℤ)) (net : NetLists) (ps : List PlaceId) (s : ℕ) (y : ℤ) : Type 0 where
@@ -50,3 +51,7 @@ paced net r times kept y e round way s closed leads =
     let same = one_told times s again.x on.x again.told on.told in
     let more = again.more in
     omega (arith, ints, same, more)
+
+-- a row and a place of one net
+pub weighable : (net : NetLists) (r : EndlessRow) (p : Place) → IsEndlessRow net r → IsPlaceOf net p → IsWeighable r p
+weighable net r p row place = record { every = row.goes_on.every_in; gap = row.goes_on.gap_in; hold = place.hold_in; tokens = place.tokens_in }

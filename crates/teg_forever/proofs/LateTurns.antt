@@ -1,9 +1,10 @@
 -- The late number that the search by turns finds, and the settled form that it goes by.
-use Rattle.std.proofs.Common.{ℕ, ℤ, ◌≡◌, ◌<◌, ◌≤◌, ◌+◌, ◌*◌, ◌∙◌, pos, List, Some, All, length, get_or, take, refl, sym, subst, ap, arith}
+use Rattle.std.proofs.Common.{ℕ, ℤ, ◌≡◌, ◌<◌, ◌≤◌, ◌+◌, ◌*◌, ◌∙◌, pos, Some, All, length, get_or, take, refl, sym, subst, ap, arith}
 use Rattle.std.specs.Prelude.{slice_get}
 use Rattle.std.proofs.lemmas.Int.{ints}
 use Rattle.std.proofs.lemmas.List.{get_or-take, length-take-le}
 use Rattle.std.proofs.lemmas.Option.{slice_get_within, get_or_from_slice_get}
+use Rattle.dioid.specs.declared.dates.Date.{Date}
 use Rattle.dioid.specs.declared.dates.Date.TheVariants.{At}
 use Rattle.dioid.specs.Dates.{move}
 use Rattle.dioid.proofs.Moves.{at_inj}
@@ -14,13 +15,13 @@ use Rattle.forever_laws.specs.settled_laws.SettledForms.{SettledForm, IsSettledF
 use Rattle.forever_laws.proofs.settled_laws_proofs.Telling.{form_tells}
 use Rattle.teg_settle.specs.KeptForms.{IsFormKept}
 use Rattle.forever_laws.specs.declared.rows.EndlessRow.{EndlessRow}
-use Rattle.forever_laws.specs.due_laws.MeetingDueDates.{InputsMeet, inputs_at_zero}
-use Rattle.forever_laws.specs.EndlessRows.{IsEndlessRow, IsEndlessOf, due_on}
+use Rattle.forever_laws.specs.EndlessRows.{IsEndlessRow}
 use Rattle.forever_laws.specs.Late.{NoneLateTo, NoneLate, IsLeastLate}
 use Rattle.forever_laws.specs.LateSearches.{IsCommonPeriodOf, IsSoonest, turns_to}
 use Rattle.forever_laws.specs.EndlessDues.{TurnsTellLate, LateIsSoon, StepsAreFromZero, ZeroInputsAreNoLists, ZeroMeetsWhereNoneLate}
 use Rattle.forever_laws.proofs.Zeros.{date_is, least_number}
-use Rattle.teg_forever.specs.LateFirings.{GoesOnBySteps, IsZeroForm, IsClimbing, IsSoonLate}
+use Rattle.teg_forever.specs.Asked.{AreMetAtZero, AreRankedRows, RankedRows}
+use Rattle.teg_forever.specs.LateFirings.{GoesOnBySteps, IsSettledRow, IsZeroForm, IsClimbing, IsSoonLate}
 use Rattle.teg_forever.specs.LatestReleases.{IsLateAnswer}
 use Rattle.teg_forever.proofs.LateNumbers.{none_to_as, none_as, least_as, soonest_as}
 
@@ -70,83 +71,106 @@ module _ (net : NetLists) (ok : IsNet net) (live : IsLive net) (f : SettledForm)
     again = λ j l. tells t (j + f.period) lt (omega arith) ∙ (form.stands.repeats.again t j lt l ∙ ap (move (step_of_form f t)) (sym (tells t j lt (omega arith))));
   }
 
-  module _ (r : EndlessRow) (rule : IsEndlessRow net r) where
-    same : (k : ℕ) → 1 ≤ k → settled_date f r.transition.index k ≡ form.dating r.transition.index k
-    same k one = tells r.transition.index k rule.in_range one
+-- ---- a row beside the form
 
-    back : (k : ℕ) → 1 ≤ k → form.dating r.transition.index k ≡ settled_date f r.transition.index k
-    back k one = sym (same k one)
+module _ (f : SettledForm) (r : EndlessRow) (h : IsSettledRow f r) where
+  abbrev dating : ℕ → ℕ → Date
+  dating = h.form.dating
 
-    -- the same turn of the dating that the form stands for
-    turn_as : (past turn rise fall : ℕ) → IsCommonPeriodOf (settled_date f) r past turn rise fall → IsCommonPeriodOf form.dating r past turn rise fall
-    turn_as past turn rise fall is = record {
-      some = is.some;
-      dates_rise = λ k l. back (k + turn) (omega arith) ∙ (is.dates_rise k l ∙ ap (move (pos rise)) (same k (omega arith)));
-      past_list = is.past_list;
-      rounds = is.rounds;
-      by_list = is.by_list;
-      fall_is = is.fall_is;
-    }
+  same : (k : ℕ) → 1 ≤ k → settled_date f r.transition.index k ≡ dating r.transition.index k
+  same k one = tells h.net h.rules h.is_live f h.form r.transition.index k h.row.in_range one
 
-    -- the least late number is not great
-    pub soon : LateIsSoon → (k due least : ℕ) → IsLeastLate (settled_date f) r k due least → IsSoonLate f r k due least
-    soon law k due least h =
-        let low = law net ok live form.dating form.least r rule k due least (least_as (settled_date f) form.dating r same k due least h) in
-        record { is = h; number_in = omega (arith, low.0); due_in = omega (arith, low.1); least_in = omega (arith, low.2) }
+  back : (k : ℕ) → 1 ≤ k → dating r.transition.index k ≡ settled_date f r.transition.index k
+  back k one = sym (same k one)
 
+  -- the same turn of the dating that the form stands for
+  turn_as : (past turn rise fall : ℕ) → IsCommonPeriodOf (settled_date f) r past turn rise fall → IsCommonPeriodOf dating r past turn rise fall
+  turn_as past turn rise fall is = record {
+    some = is.some;
+    dates_rise = λ k l. back (k + turn) (omega arith) ∙ (is.dates_rise k l ∙ ap (move (pos rise)) (same k (omega arith)));
+    past_list = is.past_list;
+    rounds = is.rounds;
+    by_list = is.by_list;
+    fall_is = is.fall_is;
+  }
+
+  -- the least late number is not great
+  pub soon : LateIsSoon → (k due least : ℕ) → IsLeastLate (settled_date f) r k due least → IsSoonLate f r k due least
+  soon law k due least late =
+      let low = law h.net h.rules h.is_live dating h.form.least r h.row k due least (least_as (settled_date f) dating r same k due least late) in
+      record { is = late; number_in = omega (arith, low.0); due_in = omega (arith, low.1); least_in = omega (arith, low.2) }
+
+  module _ (law : TurnsTellLate) (past turn rise fall : ℕ) (is : IsCommonPeriodOf (settled_date f) r past turn rise fall) (none : NoneLateTo (settled_date f) r (past + turn)) where
     -- where the due dates rise no less, none is late
-    pub none_at_all : TurnsTellLate → (past turn rise fall : ℕ) → IsCommonPeriodOf (settled_date f) r past turn rise fall
-        → NoneLateTo (settled_date f) r (past + turn) → rise ≤ fall → NoneLate (settled_date f) r
-    none_at_all law past turn rise fall is none flat =
-        none_as form.dating (settled_date f) r back
-        ((law net ok live form.dating form.least r rule past turn rise fall (turn_as past turn rise fall is) (none_to_as (settled_date f) form.dating r same (past + turn) none)).0 flat)
+    pub none_at_all : rise ≤ fall → NoneLate (settled_date f) r
+    none_at_all flat =
+        none_as dating (settled_date f) r back
+        ((law h.net h.rules h.is_live dating h.form.least r h.row past turn rise fall (turn_as past turn rise fall is) (none_to_as (settled_date f) dating r same (past + turn) none)).0 flat)
 
     -- and otherwise the least late number is that which is late after the fewest turns
-    pub soon_by_turns : TurnsTellLate → LateIsSoon → (past turn rise fall gain base due date : ℕ)
-        → IsCommonPeriodOf (settled_date f) r past turn rise fall → NoneLateTo (settled_date f) r (past + turn) → 0 < gain → rise ≡ fall + gain
-        → IsSoonest (settled_date f) r past (past + turn) gain base due date
+    pub soon_by_turns : LateIsSoon → (gain base due date : ℕ) → 0 < gain → rise ≡ fall + gain → IsSoonest (settled_date f) r past (past + turn) gain base due date
         → IsSoonLate f r (base + turns_to due date gain * turn) (due + turns_to due date gain * fall) (date + turns_to due date gain * rise)
-    soon_by_turns law low past turn rise fall gain base due date is none some steep soonest =
+    soon_by_turns low gain base due date some steep soonest =
         soon low (base + turns_to due date gain * turn) (due + turns_to due date gain * fall) (date + turns_to due date gain * rise)
-        (least_as form.dating (settled_date f) r back _ _ _
-        ((law net ok live form.dating form.least r rule past turn rise fall (turn_as past turn rise fall is)
-        (none_to_as (settled_date f) form.dating r same (past + turn) none)).1 gain base due date some steep
-        (soonest_as (settled_date f) form.dating r same past (past + turn) gain base due date soonest)))
+        (least_as dating (settled_date f) r back _ _ _
+        ((law h.net h.rules h.is_live dating h.form.least r h.row past turn rise fall (turn_as past turn rise fall is)
+        (none_to_as (settled_date f) dating r same (past + turn) none)).1 gain base due date some steep
+        (soonest_as (settled_date f) dating r same past (past + turn) gain base due date soonest)))
 
--- the first row that is late, with its least late number
-pub late_answer : (net : NetLists) (ok : IsNet net) (live : IsLive net) (f : SettledForm) (form : IsZeroForm net f)
-    (rows : List EndlessRow) → IsEndlessOf net rows → (i : ℕ) (r : EndlessRow) → slice_get rows i ≡ Some r
-    → All (NoneLate (settled_date f)) (take i rows) → (k due least : ℕ) → IsSoonLate f r k due least → IsLateAnswer net rows r.transition.index k due least
-late_answer net ok live f form rows ends i r at none k due least h =
-    let lt : i < length rows = slice_get_within rows i r at in
-    let rule : IsEndlessRow net r = subst (IsEndlessRow net) (get_or_from_slice_get rows i r r at) (ends.each i r lt) in
-    record {
-      dating = form.dating;
-      is_least = form.least;
-      row = r;
-      first = record {
-        index = i;
-        is_row = at;
-        none_before = λ j d w.
-            let short : length (take i rows) ≡ i = length-take-le i rows (omega (arith, lt)) in
-            let low : j < i = omega (arith, w, short) in
-            let range = (ends.each j d (omega (arith, low, lt))).in_range in
-            let same : get_or (take i rows) j d ≡ get_or rows j d = get_or-take i rows j d low in
-            none_as (settled_date f) form.dating (get_or (take i rows) j d)
-            (λ m o. tells net ok live f form (get_or (take i rows) j d).transition.index m
-            (subst (λ (q : EndlessRow). q.transition.index < length net.transitions) (sym same) range) o) (none j d w);
-        least_late = least_as (settled_date f) form.dating r (λ m o. tells net ok live f form r.transition.index m rule.in_range o) k due least h.is;
-      };
-      transition = refl;
-      number_in = h.number_in;
-      due_in = h.due_in;
-      least_in = h.least_in;
-    }
+-- ---- the rows of a net
 
--- where no row is late the inputs at 0 meet the due dates
-pub all_meet : (net : NetLists) (ok : IsNet net) (live : IsLive net) (f : SettledForm) (form : IsZeroForm net f)
-    (rows : List EndlessRow) → IsEndlessOf net rows → ZeroMeetsWhereNoneLate → All (NoneLate (settled_date f)) rows
-    → InputsMeet net (due_on rows) inputs_at_zero
-all_meet net ok live f form rows ends law none =
-    (law net ok live rows ends form.dating form.least).1
-    (λ j d w. none_as (settled_date f) form.dating (get_or rows j d) (λ m o. tells net ok live f form (get_or rows j d).transition.index m (ends.each j d w).in_range o) (none j d w))
+module _ (a : RankedRows) (h : AreRankedRows a) where
+  -- each is one of the net
+  pub rule_at : (i : ℕ) (r : EndlessRow) → i < length a.rows → r ≡ get_or a.rows i r → IsEndlessRow a.net r
+  rule_at i r lt is = subst (IsEndlessRow a.net) (sym is) (h.ends.each i r lt)
+
+  module _ (f : SettledForm) (form : IsZeroForm a.net f) where
+    -- and stands beside the form
+    pub settled_at : ((t : ℕ) → t < length a.net.transitions → IsClimbing f t) → (i : ℕ) (r : EndlessRow) → i < length a.rows → r ≡ get_or a.rows i r → IsSettledRow f r
+    settled_at climbs i r lt is =
+        let rule = rule_at i r lt is in
+        record {
+          net = a.net;
+          rules = h.rules;
+          is_live = h.is_live;
+          form = form;
+          row = rule;
+          climbing = climbs r.transition.index rule.in_range;
+          steps = goes_on a.net h.rules h.is_live f form r.transition.index rule.in_range;
+        }
+
+    as_dating : (r : EndlessRow) → r.transition.index < length a.net.transitions → (k : ℕ) → 1 ≤ k → settled_date f r.transition.index k ≡ form.dating r.transition.index k
+    as_dating r lt k one = tells a.net h.rules h.is_live f form r.transition.index k lt one
+
+    -- the first row that is late, with its least late number
+    pub late_answer : (i : ℕ) (r : EndlessRow) → slice_get a.rows i ≡ Some r → All (NoneLate (settled_date f)) (take i a.rows)
+        → (k due least : ℕ) → IsSoonLate f r k due least → IsLateAnswer a.net a.rows r.transition.index k due least
+    late_answer i r at none k due least late =
+        let lt : i < length a.rows = slice_get_within a.rows i r at in
+        let here = rule_at i r lt (sym (get_or_from_slice_get a.rows i r r at)) in
+        record {
+          dating = form.dating;
+          is_least = form.least;
+          row = r;
+          first = record {
+            index = i;
+            is_row = at;
+            none_before = λ j d w.
+                let short : length (take i a.rows) ≡ i = length-take-le i a.rows (omega (arith, lt)) in
+                let low : j < i = omega (arith, w, short) in
+                let before : get_or (take i a.rows) j d ≡ get_or a.rows j d = get_or-take i a.rows j d low in
+                let range = subst (IsEndlessRow a.net) (sym before) (h.ends.each j d (omega (arith, low, lt))) in
+                none_as (settled_date f) form.dating (get_or (take i a.rows) j d) (as_dating (get_or (take i a.rows) j d) range.in_range) (none j d w);
+            least_late = least_as (settled_date f) form.dating r (as_dating r here.in_range) k due least late.is;
+          };
+          transition = refl;
+          number_in = late.number_in;
+          due_in = late.due_in;
+          least_in = late.least_in;
+        }
+
+    -- where no row is late the inputs at 0 meet the due dates
+    pub all_meet : ZeroMeetsWhereNoneLate → All (NoneLate (settled_date f)) a.rows → AreMetAtZero a
+    all_meet law none =
+        (law a.net h.rules h.is_live a.rows h.ends form.dating form.least).1
+        (λ j d w. none_as (settled_date f) form.dating (get_or a.rows j d) (as_dating (get_or a.rows j d) (h.ends.each j d w).in_range) (none j d w))

@@ -6,14 +6,13 @@ use Rattle.series_form.specs.NumberBounds.{IsSeries}
 use Rattle.series_ops.specs.declared.gains.Gain.{Gain}
 use Rattle.series_ops.specs.Gains.{gain_zero}
 use Rattle.teg_net.specs.declared.entries.TransitionId.{TransitionId}
-use Rattle.teg_net.specs.Nets.{NetLists, IsNet, IsInput}
-use Rattle.teg_net.specs.Circuits.{IsLive}
+use Rattle.teg_net.specs.Nets.{NetLists, IsInput}
 use Rattle.forever_laws.specs.settled_laws.SettledForms.{SettledForm, settled_length}
 use Rattle.teg_settle.specs.Transfers.{IsTransferOf}
 use Rattle.forever_laws.specs.due_laws.MeetingDueDates.{InputsMeet, inputs_at_zero}
 use Rattle.forever_laws.specs.due_laws.LatestDates.{IsLatestDate}
 use Rattle.forever_laws.specs.declared.rows.EndlessRow.{EndlessRow}
-use Rattle.forever_laws.specs.EndlessRows.{IsEndlessOf, due_on}
+use Rattle.forever_laws.specs.EndlessRows.{due_on}
 use Rattle.forever_laws.specs.SeriesColumns.{AreSeriesColumns, residual_over}
 use Rattle.forever_laws.specs.ColumnLaws.{ColumnsExist}
 use Rattle.forever_laws.specs.EndlessDues.{ResidualsAreLatestDates, ResidualsAreFreeOrNumbers}
@@ -21,38 +20,42 @@ use Rattle.teg_forever.specs.declared.releases.Release.{Release}
 use Rattle.teg_forever.specs.declared.releases.Release.TheVariants.{Free, Latest}
 use Rattle.teg_forever.specs.declared.releases.ForeverRefusal.{ForeverRefusal}
 use Rattle.teg_forever.specs.declared.releases.ForeverRefusal.TheVariants.{Late, TooLong, TooWide, OutOfMemory}
-use Rattle.teg_forever.specs.LatestReleases.{IsFine, IsReleaseOf, ForeverRefused, WalkTimesSettleSoon, longest_form}
+use Rattle.teg_forever.specs.LatestReleases.{IsFine, IsReleaseOf, ForeverRefused, longest_form}
+use Rattle.teg_forever.specs.Asked.{InputAsked, IsAskedWith}
 use Rattle.teg_forever.specs.InputAnswers.{IsReleaseBy, IsStopped, AreReleasesBelow}
 use Rattle.teg_forever.specs.Divisions.{IsMeetOver}
 use Rattle.forever_laws.proofs.Inputs.{input_in}
 use Rattle.forever_laws.proofs.number_laws_proofs.Numbers.{same_number}
 
-module _ (net : NetLists) (rows : List EndlessRow) (u : ℕ) (ok : IsNet net) (live : IsLive net) (ends : IsEndlessOf net rows)
-    (input : IsInput net u) (exist : ColumnsExist) (m : Gain) (meet : IsMeetOver net rows u (length rows) m) where
+module _ (a : InputAsked) (h : IsAskedWith a) (exist : ColumnsExist) (m : Gain) (meet : IsMeetOver a.net a.rows a.input.index (length a.rows) m) where
   -- an input whose walk times settle is fine where each row fits
-  pub fine : WalkTimesSettleSoon net u → IsFine net rows u
-  fine settles = let c = exist net ok live rows ends u input in record { settles = settles; walks = c.0; dues = c.1; columns = c.2; fit = (meet c.0 c.1 c.2).fit }
+  pub fine : IsFine a.net a.rows a.input.index
+  fine =
+      let c = exist a.net h.rules h.is_live a.rows h.ends a.input.index h.input in
+      record { settles = (a.settled, h.transfer, h.short); walks = c.0; dues = c.1; columns = c.2; fit = (meet c.0 c.1 c.2).fit }
 
   -- and the meet has its latest dates
-  pub released : ResidualsAreLatestDates → ResidualsAreFreeOrNumbers → 1 ≤ length rows → InputsMeet net (due_on rows) inputs_at_zero
-      → (release : Release) → IsReleaseBy m.series release → IsReleaseOf net rows u release
-  released latest numbers some zero release h =
-      let c = exist net ok live rows ends u input in
-      let value : m ≡ residual_over (length rows) c.0 c.1 = (meet c.0 c.1 c.2).value in
-      by_meet c.0 c.1 c.2 release (subst (λ (g : Gain). IsReleaseBy g.series release) value h)
+  pub released : ResidualsAreLatestDates → ResidualsAreFreeOrNumbers → 1 ≤ length a.rows → InputsMeet a.net (due_on a.rows) inputs_at_zero
+      → (release : Release) → IsReleaseBy m.series release → IsReleaseOf a.net a.rows a.input.index release
+  released latest numbers some zero release by =
+      let c = exist a.net h.rules h.is_live a.rows h.ends a.input.index h.input in
+      let value : m ≡ residual_over (length a.rows) c.0 c.1 = (meet c.0 c.1 c.2).value in
+      by_meet c.0 c.1 c.2 release (subst (λ (g : Gain). IsReleaseBy g.series release) value by)
     where
-      by_meet : (walks dues : ℕ → Gain) → AreSeriesColumns net u rows walks dues → (release : Release)
-          → IsReleaseBy (residual_over (length rows) walks dues).series release → IsReleaseOf net rows u release
-      by_meet walks dues columns Free h = ((numbers net ok live rows ends some zero u (input_in net u input) walks dues columns).0 h).1
-      by_meet walks dues columns (Latest s) h = (
-        subst (λ (z : Form). IsSeries z) (sym h.1) h.2,
+      by_meet : (walks dues : ℕ → Gain) → AreSeriesColumns a.net a.input.index a.rows walks dues → (release : Release)
+          → IsReleaseBy (residual_over (length a.rows) walks dues).series release → IsReleaseOf a.net a.rows a.input.index release
+      by_meet walks dues columns Free by =
+          ((numbers a.net h.rules h.is_live a.rows h.ends some zero a.input.index (input_in a.net a.input.index h.input) walks dues columns).0 by).1
+      by_meet walks dues columns (Latest s) by = (
+        subst (λ (z : Form). IsSeries z) (sym by.1) by.2,
         λ k one.
             let shift : k - 1 + 1 ≡ k = omega arith in
-            let date = latest net ok live rows ends some zero u (input_in net u input) walks dues columns (k - 1) in
-            let number = (numbers net ok live rows ends some zero u (input_in net u input) walks dues columns).1 h.0 (k - 1) in (
-              subst (λ (z : Form). IsLatestDate net (due_on rows) u k (value_at z (k - 1))) (sym h.1)
-                  (subst (λ (n : ℕ). IsLatestDate net (due_on rows) u n (value_at (residual_over (length rows) walks dues).series (k - 1))) shift date),
-              (number.0, ap (λ (z : Form). value_at z (k - 1)) h.1 ∙ number.1),
+            let u_in = input_in a.net a.input.index h.input in
+            let date = latest a.net h.rules h.is_live a.rows h.ends some zero a.input.index u_in walks dues columns (k - 1) in
+            let number = (numbers a.net h.rules h.is_live a.rows h.ends some zero a.input.index u_in walks dues columns).1 by.0 (k - 1) in (
+              subst (λ (z : Form). IsLatestDate a.net (due_on a.rows) a.input.index k (value_at z (k - 1))) (sym by.1)
+                  (subst (λ (n : ℕ). IsLatestDate a.net (due_on a.rows) a.input.index n (value_at (residual_over (length a.rows) walks dues).series (k - 1))) shift date),
+              (number.0, ap (λ (z : Form). value_at z (k - 1)) by.1 ∙ number.1),
             ),
       )
 

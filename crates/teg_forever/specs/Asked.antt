@@ -1,8 +1,10 @@
 -- Working definitions of what the search for the releases of inputs goes by.
-use Rattle.std.specs.Prelude.{ℕ, ◌≤◌, List}
+use Rattle.std.specs.Prelude.{ℕ, ◌≡◌, ◌≤◌, List}
 use Rattle.teg_check.specs.Ranks.{IsRanking}
 use Rattle.teg_net.specs.Circuits.{IsLive}
-use Rattle.teg_net.specs.Nets.{NetLists, IsNet, IsInput}
+use Rattle.teg_net.specs.declared.entries.TransitionId.{TransitionId}
+use Rattle.teg_net.specs.Nets.{NetLists, IsNet, IsInput, without_inputs}
+use Rattle.teg_form.specs.StandardForms.{FormLists, IsStandardFormOf}
 use Rattle.forever_laws.specs.settled_laws.SettledForms.{SettledForm, settled_length}
 use Rattle.teg_settle.specs.Transfers.{IsTransferOf}
 use Rattle.forever_laws.specs.due_laws.MeetingDueDates.{InputsMeet, inputs_at_zero}
@@ -10,13 +12,12 @@ use Rattle.forever_laws.specs.declared.rows.EndlessRow.{EndlessRow}
 use Rattle.forever_laws.specs.EndlessRows.{IsEndlessOf, due_on}
 use Rattle.teg_forever.specs.LatestReleases.{longest_form}
 
--- a live net with its ranks, and endless due dates that inputs at 0 meet
-pub record CanMeet (net : NetLists) (ranks : List ℕ) (rows : List EndlessRow) : Type 0 where
+-- a live net with its ranks, and endless due dates
+pub record AreRanked (net : NetLists) (ranks : List ℕ) (rows : List EndlessRow) : Type 0 where
   pub rules : IsNet net
   pub stands : IsRanking net ranks
   pub is_live : IsLive net
   pub ends : IsEndlessOf net rows
-  pub meet : InputsMeet net (due_on rows) inputs_at_zero
 
 -- an input of a live net with endless due dates, and the settled form of its walk times, which is not too long
 pub record IsAsked (net : NetLists) (f : SettledForm) (u : ℕ) (rows : List EndlessRow) : Type 0 where
@@ -26,3 +27,48 @@ pub record IsAsked (net : NetLists) (f : SettledForm) (u : ℕ) (rows : List End
   pub transfer : IsTransferOf net u f
   pub short : settled_length f ≤ longest_form
   pub ends : IsEndlessOf net rows
+
+-- ---- each with what stands with it, as one value
+
+-- a net, its ranks, and endless due dates
+pub record RankedRows : Type 0 where
+  pub net : NetLists
+  pub ranks : List ℕ
+  pub rows : List EndlessRow
+
+-- with these parts
+abbrev pub ranked_rows : NetLists → List ℕ → List EndlessRow → RankedRows
+ranked_rows net ranks rows = record { net = net; ranks = ranks; rows = rows }
+
+-- the net is live, with its ranks, and the due dates are some of it
+abbrev pub AreRankedRows : RankedRows → Type 0
+AreRankedRows a = AreRanked a.net a.ranks a.rows
+
+-- inputs at 0 meet the due dates
+abbrev pub AreMetAtZero : RankedRows → Type 0
+AreMetAtZero a = InputsMeet a.net (due_on a.rows) inputs_at_zero
+
+-- a net, the form of the walk times of an input, the input, and endless due dates
+pub record InputAsked : Type 0 where
+  pub net : NetLists
+  pub settled : SettledForm
+  pub input : TransitionId
+  pub rows : List EndlessRow
+
+-- with these parts
+abbrev pub input_asked : NetLists → SettledForm → TransitionId → List EndlessRow → InputAsked
+input_asked net f u rows = record { net = net; settled = f; input = u; rows = rows }
+
+-- the input is one of the net, which is live, and the form is that of its walk times, and not too long
+abbrev pub IsAskedWith : InputAsked → Type 0
+IsAskedWith a = IsAsked a.net a.settled a.input.index a.rows
+
+-- ---- the net without its inputs
+
+-- a live net, the net without its inputs, which is live too, and the standard form of that
+pub record IsPlainOf (net plain : NetLists) (form : FormLists) : Type 0 where
+  pub rules : IsNet net
+  pub is_live : IsLive net
+  pub plain_is : plain ≡ without_inputs net
+  pub plain_live : IsLive plain
+  pub stands : IsStandardFormOf plain form

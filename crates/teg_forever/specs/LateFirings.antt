@@ -3,16 +3,20 @@ use Rattle.std.specs.Prelude.{ℕ, ⊤, Some, pos, ◌+◌, ◌*◌, ◌<◌, �
 use Rattle.dioid.specs.declared.dates.Date.{Date}
 use Rattle.dioid.specs.declared.dates.Date.TheVariants.{At}
 use Rattle.dioid.specs.Dates.{move}
-use Rattle.teg_net.specs.Nets.{NetLists}
+use Rattle.teg_net.specs.Circuits.{IsLive}
+use Rattle.teg_net.specs.Limits.{greatest_firing_number, most_rows}
+use Rattle.teg_net.specs.Nets.{NetLists, IsNet}
 use Rattle.forever_laws.specs.teg_model.DateBounds.{greatest_least_date}
 use Rattle.forever_laws.specs.teg_model.Datings.{IsLeastUnder}
 use Rattle.forever_laws.specs.settled_laws.SettledForms.{SettledForm, StandsFor, settled_date, step_of_form}
 use Rattle.forever_laws.specs.due_laws.MeetingDueDates.{inputs_at_zero}
 use Rattle.forever_laws.specs.declared.rows.EndlessRow.{EndlessRow}
-use Rattle.forever_laws.specs.EndlessRows.{IsEndlessRow, row_due}
-use Rattle.forever_laws.specs.Late.{IsLateAt, IsLeastLate, NoneLate}
+use Rattle.forever_laws.specs.EndlessRows.{IsEndlessRow, most_endless_dates, row_due}
+use Rattle.forever_laws.specs.Late.{IsLateAt, IsLeastLate, NoneLate, NoneLateTo}
+use Rattle.forever_laws.specs.LateSearches.{IsCommonPeriodOf}
 use Rattle.forever_laws.specs.EndlessDues.{late_date_bound, late_number_bound}
 use Rattle.teg_forever.specs.declared.late.Soonest.{Soonest}
+use Rattle.teg_forever.specs.declared.late.Cycle.{Cycle}
 use Rattle.teg_forever.specs.declared.late.CommonPeriod.{CommonPeriod}
 use Rattle.teg_forever.specs.declared.alone.Told.{Told}
 use Rattle.teg_forever.specs.declared.alone.Told.TheVariants.{Late as ToldLate, None as ToldNone, Nothing}
@@ -42,6 +46,49 @@ pub record GoesOnBySteps (f : SettledForm) (t : ℕ) : Type 0 where
 -- past the settling number the dates of the transition rise by so much in so many firings
 abbrev pub RisesIn : SettledForm → ℕ → ℕ → ℕ → Type 0
 RisesIn f t firings rise = (k : ℕ) → f.after < k → settled_date f t (k + firings) ≡ move (pos rise) (settled_date f t k)
+
+-- the form stands for the least dating of a live net with all inputs at 0, and the row is one of the net
+pub record IsSettledRow (f : SettledForm) (r : EndlessRow) : Type 0 where
+  pub net : NetLists
+  pub rules : IsNet net
+  pub is_live : IsLive net
+  pub form : IsZeroForm net f
+  pub row : IsEndlessRow net r
+  pub climbing : IsClimbing f r.transition.index
+  pub steps : GoesOnBySteps f r.transition.index
+
+-- a settled form, and a row beside it
+pub record RowAtZero : Type 0 where
+  pub settled : SettledForm
+  pub row : EndlessRow
+
+-- with these parts
+abbrev pub row_at_zero : SettledForm → EndlessRow → RowAtZero
+row_at_zero f r = record { settled = f; row = r }
+
+-- the form is that of a net of which the row is one
+abbrev pub IsRowAtZero : RowAtZero → Type 0
+IsRowAtZero a = IsSettledRow a.settled a.row
+
+-- past the settling number the dates of the row's transition rise by so much in so many firings
+pub record IsCycleOf (a : RowAtZero) (c : Cycle) : Type 0 where
+  pub some : 1 ≤ c.firings
+  pub few : c.firings ≤ most_rows
+  pub low : c.rise ≤ greatest_least_date
+  pub rises : RisesIn a.settled a.row.transition.index c.firings c.rise
+
+-- past the number the dates of the row's transition repeat, and so do the due dates
+pub record GoesOnPast (a : RowAtZero) (past : ℕ) : Type 0 where
+  pub after : a.settled.after ≤ past
+  pub listed : length a.row.dates ≤ past + a.row.every
+  pub few : past ≤ most_rows + most_endless_dates
+
+-- each turn gains on the due dates, and none is late up to the first turn past the number from which they repeat together
+pub record GainsByTurns (a : RowAtZero) (turn : CommonPeriod) : Type 0 where
+  pub common : IsCommonPeriodOf (settled_date a.settled) a.row turn.past turn.firings turn.rise turn.fall
+  pub last : turn.past + turn.firings ≤ greatest_firing_number
+  pub steep : turn.fall < turn.rise
+  pub in_time : NoneLateTo (settled_date a.settled) a.row (turn.past + turn.firings)
 
 -- the least late number of the row, and how great it is
 pub record IsSoonLate (f : SettledForm) (r : EndlessRow) (k due least : ℕ) : Type 0 where

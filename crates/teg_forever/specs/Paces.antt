@@ -1,6 +1,7 @@
 -- Working definitions of the greatest reduced times of walks to a row's transition, at the ratio of its gap to its firings.
-use Rattle.std.specs.Prelude.{ℕ, ℤ, ◌≡◌, ◌+ℤ◌, ◌≤ℤ◌, List, Option, Some, None, slice_index_or}
+use Rattle.std.specs.Prelude.{ℕ, ℤ, ◌≡◌, ◌≤◌, ◌+ℤ◌, ◌≤ℤ◌, List, Option, Some, None, slice_index_or}
 use Rattle.teg_net.specs.declared.entries.Place.{Place}
+use Rattle.teg_net.specs.Limits.{greatest_every, greatest_hold, greatest_input_date, most_place_tokens}
 use Rattle.teg_net.specs.Ratios.{Fraction}
 use Rattle.teg_net.specs.ReducedTimes.{reduced_time_of_place}
 use Rattle.forever_laws.specs.declared.rows.EndlessRow.{EndlessRow}
@@ -8,6 +9,13 @@ use Rattle.forever_laws.specs.declared.rows.EndlessRow.{EndlessRow}
 -- the gap of a row for so many firings
 abbrev pub row_ratio : EndlessRow → Fraction
 row_ratio r = record { time = r.gap; tokens = r.every }
+
+-- the row and the place are within their limits
+pub record IsWeighable (r : EndlessRow) (p : Place) : Type 0 where
+  pub every : r.every ≤ greatest_every
+  pub gap : r.gap ≤ greatest_input_date
+  pub hold : p.hold ≤ greatest_hold
+  pub tokens : p.tokens ≤ most_place_tokens
 
 -- what is told of a transition
 abbrev pub time_told : List (Option ℤ) → ℕ → Option ℤ

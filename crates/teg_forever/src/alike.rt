@@ -1,15 +1,12 @@
 //! Rows that have the walk series and the due series of the row before.
 ghost use Rattle.std.specs.Prelude.{◌≡◌, ◌<◌, length, IsTrue};
-ghost use Rattle.teg_net.specs.Nets.{IsNet};
-ghost use Rattle.teg_settle.specs.Transfers.{IsTransferOf};
-ghost use Rattle.forever_laws.specs.EndlessRows.{IsEndlessOf};
 ghost use Rattle.teg_forever.specs.Alike.{HaveSameWalks};
 ghost use Rattle.teg_forever.specs.Divisions.{AreDivisions, IsAsBefore};
 
+use crate::asked::InputRows;
 use crate::divisions::Divisions;
 use dioid::Date;
-use forever_laws::EndlessRow;
-use teg_net::{Net, TransitionId};
+use teg_net::TransitionId;
 use teg_settle::Settled;
 
 // Whether the dates are the same.
@@ -40,24 +37,15 @@ fn have_same_walks(settled: &Settled, first: TransitionId, other: TransitionId) 
 }
 
 // Whether the row has the walk series and the due series of the one before.
-pub(crate) fn is_as_before(
-    net: &Net,
-    settled: &Settled,
-    input: TransitionId,
-    rows: &[EndlessRow],
-    place: usize,
-    divisions: &Divisions,
-) -> bool
-    requires rules { IsNet net.now }
-    requires transfer { IsTransferOf net.now input.index settled.now }
-    requires rows { IsEndlessOf net.now rows.now }
+pub(crate) fn is_as_before(asked: &InputRows<'_>, place: usize, divisions: &Divisions) -> bool
     requires some { 0 < place }
-    requires place { place < length rows.now }
-    requires divisions { AreDivisions rows.now divisions.now }
-    ensures { IsTrue result → IsAsBefore net.now rows.now input.index place }
+    requires place { place < length asked.now.rows }
+    requires divisions { AreDivisions asked.now.rows divisions.now }
+    ensures { IsTrue result → IsAsBefore asked.now.net asked.now.rows asked.now.input.index place }
 {
     if divisions.first(place) != divisions.first(place - 1) {
         return false;
     }
-    have_same_walks(settled, rows[place].transition, rows[place - 1].transition)
+    let (row, before) = (asked.row(place), asked.row(place - 1));
+    have_same_walks(asked.settled(), row.transition, before.transition)
 }

@@ -2,23 +2,22 @@
 //! last are kept: for nets whose dates settle late, or have a form that is too long.
 ghost use Rattle.std.specs.Prelude.{◌≡◌, ◌<◌, ◌≤◌, ◌+◌, All, ℕ, length, pos, IfOk, IfNone, IfSome};
 ghost use Rattle.dioid.specs.declared.dates.Date.TheVariants.{At};
-ghost use Rattle.teg_net.specs.Circuits.{IsLive};
 ghost use Rattle.teg_net.specs.Limits.{greatest_firing_number, most_place_tokens};
-ghost use Rattle.teg_net.specs.Nets.{IsNet, without_inputs};
+ghost use Rattle.teg_net.specs.Nets.{without_inputs};
 ghost use Rattle.teg_dates.specs.Streams.{IsStreamOf, rows_given};
-ghost use Rattle.teg_form.specs.StandardForms.{IsStandardFormOf};
 ghost use Rattle.forever_laws.specs.EndlessRows.{IsEndlessRow};
 ghost use Rattle.forever_laws.specs.Late.{IsLeastLate, NoneLateTo};
 ghost use Rattle.forever_laws.specs.PacedRows.{paced_bound};
 ghost use Rattle.teg_forever.specs.LateFirings.{InLeastAtZero, IsTold};
 
-use crate::late::{LateFiring, due_at};
+use crate::dues::due_at;
+use crate::late::LateFiring;
 use crate::pace::keeps_pace;
+use crate::plain::PlainNet;
 use dioid::Date;
 use forever_laws::{EndlessRow, paced_late_is_soon, zero_inputs_are_no_lists};
 use std::alloc::Global;
 use teg_dates::Stream;
-use teg_form::Form;
 use teg_net::{Net, OutOfMemory, TransitionId};
 
 // The dates and places of the rows that are looked through, at most: some seconds.
@@ -50,47 +49,35 @@ fn number_of(date: Date) -> u128
 
 // Writes the next row of the net without its inputs. The date of a transition in it.
 fn next_least(
-    net: &Net,
-    plain: &Net,
-    form: &Form,
+    net: &PlainNet<'_>,
     stream: &mut Stream,
     dates: &mut [Date],
     transition: TransitionId,
 ) -> u128
-    requires rules { IsNet net.now }
-    requires live { IsLive net.now }
-    requires plain { plain.now ≡ without_inputs net.now }
-    requires form { IsStandardFormOf plain.now form.now }
-    requires stands { IsStreamOf plain.now stream.old }
+    requires stands { IsStreamOf (without_inputs net.now) stream.old }
     requires few { rows_given stream.old < greatest_firing_number }
     requires full { length dates.old ≡ length net.now.transitions }
     requires transition { transition.index < length net.now.transitions }
     ensures least { InLeastAtZero net.now (λ x. x transition.index (rows_given stream.old + 1)
         ≡ At (pos result)) }
-    ensures stands { IsStreamOf plain.now stream.new }
+    ensures stands { IsStreamOf (without_inputs net.now) stream.new }
     ensures given { rows_given stream.new ≡ rows_given stream.old + 1 }
     ensures full { length dates.new ≡ length dates.old }
 {
     zero_inputs_are_no_lists();
-    stream.next_row(plain, form, dates);
+    stream.next_row(net.plain(), net.form(), dates);
     number_of(dates[transition.index as usize])
 }
 
 // The first late number up to a last one, by the rows of a stream from its start.
 fn late_in(
-    net: &Net,
-    plain: &Net,
-    form: &Form,
+    net: &PlainNet<'_>,
     stream: &mut Stream,
     dates: &mut [Date],
     row: &EndlessRow,
     last: u64,
 ) -> Option<LateFiring>
-    requires rules { IsNet net.now }
-    requires live { IsLive net.now }
-    requires plain { plain.now ≡ without_inputs net.now }
-    requires form { IsStandardFormOf plain.now form.now }
-    requires stands { IsStreamOf plain.now stream.old }
+    requires stands { IsStreamOf (without_inputs net.now) stream.old }
     requires start { rows_given stream.old ≡ 0 }
     requires full { length dates.old ≡ length net.now.transitions }
     requires row { IsEndlessRow net.now row.now }
@@ -100,7 +87,7 @@ fn late_in(
         l.due l.least)) }
 {
     for number in 1..last + 1 {
-        let least = next_least(net, plain, form, stream, dates, row.transition);
+        let least = next_least(net, stream, dates, row.transition);
         let due = due_at(row, number);
         if due < least {
             return Some(LateFiring {
@@ -116,17 +103,10 @@ fn late_in(
 // The first late number up to a last one, by the rows of the net without its inputs.
 fn late_to(
     alloc: Global,
-    net: &Net,
-    plain: &Net,
-    form: &Form,
+    net: &PlainNet<'_>,
     row: &EndlessRow,
     last: u64,
 ) -> Result<Option<LateFiring>, OutOfMemory>
-    requires rules { IsNet net.now }
-    requires live { IsLive net.now }
-    requires plain { plain.now ≡ without_inputs net.now }
-    requires plain_live { IsLive plain.now }
-    requires form { IsStandardFormOf plain.now form.now }
     requires row { IsEndlessRow net.now row.now }
     requires last { last ≤ greatest_firing_number }
     ensures none { IfOk result (λ late. IfNone late (InLeastAtZero net.now (λ x. NoneLateTo x
@@ -134,17 +114,10 @@ fn late_to(
     ensures some { IfOk result (λ late. IfSome late (λ l. InLeastAtZero net.now (λ x. IsLeastLate x
         row.now l.number l.due l.least))) }
 {
-    let mut stream = Stream::new(alloc, plain, form)?;
-    let mut dates = vec![in alloc; Date::Early; net.transitions().len()]?;
-    Ok(late_in(
-        net,
-        plain,
-        form,
-        &mut stream,
-        dates.as_mut_slice(),
-        row,
-        last,
-    ))
+    let plain = net.plain();
+    let mut stream = Stream::new(alloc, plain, net.form())?;
+    let mut dates = vec![in alloc; Date::Early; plain.transitions().len()]?;
+    Ok(late_in(net, &mut stream, dates.as_mut_slice(), row, last))
 }
 
 // The greatest number of tokens in a place, at least 1.
@@ -182,25 +155,19 @@ fn most_rows(net: &Net) -> u64
 // What the rows of the net without its inputs tell of a row.
 pub(crate) fn told_alone(
     alloc: Global,
-    net: &Net,
-    plain: &Net,
-    form: &Form,
+    plain: &PlainNet<'_>,
     row: &EndlessRow,
 ) -> Result<Told, OutOfMemory>
-    requires rules { IsNet net.now }
-    requires live { IsLive net.now }
-    requires plain { plain.now ≡ without_inputs net.now }
-    requires plain_live { IsLive plain.now }
-    requires form { IsStandardFormOf plain.now form.now }
-    requires row { IsEndlessRow net.now row.now }
-    ensures told { IfOk result (IsTold net.now row.now) }
+    requires { IsEndlessRow plain.now row.now }
+    ensures { IfOk result (IsTold plain.now row.now) }
 {
     paced_late_is_soon();
+    let net = plain.net();
     let paced = keeps_pace(alloc, net, row)?;
     let last = last_to_see(net, most_tokens(net), row);
     let most = most_rows(net);
     let seen = if paced { last.min(most) } else { most };
-    if let Some(late) = late_to(alloc, net, plain, form, row, seen)? {
+    if let Some(late) = late_to(alloc, plain, row, seen)? {
         return Ok(Told::Late(late));
     }
     if paced && last == seen {

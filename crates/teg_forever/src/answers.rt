@@ -1,19 +1,19 @@
 //! The latest releases of the inputs under endless due dates.
-ghost use Rattle.std.specs.Prelude.{◌≡◌, ◌<◌, ℕ, length, All, IfOk, IfErr, IfSome, IsTrue};
-ghost use Rattle.forever_laws.specs.due_laws.MeetingDueDates.{InputsMeet, inputs_at_zero};
+ghost use Rattle.std.specs.Prelude.{◌≡◌, ◌<◌, ℕ, length, IfOk, IfErr, IfSome, IsTrue};
 ghost use Rattle.teg_check.specs.Ranks.{IsRanking};
-ghost use Rattle.teg_net.specs.Circuits.{IsLive};
-ghost use Rattle.teg_net.specs.Nets.{IsNet, without_inputs};
-ghost use Rattle.forever_laws.specs.settled_laws.SettledForms.{settled_date};
-ghost use Rattle.forever_laws.specs.Late.{NoneLate};
-ghost use Rattle.forever_laws.specs.EndlessRows.{IsEndlessOf, due_on};
+ghost use Rattle.teg_net.specs.Nets.{without_inputs};
+ghost use Rattle.forever_laws.specs.EndlessRows.{IsEndlessOf};
+ghost use Rattle.teg_forever.specs.Asked.{AreMetAtZero};
 ghost use Rattle.teg_forever.specs.LatestReleases.{AreEndlessReleases, ForeverRefused};
-ghost use Rattle.teg_forever.specs.LateFirings.{InLeastAtZero, IsClimbing, IsZeroForm};
+ghost use Rattle.teg_forever.specs.LateFirings.{IsClimbing, IsZeroForm};
 
 use crate::alone::{Told, told_alone};
+use crate::asked::DueRows;
 use crate::inputs::releases_of;
 use crate::late::{LateFiring, late_in_row};
+use crate::plain::PlainNet;
 use crate::releases::{ForeverRefusal, Release};
+use crate::settled_row::SettledRow;
 use forever_laws::{
     EndlessRow, late_is_soon, latest_at_inputs_are_latest, no_rows_are_met, turns_tell_late,
     zero_inputs_are_no_lists, zero_meets_where_none_late,
@@ -30,21 +30,17 @@ const SHORT_FORM: u32 = 20_000;
 // The settled form of the least dating with all inputs at 0, however long it is.
 fn settled_at_zero(
     alloc: Global,
-    net: &Net,
+    due: &DueRows<'_>,
     plain: &Net,
-    live: &Live,
 ) -> Result<SettledDates, OutOfMemory>
-    requires rules { IsNet net.now }
-    requires live { IsLive net.now }
-    requires plain { plain.now ≡ without_inputs net.now }
-    requires stands { IsRanking net.now live.now }
-    ensures form { IfOk result (IsZeroForm net.now) }
-    ensures climbing { IfOk result (λ f. (t : ℕ) → t < length net.now.transitions
+    requires { plain.now ≡ without_inputs due.now.net }
+    ensures form { IfOk result (IsZeroForm due.now.net) }
+    ensures climbing { IfOk result (λ f. (t : ℕ) → t < length due.now.net.transitions
         → IsClimbing f t) }
 {
     zero_inputs_are_no_lists();
     turns_tell_late();
-    let settled = settle_dates(alloc, plain, live)?;
+    let settled = settle_dates(alloc, plain, due.live())?;
     settled.after();
     Ok(settled)
 }
@@ -52,22 +48,18 @@ fn settled_at_zero(
 // The same form where it is short.
 fn short_at_zero(
     alloc: Global,
-    net: &Net,
+    due: &DueRows<'_>,
     plain: &Net,
-    live: &Live,
 ) -> Result<Option<SettledDates>, OutOfMemory>
-    requires rules { IsNet net.now }
-    requires live { IsLive net.now }
-    requires plain { plain.now ≡ without_inputs net.now }
-    requires stands { IsRanking net.now live.now }
-    ensures form { IfOk result (λ settled. IfSome settled (IsZeroForm net.now)) }
+    requires { plain.now ≡ without_inputs due.now.net }
+    ensures form { IfOk result (λ settled. IfSome settled (IsZeroForm due.now.net)) }
     ensures climbing { IfOk result (λ settled. IfSome settled (λ f. (t : ℕ)
-        → t < length net.now.transitions
+        → t < length due.now.net.transitions
         → IsClimbing f t)) }
 {
     zero_inputs_are_no_lists();
     turns_tell_late();
-    match settle_dates_within(alloc, plain, live, SHORT_FORM) {
+    match settle_dates_within(alloc, plain, due.live(), SHORT_FORM) {
         Ok(settled) => {
             settled.after();
             Ok(Some(settled))
@@ -90,17 +82,15 @@ fn refused_at(row: &EndlessRow, late: LateFiring) -> ForeverRefusal
 }
 
 // Refuses the first row that has a late number, with its least one.
-fn keep_rows(net: &Net, settled: &SettledDates, rows: &[EndlessRow]) -> Result<(), ForeverRefusal>
-    requires rules { IsNet net.now }
-    requires live { IsLive net.now }
-    requires form { IsZeroForm net.now settled.now }
-    requires climbing { (t : ℕ) → t < length net.now.transitions → IsClimbing settled.now t }
-    requires rows { IsEndlessOf net.now rows.now }
-    ensures kept { IfOk result (λ _. All (NoneLate (settled_date settled.now)) rows.now) }
-    ensures late { IfErr result (ForeverRefused net.now rows.now) }
+fn keep_rows(due: &DueRows<'_>, settled: &SettledDates) -> Result<(), ForeverRefusal>
+    requires form { IsZeroForm due.now.net settled.now }
+    requires climbing { (t : ℕ) → t < length due.now.net.transitions → IsClimbing settled.now t }
+    ensures meet { IfOk result (λ _. AreMetAtZero due.now) }
+    ensures late { IfErr result (ForeverRefused due.now.net due.now.rows) }
 {
-    for row in rows {
-        if let Some(late) = late_in_row(net, settled, row)? {
+    zero_meets_where_none_late();
+    for row in due.rows() {
+        if let Some(late) = late_in_row(&SettledRow::new(settled, row))? {
             return Err(refused_at(row, late));
         }
     }
@@ -109,28 +99,19 @@ fn keep_rows(net: &Net, settled: &SettledDates, rows: &[EndlessRow]) -> Result<(
 
 // Refuses the first row that has a late number, as far as rows alone tell it. Whether they tell it
 // of all rows.
-fn keep_rows_alone(
-    alloc: Global,
-    net: &Net,
-    plain: &Net,
-    live: &Live,
-    rows: &[EndlessRow],
-) -> Result<bool, ForeverRefusal>
-    requires rules { IsNet net.now }
-    requires live { IsLive net.now }
-    requires plain { plain.now ≡ without_inputs net.now }
-    requires stands { IsRanking net.now live.now }
-    requires rows { IsEndlessOf net.now rows.now }
-    ensures kept { IfOk result (λ told. IsTrue told → InLeastAtZero net.now (λ x. All (NoneLate x)
-        rows.now)) }
-    ensures late { IfErr result (ForeverRefused net.now rows.now) }
+fn keep_rows_alone(alloc: Global, due: &DueRows<'_>, plain: &Net) -> Result<bool, ForeverRefusal>
+    requires { plain.now ≡ without_inputs due.now.net }
+    ensures meet { IfOk result (λ told. IsTrue told → AreMetAtZero due.now) }
+    ensures late { IfErr result (ForeverRefused due.now.net due.now.rows) }
 {
     ranked_nets_are_live();
     no_rows_are_met();
+    zero_meets_where_none_late();
     late_is_soon();
-    let form = standard_form(alloc, plain, live)?;
-    for row in rows {
-        match told_alone(alloc, net, plain, &form, row)? {
+    let form = standard_form(alloc, plain, due.live())?;
+    let least = PlainNet::new(due.net(), plain, &form);
+    for row in due.rows() {
+        match told_alone(alloc, &least, row)? {
             Told::Late(late) => return Err(refused_at(row, late)),
             Told::None => {}
             Told::Nothing => return Ok(false),
@@ -140,53 +121,33 @@ fn keep_rows_alone(
 }
 
 // Refuses due dates of a net without a short form that inputs at 0 do not meet.
-fn keep_long_dues(
-    alloc: Global,
-    net: &Net,
-    plain: &Net,
-    live: &Live,
-    rows: &[EndlessRow],
-) -> Result<(), ForeverRefusal>
-    requires rules { IsNet net.now }
-    requires live { IsLive net.now }
-    requires plain { plain.now ≡ without_inputs net.now }
-    requires stands { IsRanking net.now live.now }
-    requires rows { IsEndlessOf net.now rows.now }
-    ensures meet { IfOk result (λ _. InputsMeet net.now (due_on rows.now) inputs_at_zero) }
-    ensures late { IfErr result (ForeverRefused net.now rows.now) }
+fn keep_long_dues(alloc: Global, due: &DueRows<'_>, plain: &Net) -> Result<(), ForeverRefusal>
+    requires { plain.now ≡ without_inputs due.now.net }
+    ensures meet { IfOk result (λ _. AreMetAtZero due.now) }
+    ensures late { IfErr result (ForeverRefused due.now.net due.now.rows) }
 {
-    no_rows_are_met();
-    zero_meets_where_none_late();
-    if keep_rows_alone(alloc, net, plain, live, rows)? {
+    if keep_rows_alone(alloc, due, plain)? {
         return Ok(());
     }
-    let settled = settled_at_zero(alloc, net, plain, live)?;
-    keep_rows(net, &settled, rows)
+    let settled = settled_at_zero(alloc, due, plain)?;
+    keep_rows(due, &settled)
 }
 
 // Refuses due dates that inputs at 0 do not meet. A settled form is dropped here.
-fn keep_dues(
-    alloc: Global,
-    net: &Net,
-    live: &Live,
-    rows: &[EndlessRow],
-) -> Result<(), ForeverRefusal>
-    requires rules { IsNet net.now }
-    requires live { IsLive net.now }
-    requires stands { IsRanking net.now live.now }
-    requires rows { IsEndlessOf net.now rows.now }
-    ensures meet { IfOk result (λ _. InputsMeet net.now (due_on rows.now) inputs_at_zero) }
-    ensures late { IfErr result (ForeverRefused net.now rows.now) }
+fn keep_dues(alloc: Global, due: &DueRows<'_>) -> Result<(), ForeverRefusal>
+    ensures meet { IfOk result (λ _. AreMetAtZero due.now) }
+    ensures late { IfErr result (ForeverRefused due.now.net due.now.rows) }
 {
     no_rows_are_met();
     zero_meets_where_none_late();
+    let rows = due.rows();
     if rows.is_empty() {
         return Ok(());
     }
-    let plain = net.without_inputs(alloc)?;
-    match short_at_zero(alloc, net, &plain, live)? {
-        Some(settled) => keep_rows(net, &settled, rows),
-        None => keep_long_dues(alloc, net, &plain, live, rows),
+    let plain = due.net().without_inputs(alloc)?;
+    match short_at_zero(alloc, due, &plain)? {
+        Some(settled) => keep_rows(due, &settled),
+        None => keep_long_dues(alloc, due, &plain),
     }
 }
 
@@ -234,6 +195,7 @@ pub fn forever(
     net.transitions();
     ranked_nets_are_live();
     latest_at_inputs_are_latest();
-    keep_dues(alloc, net, live, rows)?;
-    releases_of(alloc, net, live, rows)
+    let due = DueRows::new(net, live, rows);
+    keep_dues(alloc, &due)?;
+    releases_of(alloc, &due)
 }

@@ -1,7 +1,7 @@
 //! Residuals of due series by walk series: each pair is divided once, as long as there is room to
 //! keep what came of it.
-ghost use Rattle.std.specs.Prelude.{◌≡◌, ◌<◌, ◌≤◌, get_or, length, IfErr, IfOk, IfSome, IsTrue, OnOk};
-ghost use Rattle.forever_laws.specs.EndlessRows.{IsEndlessOf};
+ghost use Rattle.std.specs.Prelude.{◌≡◌, ◌<◌, ◌≤◌, All, get_or, length, IfErr, IfOk, IfSome, IsTrue, OnOk};
+ghost use Rattle.teg_forever.specs.LateFirings.{IsGoingRow};
 ghost use Rattle.teg_forever.specs.Divisions.{AreAlike, AreDivisions, AreFirstsTo, IsAlikeAt, IsFirstPart, IsKeptIn, IsMisfit, IsDividedAt, StandsAt};
 
 use crate::gains::due_gain;
@@ -9,7 +9,6 @@ use dioid::{Dioid, Refused, Residuated};
 use forever_laws::EndlessRow;
 use series_ops::Gain;
 use std::alloc::{AllocError, Global};
-use teg_net::Net;
 
 // The values of series that are kept, at most: 96 MB, and one pair more.
 const MOST_KEPT: usize = 3_000_000;
@@ -152,12 +151,11 @@ impl Divisions {
     pub(crate) fn divide(
         &mut self,
         alloc: Global,
-        net: &Net,
         rows: &[EndlessRow],
         due: usize,
         walk: Gain,
     ) -> Result<usize, Refused>
-        requires rows { IsEndlessOf net.now rows.now }
+        requires rows { All IsGoingRow rows.now }
         requires due { due < length rows.now }
         requires divisions { AreDivisions rows.now self.old }
         ensures divisions { OnOk result (AreDivisions rows.now self.new) }
@@ -167,7 +165,7 @@ impl Divisions {
         if let Some(place) = self.place_of(due, &walk) {
             return Ok(place);
         }
-        let asked = match due_gain(alloc, net, &rows[due]) {
+        let asked = match due_gain(alloc, &rows[due]) {
             Ok(asked) => asked,
             Err(_) => return Err(Refused::OutOfMemory),
         };

@@ -1,25 +1,22 @@
 //! The series of the due dates of a row, and of the times of walks from an input to its transition.
 ghost use Rattle.std.specs.Prelude.{◌≡◌, ◌<◌, ◌≤◌, Ok, length, map, pos, IfOk};
 ghost use Rattle.dioid.specs.declared.dates.Date.TheVariants.{At};
-ghost use Rattle.teg_net.specs.Circuits.{IsLive};
-ghost use Rattle.teg_net.specs.Nets.{IsInput, IsNet};
 ghost use Rattle.series_form.specs.SeriesAnswers.{AnswersOf};
 ghost use Rattle.forever_laws.specs.series_laws.SeriesForms.{HasValues, value_at};
 ghost use Rattle.forever_laws.specs.series_laws.Periodic.{Rising};
-ghost use Rattle.forever_laws.specs.settled_laws.SettledForms.{row_of, settled_length};
-ghost use Rattle.teg_settle.specs.Transfers.{IsTransferOf};
+ghost use Rattle.forever_laws.specs.settled_laws.SettledForms.{row_of};
 ghost use Rattle.forever_laws.specs.SeriesColumns.{IsDueSeries, IsWalkSeries};
-ghost use Rattle.forever_laws.specs.EndlessRows.{IsEndlessRow};
 ghost use Rattle.teg_forever.specs.Alike.{told_form};
 ghost use Rattle.teg_forever.specs.InputAnswers.{FitsIfMade};
-ghost use Rattle.teg_forever.specs.LatestReleases.{longest_form};
+ghost use Rattle.teg_forever.specs.LateFirings.{IsGoingRow};
 
+use crate::asked::InputRows;
 use dioid::Date;
 use forever_laws::{EndlessRow, forms_are_series, series_fit};
 use series_form::{Series, SeriesRefused};
 use series_ops::Gain;
 use std::alloc::{AllocError, Global};
-use teg_net::{Net, OutOfMemory, TransitionId};
+use teg_net::{OutOfMemory, TransitionId};
 use teg_settle::Settled;
 
 // The listed dates.
@@ -45,8 +42,8 @@ fn gain_of(made: Result<Series, SeriesRefused>) -> Result<Gain, OutOfMemory>
 }
 
 // The due series of a row.
-pub(crate) fn due_gain(alloc: Global, net: &Net, row: &EndlessRow) -> Result<Gain, OutOfMemory>
-    requires { IsEndlessRow net.now row.now }
+pub(crate) fn due_gain(alloc: Global, row: &EndlessRow) -> Result<Gain, OutOfMemory>
+    requires { IsGoingRow row.now }
     ensures { IfOk result (λ gain. IsDueSeries row.now gain.series) }
 {
     forms_are_series();
@@ -80,20 +77,14 @@ fn told_series(
 // The series of the times of walks from the input to a transition.
 pub(crate) fn walk_gain(
     alloc: Global,
-    net: &Net,
-    settled: &Settled,
-    input: TransitionId,
+    asked: &InputRows<'_>,
     transition: TransitionId,
 ) -> Result<Gain, OutOfMemory>
-    requires rules { IsNet net.now }
-    requires live { IsLive net.now }
-    requires input { IsInput net.now input.index }
-    requires transfer { IsTransferOf net.now input.index settled.now }
-    requires short { settled_length settled.now ≤ longest_form }
-    requires transition { transition.index < length net.now.transitions }
-    ensures { IfOk result (λ gain. IsWalkSeries net.now input.index transition.index gain.series) }
+    requires { transition.index < length asked.now.net.transitions }
+    ensures { IfOk result (λ gain. IsWalkSeries asked.now.net asked.now.input.index transition.index
+        gain.series) }
 {
     forms_are_series();
     series_fit();
-    gain_of(told_series(alloc, settled, transition))
+    gain_of(told_series(alloc, asked.settled(), transition))
 }

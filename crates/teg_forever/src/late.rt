@@ -1,21 +1,18 @@
 //! The least late number of a row: the firing that comes later than due, whatever the inputs are.
-ghost use Rattle.std.specs.Prelude.{length, ◌≡◌, ◌<◌, ◌≤◌, ◌+◌, ◌*◌, ◌%◌, ◌⊎◌, pos, IfOk, IfNone, IfSome, IsTrue};
+ghost use Rattle.std.specs.Prelude.{◌≡◌, ◌<◌, ◌≤◌, ◌+◌, ◌*◌, ◌%◌, ◌⊎◌, pos, IfOk, IfNone, IfSome, IsTrue};
 ghost use Rattle.dioid.specs.declared.dates.Date.TheVariants.{At};
-ghost use Rattle.teg_net.specs.Circuits.{IsLive};
-ghost use Rattle.teg_net.specs.Nets.{IsNet};
-ghost use Rattle.teg_net.specs.Limits.{greatest_every, greatest_firing_number, greatest_input_date, most_rows};
+ghost use Rattle.teg_net.specs.Limits.{greatest_every, greatest_firing_number, most_rows};
 ghost use Rattle.forever_laws.specs.teg_model.DateBounds.{greatest_least_date};
 ghost use Rattle.forever_laws.specs.settled_laws.SettledForms.{settled_date};
-ghost use Rattle.forever_laws.specs.EndlessRows.{IsEndlessRow, most_endless_dates, row_due};
+ghost use Rattle.forever_laws.specs.EndlessRows.{most_endless_dates, row_due};
 ghost use Rattle.forever_laws.specs.Late.{IsLeastLate, NoneLate, NoneLateTo};
 ghost use Rattle.forever_laws.specs.LateSearches.{IsSoonest, IsCommonPeriodOf, turns_to};
-ghost use Rattle.teg_forever.specs.LateFirings.{GoesOnBySteps, IsClimbing, IsGoingRow, IsLateAfter, IsSoonLate, IsZeroForm, RisesIn};
+ghost use Rattle.teg_forever.specs.LateFirings.{GainsByTurns, IsCycleOf, IsLateAfter, IsSoonLate, GoesOnPast, RisesIn};
 
 use crate::leads::none_late_past;
-use dioid::Date;
-use forever_laws::{EndlessRow, late_is_soon, turns_tell_late};
-use teg_net::{GREATEST_FIRING_NUMBER, Net, OutOfMemory, TransitionId};
-use teg_settle::SettledDates;
+use crate::settled_row::SettledRow;
+use forever_laws::{late_is_soon, turns_tell_late};
+use teg_net::{GREATEST_FIRING_NUMBER, OutOfMemory};
 
 // A late firing of a row: its number, its due date, and its least date.
 #[derive(Clone, Copy)]
@@ -51,52 +48,18 @@ struct Soonest {
     turns: u128,
 }
 
-// The due date of a firing.
-pub(crate) fn due_at(row: &EndlessRow, number: u64) -> u128
-    requires row { IsGoingRow row.now }
-    requires first { 1 ≤ number }
-    requires last { number ≤ greatest_firing_number }
-    ensures due { row_due row.now number ≡ Some result }
-    ensures low { result ≤ greatest_input_date * (number + 1) }
-{
-    let dates = row.dates.as_slice();
-    let listed = dates.len() as u64;
-    if number <= listed {
-        return dates[number as usize - 1] as u128;
-    }
-    let every = row.every as u64;
-    let rounds = (number - listed - 1) / every + 1;
-    let before = number - rounds * every;
-    dates[before as usize - 1] as u128 + rounds as u128 * row.gap as u128
-}
-
-// The least date of a firing.
-pub(crate) fn least_at(settled: &SettledDates, transition: TransitionId, number: u64) -> u128
-    requires climbing { IsClimbing settled.now transition.index }
-    requires first { 1 ≤ number }
-    requires last { number ≤ greatest_firing_number }
-    ensures least { settled_date settled.now transition.index number ≡ At (pos result) }
-    ensures low { result ≤ greatest_least_date }
-{
-    settled.after();
-    match settled.date(transition, number) {
-        Date::At(date) => date as u128,
-        _ => 0,
-    }
-}
-
 // The first late number up to a last one.
-fn late_listed(settled: &SettledDates, row: &EndlessRow, last: u64) -> Option<LateFiring>
-    requires climbing { IsClimbing settled.now row.now.transition.index }
-    requires row { IsGoingRow row.now }
-    requires last { last ≤ greatest_firing_number }
-    ensures none { IfNone result (NoneLateTo (settled_date settled.now) row.now last) }
-    ensures some { IfSome result (λ l. IsLeastLate (settled_date settled.now) row.now l.number l.due
+fn late_listed(row: &SettledRow<'_>, last: u64) -> Option<LateFiring>
+    requires { last ≤ greatest_firing_number }
+    ensures none { IfNone result (NoneLateTo (settled_date row.now.settled) row.now.row last) }
+    ensures some { IfSome result (λ l. IsLeastLate (settled_date row.now.settled) row.now.row
+        l.number
+        l.due
         l.least) }
 {
     for number in 1..last + 1 {
-        let due = due_at(row, number);
-        let least = least_at(settled, row.transition, number);
+        let due = row.due(number);
+        let least = row.least(number);
         if due < least {
             return Some(LateFiring {
                 number: number as u128,
@@ -109,21 +72,19 @@ fn late_listed(settled: &SettledDates, row: &EndlessRow, last: u64) -> Option<La
 }
 
 // After how many turns, each of which gains so much, a firing is late.
-fn turns_at(settled: &SettledDates, row: &EndlessRow, number: u64, gain: u128) -> Soonest
-    requires climbing { IsClimbing settled.now row.now.transition.index }
-    requires row { IsGoingRow row.now }
+fn turns_at(row: &SettledRow<'_>, number: u64, gain: u128) -> Soonest
     requires first { 1 ≤ number }
     requires last { number ≤ greatest_firing_number }
     requires gain { 0 < gain }
-    requires in_time { NoneLateTo (settled_date settled.now) row.now number }
+    requires in_time { NoneLateTo (settled_date row.now.settled) row.now.row number }
     ensures number { result.number ≡ number }
-    ensures due { row_due row.now number ≡ Some result.due }
-    ensures least { settled_date settled.now row.now.transition.index number ≡ At (pos
+    ensures due { row_due row.now.row number ≡ Some result.due }
+    ensures least { settled_date row.now.settled row.now.row.transition.index number ≡ At (pos
         result.least) }
     ensures turns { result.turns ≡ turns_to result.due result.least gain }
 {
-    let due = due_at(row, number);
-    let least = least_at(settled, row.transition, number);
+    let due = row.due(number);
+    let least = row.least(number);
     let turns = (due - least) / gain + 1;
     Soonest {
         number,
@@ -147,44 +108,35 @@ fn sooner(first: Soonest, next: Soonest) -> Soonest
 
 // Of the numbers past `past` up to `last`, of which none is late, that which is late after the
 // fewest turns.
-fn fewest_turns(
-    settled: &SettledDates,
-    row: &EndlessRow,
-    past: u64,
-    last: u64,
-    gain: u128,
-) -> Soonest
-    requires climbing { IsClimbing settled.now row.now.transition.index }
-    requires row { IsGoingRow row.now }
+fn fewest_turns(row: &SettledRow<'_>, past: u64, last: u64, gain: u128) -> Soonest
     requires some { past < last }
     requires last { last ≤ greatest_firing_number }
     requires gain { 0 < gain }
-    requires in_time { NoneLateTo (settled_date settled.now) row.now last }
-    ensures is { IsSoonest (settled_date settled.now) row.now past last gain result.number
+    requires in_time { NoneLateTo (settled_date row.now.settled) row.now.row last }
+    ensures is { IsSoonest (settled_date row.now.settled) row.now.row past last gain result.number
         result.due
         result.least }
     ensures turns { result.turns ≡ turns_to result.due result.least gain }
 {
-    let mut best = turns_at(settled, row, past + 1, gain);
+    let mut best = turns_at(row, past + 1, gain);
     for number in past + 2..last + 1 {
-        best = sooner(best, turns_at(settled, row, number, gain));
+        best = sooner(best, turns_at(row, number, gain));
     }
     best
 }
 
-// Whether past the settling number the least dates of a transition rise by so much in so many
-// firings.
-fn rises_in(settled: &SettledDates, transition: TransitionId, firings: u64, rise: u128) -> bool
-    requires climbing { IsClimbing settled.now transition.index }
-    requires steps { GoesOnBySteps settled.now transition.index }
-    requires firings { firings ≤ most_rows }
-    requires rise { rise ≤ greatest_least_date }
-    ensures { IsTrue result → RisesIn settled.now transition.index firings rise }
+// Whether past the settling number the least dates of the row's transition rise as in this cycle.
+fn rises_in(row: &SettledRow<'_>, cycle: Cycle) -> bool
+    requires firings { cycle.firings ≤ most_rows }
+    requires rise { cycle.rise ≤ greatest_least_date }
+    ensures { IsTrue result → RisesIn row.now.settled row.now.row.transition.index cycle.firings
+        cycle.rise }
 {
+    let settled = row.settled();
     let after = settled.after();
     for number in after + 1..after + settled.period() + 1 {
-        let later = least_at(settled, transition, number + firings);
-        if later != least_at(settled, transition, number) + rise {
+        let later = row.least(number + cycle.firings);
+        if later != row.least(number) + cycle.rise {
             return false;
         }
     }
@@ -200,21 +152,20 @@ fn part_of(step: u128, period: u64, firings: u64) -> u128
     step / (period / firings) as u128
 }
 
-// A period of a transition's own past the settling number, no longer than that of the form, which
+// A period of the transition's own past the settling number, no longer than that of the form, which
 // all transitions keep together.
-fn own_cycle(settled: &SettledDates, transition: TransitionId) -> Cycle
-    requires climbing { IsClimbing settled.now transition.index }
-    requires steps { GoesOnBySteps settled.now transition.index }
-    ensures rises { RisesIn settled.now transition.index result.firings result.rise }
+fn own_cycle(row: &SettledRow<'_>) -> Cycle
+    ensures rises { RisesIn row.now.settled row.now.row.transition.index result.firings result.rise }
     ensures some { 1 ≤ result.firings }
     ensures firings { result.firings ≤ most_rows }
     ensures rise { result.rise ≤ greatest_least_date }
 {
+    let settled = row.settled();
     let period = settled.period();
-    let step = settled.step(transition) as u128;
+    let step = settled.step(row.row().transition) as u128;
     for firings in 1..period / 2 + 1 {
         let rise = part_of(step, period, firings);
-        if period % firings == 0 && rises_in(settled, transition, firings, rise) {
+        if period % firings == 0 && rises_in(row, Cycle { firings, rise }) {
             return Cycle { firings, rise };
         }
     }
@@ -252,87 +203,56 @@ fn greater(first: u64, second: u64) -> u64
 }
 
 // Past which number the dates of the row's transition and its due dates repeat.
-fn past_of(settled: &SettledDates, row: &EndlessRow) -> u64
-    requires row { IsGoingRow row.now }
-    ensures after { settled.now.after ≤ result }
-    ensures listed { length row.now.dates ≤ result + row.now.every }
-    ensures few { result ≤ most_rows + most_endless_dates }
+fn past_of(row: &SettledRow<'_>) -> u64
+    ensures { GoesOnPast row.now result }
 {
-    let every = row.every as u64;
-    let past_list = row.dates.as_slice().len() as u64 - every;
-    greater(settled.after(), past_list)
+    let due = row.row();
+    let past_list = due.dates.as_slice().len() as u64 - due.every as u64;
+    greater(row.settled().after(), past_list)
 }
 
 // From which number on, and after how many firings, the dates of the row's transition and its due
 // dates repeat together, by a cycle of the dates.
-fn turn_of(settled: &SettledDates, row: &EndlessRow, cycle: Cycle) -> CommonPeriod
-    requires climbing { IsClimbing settled.now row.now.transition.index }
-    requires steps { GoesOnBySteps settled.now row.now.transition.index }
-    requires row { IsGoingRow row.now }
-    requires some { 1 ≤ cycle.firings }
-    requires firings { cycle.firings ≤ most_rows }
-    requires rise { cycle.rise ≤ greatest_least_date }
-    requires rises { RisesIn settled.now row.now.transition.index cycle.firings cycle.rise }
-    ensures turn { IsCommonPeriodOf (settled_date settled.now) row.now result.past result.firings
+fn turn_of(row: &SettledRow<'_>, cycle: Cycle) -> CommonPeriod
+    requires { IsCycleOf row.now cycle }
+    ensures turn { IsCommonPeriodOf (settled_date row.now.settled) row.now.row result.past
+        result.firings
         result.rise
         result.fall }
     ensures past { result.past ≤ most_rows + most_endless_dates }
     ensures firings { result.firings ≤ greatest_firing_number }
 {
-    let every = row.every as u64;
+    let due = row.row();
+    let every = due.every as u64;
     let cycles = common_cycles(cycle.firings, every);
     let firings = cycles * cycle.firings;
     CommonPeriod {
-        past: past_of(settled, row),
+        past: past_of(row),
         firings,
         rise: cycles as u128 * cycle.rise,
-        fall: (firings / every) as u128 * row.gap as u128,
+        fall: (firings / every) as u128 * due.gap as u128,
     }
 }
 
 // Of the numbers past which dates repeat that which is late after the fewest turns, where each turn
 // gains on the due dates: so many turns on stands the least late number.
-fn soonest_late(net: &Net, settled: &SettledDates, row: &EndlessRow, turn: CommonPeriod) -> Soonest
-    requires rules { IsNet net.now }
-    requires live { IsLive net.now }
-    requires form { IsZeroForm net.now settled.now }
-    requires climbing { IsClimbing settled.now row.now.transition.index }
-    requires row { IsEndlessRow net.now row.now }
-    requires turn { IsCommonPeriodOf (settled_date settled.now) row.now turn.past turn.firings
-        turn.rise
-        turn.fall }
-    requires last { turn.past + turn.firings ≤ greatest_firing_number }
-    requires steep { turn.fall < turn.rise }
-    requires in_time { NoneLateTo (settled_date settled.now) row.now (turn.past + turn.firings) }
-    ensures { IsLateAfter settled.now row.now turn result }
+fn soonest_late(row: &SettledRow<'_>, turn: CommonPeriod) -> Soonest
+    requires { GainsByTurns row.now turn }
+    ensures { IsLateAfter row.now.settled row.now.row turn result }
 {
     turns_tell_late();
     late_is_soon();
+    row.settled();
     let gain = turn.rise - turn.fall;
-    fewest_turns(settled, row, turn.past, turn.past + turn.firings, gain)
+    fewest_turns(row, turn.past, turn.past + turn.firings, gain)
 }
 
 // The late number that the search by turns finds.
-fn late_by_turns(
-    net: &Net,
-    settled: &SettledDates,
-    row: &EndlessRow,
-    turn: CommonPeriod,
-) -> LateFiring
-    requires rules { IsNet net.now }
-    requires live { IsLive net.now }
-    requires form { IsZeroForm net.now settled.now }
-    requires climbing { IsClimbing settled.now row.now.transition.index }
-    requires row { IsEndlessRow net.now row.now }
-    requires turn { IsCommonPeriodOf (settled_date settled.now) row.now turn.past turn.firings
-        turn.rise
-        turn.fall }
-    requires last { turn.past + turn.firings ≤ greatest_firing_number }
-    requires steep { turn.fall < turn.rise }
-    requires in_time { NoneLateTo (settled_date settled.now) row.now (turn.past + turn.firings) }
-    ensures { IsSoonLate settled.now row.now result.number result.due result.least }
+fn late_by_turns(row: &SettledRow<'_>, turn: CommonPeriod) -> LateFiring
+    requires { GainsByTurns row.now turn }
+    ensures { IsSoonLate row.now.settled row.now.row result.number result.due result.least }
 {
-    let best = soonest_late(net, settled, row, turn);
+    let best = soonest_late(row, turn);
     LateFiring {
         number: best.number as u128 + best.turns * turn.firings as u128,
         due: best.due + best.turns * turn.fall,
@@ -342,37 +262,32 @@ fn late_by_turns(
 
 // The least late number of a row, if it has one. A form whose dates and due dates repeat together
 // only past the greatest number that it tells has more dates than any memory holds.
-pub(crate) fn late_in_row(
-    net: &Net,
-    settled: &SettledDates,
-    row: &EndlessRow,
-) -> Result<Option<LateFiring>, OutOfMemory>
-    requires rules { IsNet net.now }
-    requires live { IsLive net.now }
-    requires form { IsZeroForm net.now settled.now }
-    requires climbing { IsClimbing settled.now row.now.transition.index }
-    requires row { IsEndlessRow net.now row.now }
-    ensures none { IfOk result (λ late. IfNone late (NoneLate (settled_date settled.now) row.now)) }
-    ensures some { IfOk result (λ late. IfSome late (λ l. IsSoonLate settled.now row.now l.number
-        l.due l.least)) }
+pub(crate) fn late_in_row(row: &SettledRow<'_>) -> Result<Option<LateFiring>, OutOfMemory>
+    ensures none { IfOk result (λ late. IfNone late (NoneLate (settled_date row.now.settled)
+        row.now.row)) }
+    ensures some { IfOk result (λ late. IfSome late (λ l. IsSoonLate row.now.settled row.now.row
+        l.number
+        l.due
+        l.least)) }
 {
     turns_tell_late();
     late_is_soon();
-    let cycle = own_cycle(settled, row.transition);
-    let past = past_of(settled, row);
-    if none_late_past(settled, row, past, cycle) {
-        return Ok(late_listed(settled, row, past));
+    row.settled();
+    let cycle = own_cycle(row);
+    let past = past_of(row);
+    if none_late_past(row, past, cycle) {
+        return Ok(late_listed(row, past));
     }
-    let turn = turn_of(settled, row, cycle);
+    let turn = turn_of(row, cycle);
     let last = turn.past + turn.firings;
     if last > GREATEST_FIRING_NUMBER {
         return Err(OutOfMemory);
     }
-    if let Some(late) = late_listed(settled, row, last) {
+    if let Some(late) = late_listed(row, last) {
         return Ok(Some(late));
     }
     if turn.rise <= turn.fall {
         return Ok(None);
     }
-    Ok(Some(late_by_turns(net, settled, row, turn)))
+    Ok(Some(late_by_turns(row, turn)))
 }

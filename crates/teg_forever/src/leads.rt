@@ -6,17 +6,17 @@
 //! second, and rises no faster, no date is late. Where both rise alike and their periods have no
 //! common divisor, each date meets each due date, and the lines tell it just so; else they may
 //! cross though none is late.
-ghost use Rattle.std.specs.Prelude.{◌≤◌, ◌<◌, ◌+◌, ◌*◌, IsTrue, length};
+ghost use Rattle.std.specs.Prelude.{◌≤◌, ◌<◌, ◌+◌, ◌*◌, IsTrue};
 ghost use Rattle.teg_net.specs.Limits.{greatest_every, greatest_input_date, most_rows};
 ghost use Rattle.forever_laws.specs.teg_model.DateBounds.{greatest_least_date};
 ghost use Rattle.forever_laws.specs.EndlessRows.{most_endless_dates};
 ghost use Rattle.forever_laws.specs.settled_laws.SettledForms.{settled_date};
-ghost use Rattle.teg_forever.specs.LateFirings.{AreDatesUnder, AreDuesOver, GoesOnBySteps, IsClimbing, IsGoingRow, NoneLatePast, RisesIn, greatest_row_number, most_cycle};
+ghost use Rattle.teg_forever.specs.LateFirings.{AreDatesUnder, AreDuesOver, IsCycleOf, IsGoingRow, NoneLatePast, GoesOnPast, greatest_row_number, most_cycle};
 
-use crate::late::{Cycle, due_at, least_at};
+use crate::dues::due_at;
+use crate::late::Cycle;
+use crate::settled_row::SettledRow;
 use forever_laws::EndlessRow;
-use teg_net::TransitionId;
-use teg_settle::SettledDates;
 
 // The longest cycle that is looked at, so that all products are small.
 const MOST_CYCLE: u64 = 100_000;
@@ -50,16 +50,17 @@ fn start_under(cycle: Cycle, date: u128, place: u64) -> u128
 }
 
 // Where a line begins that no date of the cycle past the number is above.
-fn line_under(settled: &SettledDates, transition: TransitionId, past: u64, cycle: Cycle) -> u128
-    requires climbing { IsClimbing settled.now transition.index }
+fn line_under(row: &SettledRow<'_>, past: u64, cycle: Cycle) -> u128
     requires past { past ≤ most_rows + most_endless_dates }
     requires firings { cycle.firings ≤ most_cycle }
     requires rise { cycle.rise ≤ greatest_least_date }
-    ensures { AreDatesUnder settled.now transition.index past cycle.firings cycle.rise result }
+    ensures { AreDatesUnder row.now.settled row.now.row.transition.index past cycle.firings
+        cycle.rise
+        result }
 {
     let mut start = 0;
     for place in 0..cycle.firings {
-        let date = least_at(settled, transition, past + 1 + place);
+        let date = row.least(past + 1 + place);
         start = greater(start, start_under(cycle, date, place));
     }
     start
@@ -115,27 +116,15 @@ fn keep_apart(row: &EndlessRow, cycle: Cycle, under: u128, over: u128) -> bool
 }
 
 // Whether two lines show that past the number no date comes after it is due.
-pub(crate) fn none_late_past(
-    settled: &SettledDates,
-    row: &EndlessRow,
-    past: u64,
-    cycle: Cycle,
-) -> bool
-    requires climbing { IsClimbing settled.now row.now.transition.index }
-    requires steps { GoesOnBySteps settled.now row.now.transition.index }
-    requires row { IsGoingRow row.now }
-    requires past { past ≤ most_rows + most_endless_dates }
-    requires after { settled.now.after ≤ past }
-    requires listed { length row.now.dates ≤ past + row.now.every }
-    requires some { 1 ≤ cycle.firings }
-    requires rise { cycle.rise ≤ greatest_least_date }
-    requires rises { RisesIn settled.now row.now.transition.index cycle.firings cycle.rise }
-    ensures { IsTrue result → NoneLatePast (settled_date settled.now) row.now past }
+pub(crate) fn none_late_past(row: &SettledRow<'_>, past: u64, cycle: Cycle) -> bool
+    requires past { GoesOnPast row.now past }
+    requires cycle { IsCycleOf row.now cycle }
+    ensures { IsTrue result → NoneLatePast (settled_date row.now.settled) row.now.row past }
 {
     if cycle.firings > MOST_CYCLE {
         return false;
     }
-    let under = line_under(settled, row.transition, past, cycle);
-    let over = line_over(row, past);
-    keep_apart(row, cycle, under, over)
+    let under = line_under(row, past, cycle);
+    let over = line_over(row.row(), past);
+    keep_apart(row.row(), cycle, under, over)
 }

@@ -21,18 +21,22 @@
 mod alike;
 mod alone;
 mod answers;
+mod asked;
 mod divisions;
+mod dues;
 mod gains;
 mod inputs;
 mod late;
 mod leads;
 mod numbers;
 mod pace;
+mod plain;
 mod reading;
 mod releases;
 mod residuals;
 mod rows;
 mod rules;
+mod settled_row;
 mod texts;
 mod twins;
 

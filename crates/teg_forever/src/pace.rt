@@ -1,11 +1,10 @@
 //! Whether the due dates of a row rise as fast as each circuit that leads to its transition (the
 //! algorithm of Bellman and Ford).
-ghost use Rattle.std.specs.Prelude.{◌≡◌, ◌<◌, ◌≤◌, All, length, IfOk, IsTrue};
-ghost use Rattle.teg_net.specs.Limits.{greatest_every, greatest_hold, greatest_input_date, most_place_tokens};
+ghost use Rattle.std.specs.Prelude.{◌≡◌, ◌<◌, All, length, IfOk, IsTrue};
 ghost use Rattle.teg_net.specs.ReducedTimes.{reduced_time_of_place};
 ghost use Rattle.forever_laws.specs.EndlessRows.{IsEndlessRow};
 ghost use Rattle.forever_laws.specs.PacedRows.{KeepsPace};
-ghost use Rattle.teg_forever.specs.Paces.{IsKept, row_ratio};
+ghost use Rattle.teg_forever.specs.Paces.{IsKept, IsWeighable, row_ratio};
 
 use forever_laws::EndlessRow;
 use std::alloc::{AllocError, Global};
@@ -14,10 +13,7 @@ use teg_net::{Net, OutOfMemory, Place};
 // What a place adds to the reduced time of a walk: its holding time for each firing of a turn, less
 // the gap for each of its tokens.
 fn reduced_time(row: &EndlessRow, place: &Place) -> i128
-    requires every { row.now.every ≤ greatest_every }
-    requires gap { row.now.gap ≤ greatest_input_date }
-    requires hold { place.now.hold ≤ greatest_hold }
-    requires tokens { place.now.tokens ≤ most_place_tokens }
+    requires { IsWeighable row.now place.now }
     ensures { result ≡ reduced_time_of_place (row_ratio row.now) place.now }
 {
     let time = i128::from(row.every) * i128::from(place.hold);
@@ -27,10 +23,7 @@ fn reduced_time(row: &EndlessRow, place: &Place) -> i128
 
 // The reduced time of the walk that goes on with the greatest one from the end of the place.
 fn with_place(row: &EndlessRow, place: &Place, times: &[Option<i128>]) -> Option<i128>
-    requires every { row.now.every ≤ greatest_every }
-    requires gap { row.now.gap ≤ greatest_input_date }
-    requires hold { place.now.hold ≤ greatest_hold }
-    requires tokens { place.now.tokens ≤ most_place_tokens }
+    requires place { IsWeighable row.now place.now }
     requires to { place.now.to.index < length times.now }
 {
     times[place.to.index as usize]?.checked_add(reduced_time(row, place))
@@ -38,10 +31,7 @@ fn with_place(row: &EndlessRow, place: &Place, times: &[Option<i128>]) -> Option
 
 // Takes over the time of the walk that begins with the place, where that is more. Whether it is.
 fn raise(row: &EndlessRow, place: &Place, times: &mut [Option<i128>]) -> bool
-    requires every { row.now.every ≤ greatest_every }
-    requires gap { row.now.gap ≤ greatest_input_date }
-    requires hold { place.now.hold ≤ greatest_hold }
-    requires tokens { place.now.tokens ≤ most_place_tokens }
+    requires place { IsWeighable row.now place.now }
     requires from { place.now.from.index < length times.old }
     requires to { place.now.to.index < length times.old }
     ensures full { length times.new ≡ length times.old }
@@ -95,10 +85,7 @@ fn times_to(alloc: Global, net: &Net, row: &EndlessRow) -> Result<Vec<Option<i12
 
 // Whether the walk that begins with the place takes no more than what is told of its start.
 fn is_kept(row: &EndlessRow, place: &Place, times: &[Option<i128>]) -> bool
-    requires every { row.now.every ≤ greatest_every }
-    requires gap { row.now.gap ≤ greatest_input_date }
-    requires hold { place.now.hold ≤ greatest_hold }
-    requires tokens { place.now.tokens ≤ most_place_tokens }
+    requires place { IsWeighable row.now place.now }
     requires from { place.now.from.index < length times.now }
     requires to { place.now.to.index < length times.now }
     ensures { IsTrue result → IsKept row.now times.now place.now }

@@ -2,11 +2,11 @@
 ghost use Rattle.std.specs.Prelude.{◌≡◌, ◌<◌, ◌≤◌, ◌+◌, Err, length, true, IfErr, IfOk, IsTrue, OnOk};
 ghost use Rattle.dioid.specs.ElementAnswers.{Answers};
 ghost use Rattle.series_ops.specs.Gains.{gain_meet, MeetFits};
-ghost use Rattle.teg_forever.specs.Asked.{IsAsked};
 ghost use Rattle.teg_forever.specs.InputAnswers.{IsStopped};
 ghost use Rattle.teg_forever.specs.Divisions.{AreDivisions, AreMet, IsMeetOver, IsMeetSoFar, IsRefusedAt, IsResidualOf, refusal_at};
 
 use crate::alike::is_as_before;
+use crate::asked::InputRows;
 use crate::divisions::Divisions;
 use crate::gains::walk_gain;
 use crate::releases::ForeverRefusal;
@@ -14,8 +14,7 @@ use dioid::{Refused, Residuated};
 use forever_laws::{EndlessRow, columns_exist};
 use series_ops::Gain;
 use std::alloc::Global;
-use teg_net::{Net, TransitionId};
-use teg_settle::Settled;
+use teg_net::TransitionId;
 
 // Why an operation on the series of a row of the input gives none.
 fn refusal_at(why: Refused, input: TransitionId, row: &EndlessRow) -> ForeverRefusal
@@ -74,27 +73,23 @@ fn met(alloc: Global, meet: Gain, residual: &Gain) -> Result<Meet, Refused>
 // The place of the residual of a row.
 fn residual_at(
     alloc: Global,
-    net: &Net,
-    settled: &Settled,
-    input: TransitionId,
-    rows: &[EndlessRow],
+    asked: &InputRows<'_>,
     place: usize,
     divisions: &mut Divisions,
 ) -> Result<usize, ForeverRefusal>
-    requires asked { IsAsked net.now settled.now input.index rows.now }
-    requires place { place < length rows.now }
-    requires divisions { AreDivisions rows.now divisions.old }
-    ensures divisions { OnOk result (AreDivisions rows.now divisions.new) }
-    ensures residual { IfOk result (IsResidualOf net.now rows.now input.index place
-        divisions.new.list.items) }
-    ensures refused { IfErr result (IsRefusedAt net.now rows.now input place) }
+    requires place { place < length asked.now.rows }
+    requires divisions { AreDivisions asked.now.rows divisions.old }
+    ensures divisions { OnOk result (AreDivisions asked.now.rows divisions.new) }
+    ensures residual { IfOk result (IsResidualOf asked.now.net asked.now.rows asked.now.input.index
+        place divisions.new.list.items) }
+    ensures refused { IfErr result (IsRefusedAt asked.now.net asked.now.rows asked.now.input place) }
 {
-    let row = &rows[place];
-    let walk = walk_gain(alloc, net, settled, input, row.transition)?;
+    let row = asked.row(place);
+    let walk = walk_gain(alloc, asked, row.transition)?;
     let due = divisions.first(place);
-    match divisions.divide(alloc, net, rows, due, walk) {
+    match divisions.divide(alloc, asked.rows(), due, walk) {
         Ok(at) => Ok(at),
-        Err(why) => Err(refusal_at(why, input, row)),
+        Err(why) => Err(refusal_at(why, asked.input(), row)),
     }
 }
 
@@ -102,20 +97,16 @@ fn residual_at(
 #[tactic(auto, using(std::proofs::lemmas::Result::err_from_is_err_and))]
 fn first_meet(
     alloc: Global,
-    net: &Net,
-    settled: &Settled,
-    input: TransitionId,
-    rows: &[EndlessRow],
+    asked: &InputRows<'_>,
     divisions: &mut Divisions,
 ) -> Result<Meet, ForeverRefusal>
-    requires asked { IsAsked net.now settled.now input.index rows.now }
-    requires some { 1 ≤ length rows.now }
-    requires divisions { AreDivisions rows.now divisions.old }
-    ensures divisions { OnOk result (AreDivisions rows.now divisions.new) }
-    ensures meet { IfOk result (IsMeetSoFar net.now rows.now input.index 1) }
-    ensures refused { IfErr result (IsRefusedAt net.now rows.now input 0) }
+    requires some { 1 ≤ length asked.now.rows }
+    requires divisions { AreDivisions asked.now.rows divisions.old }
+    ensures divisions { OnOk result (AreDivisions asked.now.rows divisions.new) }
+    ensures meet { IfOk result (IsMeetSoFar asked.now.net asked.now.rows asked.now.input.index 1) }
+    ensures refused { IfErr result (IsRefusedAt asked.now.net asked.now.rows asked.now.input 0) }
 {
-    let at = residual_at(alloc, net, settled, input, rows, 0, divisions)?;
+    let at = residual_at(alloc, asked, 0, divisions)?;
     let series = divisions.residual(at).series.duplicate(alloc)?;
     Ok(Meet {
         gain: Gain { series },
@@ -127,79 +118,69 @@ fn first_meet(
 #[tactic(auto, using(std::proofs::lemmas::Result::err_from_is_err_and))]
 fn meet_with(
     alloc: Global,
-    net: &Net,
-    settled: &Settled,
-    input: TransitionId,
-    rows: &[EndlessRow],
+    asked: &InputRows<'_>,
     place: usize,
     divisions: &mut Divisions,
     meet: Gain,
 ) -> Result<Meet, ForeverRefusal>
-    requires asked { IsAsked net.now settled.now input.index rows.now }
     requires some { 0 < place }
-    requires place { place < length rows.now }
-    requires divisions { AreDivisions rows.now divisions.old }
-    requires meet { IsMeetOver net.now rows.now input.index place meet }
-    ensures divisions { OnOk result (AreDivisions rows.now divisions.new) }
-    ensures meet { IfOk result (IsMeetSoFar net.now rows.now input.index (place + 1)) }
-    ensures refused { IfErr result (IsRefusedAt net.now rows.now input place) }
+    requires place { place < length asked.now.rows }
+    requires divisions { AreDivisions asked.now.rows divisions.old }
+    requires meet { IsMeetOver asked.now.net asked.now.rows asked.now.input.index place meet }
+    ensures divisions { OnOk result (AreDivisions asked.now.rows divisions.new) }
+    ensures meet { IfOk result (IsMeetSoFar asked.now.net asked.now.rows asked.now.input.index
+        (place + 1)) }
+    ensures refused { IfErr result (IsRefusedAt asked.now.net asked.now.rows asked.now.input place) }
 {
-    let at = residual_at(alloc, net, settled, input, rows, place, divisions)?;
+    let at = residual_at(alloc, asked, place, divisions)?;
     match met(alloc, meet, divisions.residual(at)) {
         Ok(met) => Ok(met),
-        Err(why) => Err(refusal_at(why, input, &rows[place])),
+        Err(why) => Err(refusal_at(why, asked.input(), asked.row(place))),
     }
 }
 
 // The same; a row as the one before is not gone through again where the meet stays.
 fn next_meet(
     alloc: Global,
-    net: &Net,
-    settled: &Settled,
-    input: TransitionId,
-    rows: &[EndlessRow],
+    asked: &InputRows<'_>,
     place: usize,
     divisions: &mut Divisions,
     meet: Meet,
 ) -> Result<Meet, ForeverRefusal>
-    requires asked { IsAsked net.now settled.now input.index rows.now }
     requires some { 0 < place }
-    requires place { place < length rows.now }
-    requires divisions { AreDivisions rows.now divisions.old }
-    requires meet { IsMeetSoFar net.now rows.now input.index place meet }
-    ensures divisions { OnOk result (AreDivisions rows.now divisions.new) }
-    ensures meet { IfOk result (IsMeetSoFar net.now rows.now input.index (place + 1)) }
-    ensures refused { IfErr result (IsRefusedAt net.now rows.now input place) }
+    requires place { place < length asked.now.rows }
+    requires divisions { AreDivisions asked.now.rows divisions.old }
+    requires meet { IsMeetSoFar asked.now.net asked.now.rows asked.now.input.index place meet }
+    ensures divisions { OnOk result (AreDivisions asked.now.rows divisions.new) }
+    ensures meet { IfOk result (IsMeetSoFar asked.now.net asked.now.rows asked.now.input.index
+        (place + 1)) }
+    ensures refused { IfErr result (IsRefusedAt asked.now.net asked.now.rows asked.now.input place) }
 {
-    if meet.stays && is_as_before(net, settled, input, rows, place, divisions) {
+    if meet.stays && is_as_before(asked, place, divisions) {
         return Ok(meet);
     }
-    meet_with(
-        alloc, net, settled, input, rows, place, divisions, meet.gain,
-    )
+    meet_with(alloc, asked, place, divisions, meet.gain)
 }
 
 // The meet over the rows of the residuals of their due series by the walk series of an input, or
 // the first row that does not fit.
 pub(crate) fn meet_of(
     alloc: Global,
-    net: &Net,
-    settled: &Settled,
-    input: TransitionId,
-    rows: &[EndlessRow],
+    asked: &InputRows<'_>,
     divisions: &mut Divisions,
 ) -> Result<Gain, ForeverRefusal>
-    requires asked { IsAsked net.now settled.now input.index rows.now }
-    requires some { 1 ≤ length rows.now }
-    requires divisions { AreDivisions rows.now divisions.old }
-    ensures divisions { OnOk result (AreDivisions rows.now divisions.new) }
-    ensures meet { IfOk result (IsMeetOver net.now rows.now input.index (length rows.now)) }
-    ensures stopped { IfErr result (IsStopped net.now rows.now input) }
+    requires some { 1 ≤ length asked.now.rows }
+    requires divisions { AreDivisions asked.now.rows divisions.old }
+    ensures divisions { OnOk result (AreDivisions asked.now.rows divisions.new) }
+    ensures meet { IfOk result (IsMeetOver asked.now.net asked.now.rows asked.now.input.index
+        (length asked.now.rows)) }
+    ensures stopped { IfErr result (IsStopped asked.now.net asked.now.rows asked.now.input) }
 {
     columns_exist();
-    let mut meet = first_meet(alloc, net, settled, input, rows, divisions)?;
-    for place in 1..rows.len() {
-        meet = next_meet(alloc, net, settled, input, rows, place, divisions, meet)?;
+    let count = asked.rows().len();
+    let mut meet = first_meet(alloc, asked, divisions)?;
+    for place in 1..count {
+        meet = next_meet(alloc, asked, place, divisions, meet)?;
     }
     Ok(meet.gain)
 }

@@ -6,6 +6,7 @@ ghost use Rattle.teg_text.specs.Lines.{further_then, line_then, written};
 ghost use Rattle.teg_forever.specs.LatestReleases.{inputs_of};
 ghost use Rattle.teg_forever.specs.EndlessTexts.{IsFaultTold, IsRefusalIn, IsReleaseTold, IsEndlessTold, TextsOfEndlessDiffer, Faulty, Answered, answer_lines, endless_line, forever_line, endless_lines_of, release_line, series_words};
 
+use crate::late::LateFiring;
 use crate::releases::{ForeverRefusal, Release};
 use crate::rows::EndlessRefusal;
 use series_form::Series;
@@ -113,14 +114,13 @@ fn late_text(
     alloc: Global,
     net: &Net,
     transition: TransitionId,
-    number: u128,
-    due: u128,
-    least: u128,
+    late: LateFiring,
 ) -> Result<String, AllocError>
     requires { transition.index < length net.now.transitions }
     ensures { IfOk result (λ text. string_bytes text ≡ line_then
-        (forever_line net.now (ForeverRefusal.Late transition number due least)) []) }
+        (forever_line net.now (ForeverRefusal.Late transition late.number late.due late.least)) []) }
 {
+    let LateFiring { number, due, least } = late;
     let name = net.transitions()[transition.index as usize].name.as_str();
     format!(in alloc; "late {name} {number} due {due} least {least}\n")
 }
@@ -169,7 +169,11 @@ pub fn forever_refusal_text(
             number,
             due,
             least,
-        } => Ok(late_text(alloc, net, *transition, *number, *due, *least)?),
+        } => {
+            let (number, due, least) = (*number, *due, *least);
+            let late = LateFiring { number, due, least };
+            Ok(late_text(alloc, net, *transition, late)?)
+        }
         ForeverRefusal::TooLong { input } => Ok(too_long_text(alloc, net, *input)?),
         ForeverRefusal::TooWide { input, row } => Ok(too_wide_text(alloc, net, *input, *row)?),
         ForeverRefusal::OutOfMemory => unreachable!(),

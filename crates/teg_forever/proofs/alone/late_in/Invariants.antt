@@ -1,4 +1,5 @@
 use Rattle.std.proofs.Common.{◌≡◌, ◌-◌, length}
+use Rattle.teg_net.specs.Nets.{without_inputs}
 use Rattle.teg_dates.specs.Streams.{IsStreamOf, rows_given}
 use Rattle.forever_laws.specs.Late.{NoneLateTo}
 use Rattle.teg_forever.specs.LateFirings.{InLeastAtZero}
@@ -6,7 +7,7 @@ use Rattle.teg_forever.proofs.alone.late_in.Given as goal
 
 abbrev pub invariant-loop-number : goal.invariant-loop-number
 invariant-loop-number l = record {
-  stands : IsStreamOf l.plain l.stream;
+  stands : IsStreamOf (without_inputs l.net) l.stream;
   given : rows_given l.stream ≡ l.number - 1;
   full : length l.dates ≡ length l.net.transitions;
   none : InLeastAtZero l.net (λ x. NoneLateTo x l.row (l.number - 1));

@@ -4,9 +4,12 @@ use Rattle.teg_forever.proofs.Residues.{none_of}
 use Rattle.teg_forever.proofs.alone.told_alone.Goals as goal
 
 pub returns-then-last-seen : goal.returns-then-last-seen
-returns-then-last-seen c = record {
-  told = λ x least.
-      c.paced_late_is_soon.ensures c.args.net.now c.requires.rules c.requires.live x least c.args.row.now c.requires.row (c.in_ok-paced.ensures c.if-paced-2.true)
-      c.most_tokens.result c.most_tokens.ensures.some c.most_tokens.ensures.most
-      (subst (λ (n : ℕ). NoneLateTo x c.args.row.now n) (sym c.if-last-seen.true ∙ c.last_to_see-last.ensures.value) (none_of _ _ c.in_default.not-Some c.in_ok-late.ensures.none x least));
-}
+returns-then-last-seen c = λ x least.
+    let net = c.args.plain.now in
+    let r = c.args.row.now in
+    let paced = rw c.net-net.ensures.value at c.in_ok-paced.ensures c.if-paced-2.true in
+    let most = rw c.net-net.ensures.value at c.most_tokens.ensures.most in
+    let last = rw c.net-net.ensures.value at c.last_to_see-last.ensures.value in
+    c.paced_late_is_soon.ensures net c.net-net.ensures.rules c.net-net.ensures.live x least r c.requires paced
+    c.most_tokens.result c.most_tokens.ensures.some most
+    (subst (λ (n : ℕ). NoneLateTo x r n) (sym c.if-last-seen.true ∙ last) (none_of _ _ c.in_default.not-Some c.in_ok-late.ensures.none x least))

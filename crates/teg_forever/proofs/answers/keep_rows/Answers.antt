@@ -1,4 +1,4 @@
-use Rattle.std.proofs.Common.{◌≤◌, Option, All, length, refl, subst, sym}
+use Rattle.std.proofs.Common.{◌≡◌, ◌≤◌, ◌<◌, Option, All, length, get_or, refl, subst, sym}
 use Rattle.std.specs.Prelude.{IfSome}
 use Rattle.std.proofs.lemmas.List.{take_all}
 use Rattle.forever_laws.specs.settled_laws.SettledForms.{settled_date}
@@ -7,25 +7,50 @@ use Rattle.forever_laws.specs.Late.{NoneLate}
 use Rattle.teg_forever.specs.declared.late.LateFiring.{LateFiring}
 use Rattle.teg_forever.specs.LateFirings.{IsSoonLate}
 use Rattle.teg_forever.specs.LatestReleases.{ForeverRefused}
-use Rattle.teg_forever.proofs.LateTurns.{late_answer}
+use Rattle.teg_forever.proofs.LateTurns.{all_meet, late_answer, settled_at}
 use Rattle.teg_forever.proofs.Residues.{none_of}
 use Rattle.teg_forever.proofs.Series.{got}
 use Rattle.teg_forever.proofs.answers.keep_rows.Goals as goal
 
+pub new-requires : goal.new-requires
+new-requires c =
+    let a = c.args.due.now in
+    let r = c.row-item.result in
+    let i = c.loop-row.row-index in
+    let within : i < length a.rows = rw c.rows-row-items.ensures.value at c.loop-row-test.true in
+    let item : r ≡ get_or a.rows i r = rw c.rows-row-items.ensures.value at c.row-item.is in
+    settled_at a c.rows-row-items.ensures.given c.args.settled.now c.requires.form c.requires.climbing i r within item
+
 pub returns-in-Some-clause-late : goal.returns-in-Some-clause-late
 returns-in-Some-clause-late c =
-    let late : IsSoonLate c.args.settled.now c.row-item.result c.in-Some.late.number c.in-Some.late.due c.in-Some.late.least =
-    subst (λ (o : Option LateFiring). IfSome o (λ l. IsSoonLate c.args.settled.now c.row-item.result l.number l.due l.least)) c.in-Some.is c.in_ok-late.ensures.some in
-    subst (ForeverRefused c.args.net.now c.args.rows.now) (sym c.refused_at.ensures)
-    (late_answer c.args.net.now c.requires.rules c.requires.live c.args.settled.now c.requires.form c.args.rows.now c.requires.rows c.loop-row.row-index c.row-item.result
-    (got c.args.rows.now c.loop-row.row-index c.row-item.result c.loop-row-test.true c.row-item.is) c.loop-row.invariant c.in-Some.late.number c.in-Some.late.due c.in-Some.late.least late)
+    let a = c.args.due.now in
+    let f = c.args.settled.now in
+    let r = c.row-item.result in
+    let i = c.loop-row.row-index in
+    let late = c.in-Some.late in
+    let within : i < length a.rows = rw c.rows-row-items.ensures.value at c.loop-row-test.true in
+    let item : r ≡ get_or a.rows i r = rw c.rows-row-items.ensures.value at c.row-item.is in
+    let some = rw c.new.ensures at c.in_ok-late.ensures.some in
+    let soon : IsSoonLate f r late.number late.due late.least = subst (λ (o : Option LateFiring). IfSome o (λ l. IsSoonLate f r l.number l.due l.least)) c.in-Some.is some in
+    subst (ForeverRefused a.net a.rows) (sym c.refused_at.ensures)
+    (late_answer a c.rows-row-items.ensures.given f c.requires.form i r (got a.rows i r within item) c.loop-row.invariant late.number late.due late.least soon)
 
 pub loop-row-preserved : goal.loop-row-preserved
 loop-row-preserved c =
-    all_items (NoneLate (settled_date c.args.settled.now)) c.args.rows.now c.args.rows.now c.loop-row.row-index c.row-item.result refl c.loop-row-test.true
-    (subst (NoneLate (settled_date c.args.settled.now)) c.row-item.is (none_of _ _ c.in_default.not-Some c.in_ok-late.ensures.none)) c.loop-row.invariant
+    let a = c.args.due.now in
+    let x = settled_date c.args.settled.now in
+    let r = c.row-item.result in
+    let i = c.loop-row.row-index in
+    let within : i < length a.rows = rw c.rows-row-items.ensures.value at c.loop-row-test.true in
+    let item : r ≡ get_or a.rows i r = rw c.rows-row-items.ensures.value at c.row-item.is in
+    let none = rw c.new.ensures at c.in_ok-late.ensures.none in
+    all_items (NoneLate x) a.rows a.rows i r refl within (subst (NoneLate x) item (none_of _ _ c.in_default.not-Some none)) c.loop-row.invariant
 
-pub returns-clause-kept : goal.returns-clause-kept
-returns-clause-kept c =
-    let low : length c.args.rows.now ≤ c.loop-row.row-index = c.loop-row-test.false in
-    subst (All (NoneLate (settled_date c.args.settled.now))) (take_all c.loop-row.row-index c.args.rows.now low) c.loop-row.invariant
+pub returns-clause-meet : goal.returns-clause-meet
+returns-clause-meet c =
+    let a = c.args.due.now in
+    let f = c.args.settled.now in
+    let i = c.loop-row.row-index in
+    let low : length a.rows ≤ i = rw c.rows-row-items.ensures.value at c.loop-row-test.false in
+    all_meet a c.rows-row-items.ensures.given f c.requires.form c.zero_meets_where_none_late.ensures
+    (subst (All (NoneLate (settled_date f))) (take_all i a.rows low) c.loop-row.invariant)

@@ -4,4 +4,4 @@ use Rattle.forever_laws.specs.Late.{NoneLate}
 use Rattle.teg_forever.proofs.answers.keep_rows.Given as goal
 
 abbrev pub invariant-loop-row : goal.invariant-loop-row
-invariant-loop-row l = All (NoneLate (settled_date l.settled)) (take l.row-index l.rows)
+invariant-loop-row l = All (NoneLate (settled_date l.settled)) (take l.row-index l.due.rows)

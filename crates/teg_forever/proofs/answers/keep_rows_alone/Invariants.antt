@@ -4,4 +4,4 @@ use Rattle.teg_forever.specs.LateFirings.{InLeastAtZero}
 use Rattle.teg_forever.proofs.answers.keep_rows_alone.Given as goal
 
 abbrev pub invariant-loop-row : goal.invariant-loop-row
-invariant-loop-row l = InLeastAtZero l.net (λ x. All (NoneLate x) (take l.row-index l.rows))
+invariant-loop-row l = InLeastAtZero l.due.net (λ x. All (NoneLate x) (take l.row-index l.due.rows))

@@ -6,7 +6,8 @@ use Rattle.teg_forever.proofs.answers.settled_at_zero.Goals as goal
 
 pub returns-clause-climbing : goal.returns-clause-climbing
 returns-clause-climbing c t lt =
-    let net = c.args.net.now in
+    let net = c.args.due.now.net in
+    let given = c.live.ensures.given in
     let f = c.in_ok-settled.settled in
-    let form = zero_form net f c.zero_inputs_are_no_lists.ensures (subst (λ (n : NetLists). IsSettledFormOf n f) c.requires.plain c.in_ok-settled.ensures.form) in
-    climbing net c.requires.rules c.requires.live f form c.turns_tell_late.ensures.steps c.after.ensures.kept t lt
+    let form = zero_form net f c.zero_inputs_are_no_lists.ensures (subst (λ (n : NetLists). IsSettledFormOf n f) c.requires c.in_ok-settled.ensures.form) in
+    climbing net given.rules given.is_live f form c.turns_tell_late.ensures.steps c.after.ensures.kept t lt

@@ -13,14 +13,12 @@ returns-clause-divisions c = any_on c.release_by.result _ c.in_ok-latest.ensures
 
 pub returns-clause-fine : goal.returns-clause-fine
 returns-clause-fine c =
-    any_ok c.release_by.result (IsFine c.args.net.now c.args.rows.now c.args.input.index)
-    (fine c.args.net.now c.args.rows.now c.args.input.index c.requires.asked.rules c.requires.asked.is_live c.requires.asked.ends
-    c.requires.asked.input c.columns_exist.ensures c.in_ok-latest.latest c.in_ok-latest.ensures.meet
-    (c.args.settled.now, c.requires.asked.transfer, c.requires.asked.short))
+    let a = c.args.asked.now in
+    any_ok c.release_by.result (IsFine a.net a.rows a.input.index) (fine a c.settled.ensures.asked c.columns_exist.ensures c.in_ok-latest.latest c.in_ok-latest.ensures.meet)
 
 pub returns-clause-release : goal.returns-clause-release
 returns-clause-release c =
-    each_ok c.release_by.result _ (IsReleaseOf c.args.net.now c.args.rows.now c.args.input.index) c.release_by.ensures.release
-    (released c.args.net.now c.args.rows.now c.args.input.index c.requires.asked.rules c.requires.asked.is_live c.requires.asked.ends
-    c.requires.asked.input c.columns_exist.ensures c.in_ok-latest.latest c.in_ok-latest.ensures.meet
-    c.residuals_are_latest_dates.ensures.latest c.residuals_are_latest_dates.ensures.numbers c.requires.some c.requires.meet)
+    let a = c.args.asked.now in
+    let law = c.residuals_are_latest_dates.ensures in
+    each_ok c.release_by.result _ (IsReleaseOf a.net a.rows a.input.index) c.release_by.ensures.release
+    (released a c.settled.ensures.asked c.columns_exist.ensures c.in_ok-latest.latest c.in_ok-latest.ensures.meet law.latest law.numbers c.requires.some c.requires.meet)

@@ -14,23 +14,23 @@ Kept f r past n gain b = record {
 
 pub loop-number-init : goal.loop-number-init
 loop-number-init c =
-    let x = settled_date c.args.settled.now in
+    let x = settled_date c.args.row.now.settled in
     let b = c.turns_at-best.result in
     let same : c.args.past + 1 ≡ c.args.past + 2 - 1 = omega arith in
-    let begun = soonest_begun x c.args.row.now c.args.past c.args.gain b.due b.least c.turns_at-best.ensures.due c.turns_at-best.ensures.least in
+    let begun = soonest_begun x c.args.row.now.row c.args.past c.args.gain b.due b.least c.turns_at-best.ensures.due c.turns_at-best.ensures.least in
     record {
-      is = subst (λ (m : ℕ). IsSoonest x c.args.row.now c.args.past m c.args.gain b.number b.due b.least) same
-          (subst (λ (m : ℕ). IsSoonest x c.args.row.now c.args.past (c.args.past + 1) c.args.gain m b.due b.least) (sym c.turns_at-best.ensures.number) begun);
+      is = subst (λ (m : ℕ). IsSoonest x c.args.row.now.row c.args.past m c.args.gain b.number b.due b.least) same
+          (subst (λ (m : ℕ). IsSoonest x c.args.row.now.row c.args.past (c.args.past + 1) c.args.gain m b.due b.least) (sym c.turns_at-best.ensures.number) begun);
       turns = c.turns_at-best.ensures.turns;
     }
 
 pub turns_at-requires-clause-in_time : goal.turns_at-requires-clause-in_time
-turns_at-requires-clause-in_time c = none_less (settled_date c.args.settled.now) c.args.row.now c.args.last c.loop-number.number (omega arith) c.requires.in_time
+turns_at-requires-clause-in_time c = none_less (settled_date c.args.row.now.settled) c.args.row.now.row c.args.last c.loop-number.number (omega arith) c.requires.in_time
 
 pub loop-number-preserved : goal.loop-number-preserved
 loop-number-preserved c =
-    let x = settled_date c.args.settled.now in
-    let r = c.args.row.now in
+    let x = settled_date c.args.row.now.settled in
+    let r = c.args.row.now.row in
     let n = c.loop-number.number in
     let old = c.loop-number.best in
     let next = c.turns_at.result in
@@ -43,7 +43,7 @@ loop-number-preserved c =
     let less : next.turns < old.turns = h.0 in
     let is = soonest_next x r c.args.past n c.args.gain old.number old.due old.least next.due next.least past c.turns_at.ensures.due
     c.turns_at.ensures.least (omega arith) c.loop-number.invariant.is in
-    subst (Kept c.args.settled.now r c.args.past (n + 1 - 1) c.args.gain) (sym h.1) (record {
+    subst (Kept c.args.row.now.settled r c.args.past (n + 1 - 1) c.args.gain) (sym h.1) (record {
       is = subst (λ (m : ℕ). IsSoonest x r c.args.past m c.args.gain next.number next.due next.least) same
           (subst (λ (m : ℕ). IsSoonest x r c.args.past n c.args.gain m next.due next.least) (sym c.turns_at.ensures.number) is);
       turns = here;
@@ -52,7 +52,7 @@ loop-number-preserved c =
     let less : old.turns ≤ next.turns = h.0 in
     let is = soonest_kept x r c.args.past n c.args.gain old.number old.due old.least next.due next.least past c.turns_at.ensures.due
     c.turns_at.ensures.least (omega arith) c.loop-number.invariant.is in
-    subst (Kept c.args.settled.now r c.args.past (n + 1 - 1) c.args.gain) (sym h.1) (record {
+    subst (Kept c.args.row.now.settled r c.args.past (n + 1 - 1) c.args.gain) (sym h.1) (record {
       is = subst (λ (m : ℕ). IsSoonest x r c.args.past m c.args.gain old.number old.due old.least) same is;
       turns = before;
     }))
@@ -62,5 +62,5 @@ pub returns-clause-is : goal.returns-clause-is
 returns-clause-is c =
     let low : c.args.last + 1 ≤ c.loop-number.number = c.loop-number-test.false in
     let same : c.loop-number.number - 1 ≡ c.args.last = omega arith in
-    subst (λ (m : ℕ). IsSoonest (settled_date c.args.settled.now) c.args.row.now c.args.past m c.args.gain c.loop-number.best.number
+    subst (λ (m : ℕ). IsSoonest (settled_date c.args.row.now.settled) c.args.row.now.row c.args.past m c.args.gain c.loop-number.best.number
     c.loop-number.best.due c.loop-number.best.least) same c.loop-number.invariant.is

@@ -1,38 +1,43 @@
+use Rattle.std.proofs.Common.{arith}
 use Rattle.forever_laws.specs.settled_laws.SettledForms.{settled_date}
-use Rattle.teg_forever.proofs.LateTurns.{goes_on, soon, none_at_all}
+use Rattle.teg_forever.proofs.LateTurns.{soon, none_at_all}
 use Rattle.teg_forever.proofs.KeptApart.{none_both, none_map, some_map}
 use Rattle.teg_forever.proofs.late.late_in_row.Goals as goal
 
 pub returns-in-Some-clause-some : goal.returns-in-Some-clause-some
 returns-in-Some-clause-some c =
-    soon c.args.net.now c.requires.rules c.requires.live c.args.settled.now c.requires.form c.args.row.now c.requires.row
-    c.late_is_soon.ensures c.in-Some.late.number c.in-Some.late.due c.in-Some.late.least c.in-Some.ensures.some
+    let a = c.args.row.now in
+    let late = c.in-Some.late in
+    soon a.settled a.row c.settled.ensures.told c.late_is_soon.ensures late.number late.due late.least c.in-Some.ensures.some
 
 pub returns-then-turn-clause-none : goal.returns-then-turn-clause-none
 returns-then-turn-clause-none c =
+    let a = c.args.row.now in
     let t = c.turn_of-turn.result in
-    none_at_all c.args.net.now c.requires.rules c.requires.live c.args.settled.now c.requires.form c.args.row.now c.requires.row c.turns_tell_late.ensures.turns t.past t.firings t.rise t.fall
+    none_at_all a.settled a.row c.settled.ensures.told c.turns_tell_late.ensures.turns t.past t.firings t.rise t.fall
     c.turn_of-turn.ensures.turn c.in_default.ensures.none c.if-turn.true
 
 pub returns-then-none_late_past-clause-none : goal.returns-then-none_late_past-clause-none
 returns-then-none_late_past-clause-none c =
-    none_map c.late_listed.result (λ low. none_both (settled_date c.args.settled.now) c.args.row.now c.past_of-past.result low (c.none_late_past.ensures c.if-none_late_past.true))
+    let a = c.args.row.now in
+    none_map c.late_listed.result (λ low. none_both (settled_date a.settled) a.row c.past_of-past.result low (c.none_late_past.ensures c.if-none_late_past.true))
     c.late_listed.ensures.none
 
 pub returns-then-none_late_past-clause-some : goal.returns-then-none_late_past-clause-some
 returns-then-none_late_past-clause-some c =
-    some_map c.late_listed.result
-    (λ l h. soon c.args.net.now c.requires.rules c.requires.live c.args.settled.now c.requires.form c.args.row.now c.requires.row c.late_is_soon.ensures l.number l.due l.least h)
-    c.late_listed.ensures.some
+    let a = c.args.row.now in
+    some_map c.late_listed.result (λ l late. soon a.settled a.row c.settled.ensures.told c.late_is_soon.ensures l.number l.due l.least late) c.late_listed.ensures.some
 
-pub own_cycle-cycle-requires-clause-steps : goal.own_cycle-cycle-requires-clause-steps
-own_cycle-cycle-requires-clause-steps c =
-    goes_on c.args.net.now c.requires.rules c.requires.live c.args.settled.now c.requires.form c.args.row.now.transition.index c.requires.row.in_range
+pub late_by_turns-requires : goal.late_by_turns-requires
+late_by_turns-requires c = record {
+  common = c.turn_of-turn.ensures.turn;
+  last = omega arith;
+  steep = omega arith;
+  in_time = c.in_default.ensures.none;
+}
 
-pub none_late_past-requires-clause-steps : goal.none_late_past-requires-clause-steps
-none_late_past-requires-clause-steps c =
-    goes_on c.args.net.now c.requires.rules c.requires.live c.args.settled.now c.requires.form c.args.row.now.transition.index c.requires.row.in_range
+pub none_late_past-requires-clause-cycle : goal.none_late_past-requires-clause-cycle
+none_late_past-requires-clause-cycle c = let h = c.own_cycle-cycle.ensures in record { some = h.some; few = h.firings; low = h.rise; rises = h.rises }
 
-pub turn_of-turn-requires-clause-steps : goal.turn_of-turn-requires-clause-steps
-turn_of-turn-requires-clause-steps c =
-    goes_on c.args.net.now c.requires.rules c.requires.live c.args.settled.now c.requires.form c.args.row.now.transition.index c.requires.row.in_range
+pub turn_of-turn-requires : goal.turn_of-turn-requires
+turn_of-turn-requires c = let h = c.own_cycle-cycle.ensures in record { some = h.some; few = h.firings; low = h.rise; rises = h.rises }

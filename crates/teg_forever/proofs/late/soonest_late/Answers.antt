@@ -3,11 +3,20 @@ use Rattle.teg_forever.specs.LateFirings.{IsSoonLate}
 use Rattle.teg_forever.proofs.LateTurns.{soon_by_turns}
 use Rattle.teg_forever.proofs.late.soonest_late.Goals as goal
 
+pub fewest_turns-requires : goal.fewest_turns-requires
+fewest_turns-requires c =
+    let h = c.requires in
+    let some = h.common.some in
+    let steep = h.steep in
+    record { some = omega arith; last = h.last; gain = omega arith; in_time = h.in_time }
+
 pub returns : goal.returns
 returns c =
+    let a = c.args.row.now in
     let b = c.fewest_turns.result in
     let t = c.args.turn in
-    let steep : c.args.turn.fall < c.args.turn.rise = c.requires.steep in
-    subst (λ (n : ℕ). IsSoonLate c.args.settled.now c.args.row.now (b.number + n * t.firings) (b.due + n * t.fall) (b.least + n * t.rise)) (sym c.fewest_turns.ensures.turns)
-    (soon_by_turns c.args.net.now c.requires.rules c.requires.live c.args.settled.now c.requires.form c.args.row.now c.requires.row c.turns_tell_late.ensures.turns c.late_is_soon.ensures
-    t.past t.firings t.rise t.fall (t.rise - t.fall) b.number b.due b.least c.requires.turn c.requires.in_time (omega arith) (omega arith) c.fewest_turns.ensures.is)
+    let h = c.requires in
+    let steep : t.fall < t.rise = h.steep in
+    subst (λ (n : ℕ). IsSoonLate a.settled a.row (b.number + n * t.firings) (b.due + n * t.fall) (b.least + n * t.rise)) (sym c.fewest_turns.ensures.turns)
+    (soon_by_turns a.settled a.row c.settled.ensures.told c.turns_tell_late.ensures.turns t.past t.firings t.rise t.fall h.common h.in_time
+    c.late_is_soon.ensures (t.rise - t.fall) b.number b.due b.least (omega arith) (omega arith) c.fewest_turns.ensures.is)

@@ -5,4 +5,4 @@ use Rattle.teg_forever.proofs.leads.line_under.Given as goal
 
 abbrev pub invariant-loop-place : goal.invariant-loop-place
 invariant-loop-place l =
-    (i z : ℕ) → i < l.place → settled_date l.settled l.transition.index (l.fn.past + 1 + i) ≡ At (pos z) → l.cycle.firings * z ≤ l.start + l.cycle.rise * i
+    (i z : ℕ) → i < l.place → settled_date l.row.settled l.row.row.transition.index (l.fn.past + 1 + i) ≡ At (pos z) → l.cycle.firings * z ≤ l.start + l.cycle.rise * i

@@ -3,6 +3,12 @@ use Rattle.teg_forever.proofs.leads.none_late_past.Goals as goal
 
 pub returns : goal.returns
 returns c = λ apart.
-    none_past c.requires.row.0 c.args.row.now c.requires.row.1 c.args.settled.now c.requires.climbing c.requires.steps c.args.past c.args.cycle.firings c.args.cycle.rise
-    c.line_under-under.result c.line_over-over.result c.requires.after c.requires.listed c.requires.some c.requires.rises c.line_under-under.ensures c.line_over-over.ensures
-    (c.keep_apart.ensures.start apart) (c.keep_apart.ensures.slope apart)
+    let a = c.args.row.now in
+    let h = c.row.ensures.told in
+    let past = c.requires.past in
+    let cycle = c.requires.cycle in
+    let over = rw c.row.ensures.value at c.line_over-over.ensures in
+    let start = rw c.row-2.ensures.value at c.keep_apart.ensures.start apart in
+    let slope = rw c.row-2.ensures.value at c.keep_apart.ensures.slope apart in
+    none_past h.net a.row h.row a.settled h.climbing h.steps c.args.past c.args.cycle.firings c.args.cycle.rise
+    c.line_under-under.result c.line_over-over.result past.after past.listed cycle.some cycle.rises c.line_under-under.ensures over start slope

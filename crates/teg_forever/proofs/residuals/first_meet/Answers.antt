@@ -4,6 +4,7 @@ use Rattle.teg_forever.proofs.residuals.first_meet.Goals as goal
 
 pub returns-clause-meet : goal.returns-clause-meet
 returns-clause-meet c =
-    begun_so_far c.args.net.now c.args.rows.now c.args.input.index c.residual_at.new.divisions.list.items c.in_ok-at.at
+    let a = c.args.asked.now in
+    begun_so_far a.net a.rows a.input.index c.residual_at.new.divisions.list.items c.in_ok-at.at
     c.residual.result.now (record { gain = record { series = c.in_ok-series.series }; stays = true })
     c.in_ok-at.ensures.residual c.residual.ensures c.duplicate.ensures.series c.in_ok-series.ensures.value

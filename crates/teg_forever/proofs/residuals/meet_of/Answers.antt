@@ -1,4 +1,4 @@
-use Rattle.std.proofs.Common.{◌≤◌, ◌≡◌, ℕ, length, subst, arith}
+use Rattle.std.proofs.Common.{◌≤◌, ◌≡◌, ℕ, length, ap, subst, arith}
 use Rattle.std.proofs.lemmas.Result.{err_from_is_err_and}
 use Rattle.teg_forever.specs.Divisions.{IsMeetOver}
 use Rattle.teg_forever.proofs.Dividing.{stopped_at}
@@ -8,20 +8,21 @@ pub returns-in_err-meet-clause-stopped : goal.returns-in_err-meet-clause-stopped
 returns-in_err-meet-clause-stopped c =
     let p = err_from_is_err_and c.from_residual.result c.from_residual.ensures.1 in
     rw (p.1, p.2)
-    (stopped_at c.args.net.now c.args.rows.now c.args.input 0 c.columns_exist.ensures c.requires.asked.rules c.requires.asked.is_live
-    c.requires.asked.ends c.requires.asked.input (c.args.settled.now, c.requires.asked.transfer, c.requires.asked.short)
-    c.requires.some (λ walks dues columns j l. absurd (omega arith)) c.in_err-meet.field-0.0 c.in_err-meet.ensures.refused)
+    (stopped_at c.args.asked.now c.rows-count.ensures.asked c.columns_exist.ensures 0 c.requires.some
+    (λ walks dues columns j l. absurd (omega arith)) c.in_err-meet.field-0.0 c.in_err-meet.ensures.refused)
 
 pub returns-in_err-meet-2-clause-stopped : goal.returns-in_err-meet-2-clause-stopped
 returns-in_err-meet-2-clause-stopped c =
     let p = err_from_is_err_and c.from_residual-in_err-meet-2.result c.from_residual-in_err-meet-2.ensures.1 in
+    let within = rw c.rows-count.ensures.value at c.loop-place-test.true in
     rw (p.1, p.2)
-    (stopped_at c.args.net.now c.args.rows.now c.args.input c.loop-place.place c.columns_exist.ensures c.requires.asked.rules
-    c.requires.asked.is_live c.requires.asked.ends c.requires.asked.input (c.args.settled.now, c.requires.asked.transfer, c.requires.asked.short)
-    c.loop-place-test.true (λ walks dues columns. (c.loop-place.invariant.meet.over walks dues columns).fit) c.in_err-meet-2.field-0.0 c.in_err-meet-2.ensures.refused)
+    (stopped_at c.args.asked.now c.rows-count.ensures.asked c.columns_exist.ensures c.loop-place.place within
+    (λ walks dues columns. (c.loop-place.invariant.meet.over walks dues columns).fit) c.in_err-meet-2.field-0.0 c.in_err-meet-2.ensures.refused)
 
 pub returns-clause-meet : goal.returns-clause-meet
 returns-clause-meet c =
-    let low : length c.args.rows.now ≤ c.loop-place.place = c.loop-place-test.false in
-    let same : c.loop-place.place ≡ length c.args.rows.now = omega arith in
-    subst (λ (n : ℕ). IsMeetOver c.args.net.now c.args.rows.now c.args.input.index n c.loop-place.meet.gain) same c.loop-place.invariant.meet.over
+    let a = c.args.asked.now in
+    let whole : length c.rows-count.result.now ≡ length a.rows = ap length c.rows-count.ensures.value in
+    let low : length c.rows-count.result.now ≤ c.loop-place.place = c.loop-place-test.false in
+    let same : c.loop-place.place ≡ length a.rows = omega arith in
+    subst (λ (n : ℕ). IsMeetOver a.net a.rows a.input.index n c.loop-place.meet.gain) same c.loop-place.invariant.meet.over

@@ -3,6 +3,6 @@ use Rattle.teg_forever.proofs.residuals.meet_of.Given as goal
 
 abbrev pub invariant-loop-place : goal.invariant-loop-place
 invariant-loop-place l = record {
-  divisions : AreDivisions l.rows l.divisions;
-  meet : IsMeetSoFar l.net l.rows l.input.index l.place l.meet;
+  divisions : AreDivisions l.asked.rows l.divisions;
+  meet : IsMeetSoFar l.asked.net l.asked.rows l.asked.input.index l.place l.meet;
 }

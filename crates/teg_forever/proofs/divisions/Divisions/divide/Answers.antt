@@ -1,9 +1,14 @@
+use Rattle.std.proofs.Common.{subst, sym}
 use Rattle.teg_forever.specs.declared.divisions.Divided.{Divided}
 use Rattle.teg_forever.specs.Divisions.{IsDividedAt}
+use Rattle.teg_forever.specs.LateFirings.{IsGoingRow}
 use Rattle.teg_forever.proofs.Dividing.{divided, divisions_kept, kept_place, misfit}
 use Rattle.teg_forever.proofs.Residues.{each_ok}
 use Rattle.teg_forever.proofs.Series.{got}
 use Rattle.teg_forever.proofs.divisions.Divisions.divide.Goals as goal
+
+pub due_gain-requires : goal.due_gain-requires
+due_gain-requires c = subst IsGoingRow (sym c.index-rows-due.is) (c.requires.rows c.args.due c.index-rows-due.result c.requires.due)
 
 pub returns-in-Ok-left-clause-divisions : goal.returns-in-Ok-left-clause-divisions
 returns-in-Ok-left-clause-divisions c =

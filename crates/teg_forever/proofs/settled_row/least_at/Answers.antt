@@ -1,5 +1,5 @@
 use Rattle.std.proofs.Common.{◌∙◌}
-use Rattle.teg_forever.proofs.late.least_at.Goals as goal
+use Rattle.teg_forever.proofs.settled_row.least_at.Goals as goal
 
 pub returns-in_default : goal.returns-in_default
 returns-in_default c =
