@@ -21,7 +21,8 @@ use Rattle.latest_laws.proofs.BackwardEquations.{least_ahead}
 use Rattle.latest_laws.proofs.BackwardSolutions.{solutions_are_latest}
 use Rattle.dating_certificates.specs.CheckedRows.{AreRowsOf}
 use Rattle.dating_certificates.specs.LatestRows.{IsRowOf, ListsDues, date_up_to, AreLocallyLatest, AreLatestRows, LocallyLatestRowsAreLatest}
-use Rattle.dating_certificates.specs.ToldRows.{ToldDates, told_dates, IsPlaceTight, IsRowKept, IsRowTight, IsNextTight, IsTightAt, HasTightPlace, HasTightRow, AreMarked, IsMetAhead, IsMet, IsRowSolved}
+use Rattle.dating_certificates.specs.ToldRows.{ToldDates, told_dates, IsPlaceTight, IsRowKept, IsRowTight, IsNextTight, IsTightAt}
+use Rattle.dating_certificates.specs.ToldRows.{HasTightPlace, HasTightRow, AreMarked, IsMetAhead, IsMet, IsRowSolved}
 
 or_splits : (a b : Bool) → (a || b) ≡ true → (a ≡ true) ⊎ (b ≡ true)
 or_splits true b e = inl refl

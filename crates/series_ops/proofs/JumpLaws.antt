@@ -78,7 +78,8 @@ module _ (l r : List ℤ) (j : List ℕ) (k p m : ℕ) where
       }
 
   -- a jump at one of the places
-  pub found_jump : (best sum new next : ℤ) (n : ℕ) → IsFound best n → p < get_or j n 0 → get_or j n 0 < p + m → date_of_far_cell sum ≡ sums (get_or j n 0) → new ≡ int_max best sum → next ≡ new → IsFound next (n + 1)
+  pub found_jump : (best sum new next : ℤ) (n : ℕ) → IsFound best n → p < get_or j n 0 → get_or j n 0 < p + m
+      → date_of_far_cell sum ≡ sums (get_or j n 0) → new ≡ int_max best sum → next ≡ new → IsFound next (n + 1)
   found_jump best sum new next n h low high es en ex =
       let i : ℕ = get_or j n 0 in
       let there : p + (get_or j n 0 - p) ≡ get_or j n 0 = omega arith in

@@ -144,7 +144,8 @@ module _ {far bound top : ℕ} {early never : ℤ} {width : Width} (scale : IsSc
 
   -- the sum at a place, as the code computes it
   pub part_code : (l r : List ℤ) (k i : ℕ) → AreCellsBy far bound early never l → AreCellsBy far bound early never r → i < length l → k - i < length r
-      → date_by_far far (to_z width (of_z width (to_z width (of_z width (get_or l i (pos 0))) +ℤ to_z width (of_z width (get_or r (k - i) (pos 0)))))) ≡ split_of (value_listed (map (date_by_far far) l)) (value_listed (map (date_by_far far) r)) k i
+      → date_by_far far (to_z width (of_z width (to_z width (of_z width (get_or l i (pos 0))) +ℤ to_z width (of_z width (get_or r (k - i) (pos 0))))))
+      ≡ split_of (value_listed (map (date_by_far far) l)) (value_listed (map (date_by_far far) r)) k i
   part_code l r k i hl hr wl wr =
       let x : ℤ = get_or l i (pos 0) in
       let y : ℤ = get_or r (k - i) (pos 0) in

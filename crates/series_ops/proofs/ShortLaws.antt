@@ -73,7 +73,8 @@ numbers_pushed l n m z d hn hs em ez low =
       subst (λ (x : List ℤ). AreShortOf l x) (sym whole) (shorts_kept l n (cell_of_date d) hs),
     )
 
-pub pushed_dates : (l n : List ℤ) (m : List Date) (z : ℤ) (d : Date) → n ≡ l ++ z ∷ [] → z ≡ cell_of_date d → IsMagnitudeUpTo greatest_listed d → map date_of_far_cell l ≡ m → map date_of_far_cell n ≡ m ++ d ∷ []
+pub pushed_dates : (l n : List ℤ) (m : List Date) (z : ℤ) (d : Date) → n ≡ l ++ z ∷ [] → z ≡ cell_of_date d
+    → IsMagnitudeUpTo greatest_listed d → map date_of_far_cell l ≡ m → map date_of_far_cell n ≡ m ++ d ∷ []
 pushed_dates l n m z d en ez low em =
     let here : date_of_far_cell z ≡ d = ap date_of_far_cell ez ∙ kept long_scale d low in
     ap (map date_of_far_cell) en ∙ map-append date_of_far_cell l (z ∷ [])

@@ -23,7 +23,8 @@ pub step_of : {net : NetLists} {game kept : GameState} {f : Fired} {brought leav
 step_of {net} {game} {kept} {f} {brought} {leaving} {ids} h few g same b out in' =
     let t : ℕ = f.transition.index in
     let moved = tokens_moved net game.run f h.legal (legal_push net game.run f h.legal g) in
-    let into : length ids ≡ count_by (λ p. p.to.index == t) net.places = ap length in' ∙ (ap (λ k. length (get_or k.ends.into t [])) same ∙ length_into net t (get_or game.ends.into t []) (h.ends.into.each t g.transition_in)) in
+    let into : length ids ≡ count_by (λ p. p.to.index == t) net.places = ap length in' ∙
+    (ap (λ k. length (get_or k.ends.into t [])) same ∙ length_into net t (get_or game.ends.into t []) (h.ends.into.each t g.transition_in)) in
     let from : leaving ≡ count_by (λ p. p.from.index == t) net.places = out ∙ (ap (λ k. get_or k.ends.leaving t 0) same ∙ h.ends.leaving t g.transition_in) in
     let low = count_by-le-length (λ p. p.from.index == t) net.places in
     let small = tokens_few net game.run h.rules few in

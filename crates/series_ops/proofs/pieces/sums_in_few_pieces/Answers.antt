@@ -33,7 +33,8 @@ returns c =
     let own : c.as_slice-own.result.now ≡ c.args.first.now = c.as_slice-own.ensures.value ∙ c.in_ok-dates.ensures.value
     ∙ ap (table (value_listed c.args.first.now)) c.len.ensures.value ∙ sym (own_table c.args.first.now) in
     let t : ℕ → Date = value_listed c.as_slice.result.now in
-    first_sums c.args.first.now c.args.second.now c.as_slice.result.now c.in_ok-sums-in-Some.sums.items c.args.span.from c.args.span.count c.args.size (c.as_slice.ensures.value ∙ c.in_ok-others-in-Some.ensures.value)
+    first_sums c.args.first.now c.args.second.now c.as_slice.result.now c.in_ok-sums-in-Some.sums.items c.args.span.from c.args.span.count c.args.size
+    (c.as_slice.ensures.value ∙ c.in_ok-others-in-Some.ensures.value)
     (c.in_ok-sums-in-Some.ensures ∙ ap (λ (z : List Date). table (window (value_listed z) t c.in-Some.few.from c.in-Some.few.count) (length c.as_slice.result.now)) own
     ∙ ap (λ (z : ℕ). table (window (value_listed c.args.first.now) t z c.in-Some.few.count) (length c.as_slice.result.now)) c.in-Some.ensures.from
     ∙ ap (λ (z : ℕ). table (window (value_listed c.args.first.now) t c.args.span.from z) (length c.as_slice.result.now)) c.in-Some.ensures.count)

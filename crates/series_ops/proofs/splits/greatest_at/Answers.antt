@@ -19,7 +19,8 @@ pub returns-then-shift-known-clause-bound : goal.returns-then-shift-known-clause
 returns-then-shift-known-clause-bound c = subst (λ (z : Date). IsMagnitudeUpTo far z)
     (sym (listed_is (window (value_listed c.args.first.now) (value_listed c.args.second.now) c.args.span.from c.args.span.count)
     (length c.args.known.now) c.args.known.now c.requires.known c.args.shift c.if-shift-known.true))
-    (window_up_to c.args.first.now c.args.second.now c.args.span.from c.args.span.count greatest_listed greatest_listed far c.args.shift c.len-first.ensures.bound c.len-second.ensures.bound (omega arith))
+    (window_up_to c.args.first.now c.args.second.now c.args.span.from c.args.span.count greatest_listed greatest_listed
+    far c.args.shift c.len-first.ensures.bound c.len-second.ensures.bound (omega arith))
 
 pub returns-clause-value : goal.returns-clause-value
 returns-clause-value c = c.greatest_split.ensures.value

@@ -15,5 +15,6 @@ returns c =
     let old = c.args.agenda.now.items in
     let ids : List PlaceId = c.of.result.now in
     let adds : AddsPlacesAlong net near t old (old ++ reverse ids) = rw c.of.ensures (added net near t old (get_or c.args.along.now.places t []) (c.requires.along.each t c.requires.transition)) in
-    fact_from_extend (λ y. y.now) c.extend.result c.extend.ensures.ran (λ it b. YieldsList-from_rev_slice ids (ap (λ r. r.iter.rest.now) b ∙ (ap (λ r. r.rest.now) c.rev.ensures.source ∙ c.iter.ensures.rest)))
+    fact_from_extend (λ y. y.now) c.extend.result c.extend.ensures.ran
+    (λ it b. YieldsList-from_rev_slice ids (ap (λ r. r.iter.rest.now) b ∙ (ap (λ r. r.rest.now) c.rev.ensures.source ∙ c.iter.ensures.rest)))
     (λ xs e h. subst (AddsPlacesAlong net near t old) (sym (h.0 ∙ ap (λ w. old ++ w) (flat_map_single (λ y. y.now) xs ∙ e))) adds)

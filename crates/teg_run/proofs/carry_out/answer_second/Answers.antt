@@ -7,7 +7,8 @@ returns-in-Refused g c = second_refused _ c.args.asked.command c.args.net.now _ 
 
 pub returns-in-Accepted : goal.returns-in-Accepted
 returns-in-Accepted g c =
-    second_accepted _ c.args.asked.command c.args.net.now _ _ c.args.asked.second _ _ (SaysFiles c.args.asked.command _ c.args.net.now) _ _ _ c.closed.ensures (rw (c.second_of.ensures, c.as_str.ensures) at c.in-Accepted.ensures)
+    second_accepted _ c.args.asked.command c.args.net.now _ _ c.args.asked.second _ _
+    (SaysFiles c.args.asked.command _ c.args.net.now) _ _ _ c.closed.ensures (rw (c.second_of.ensures, c.as_str.ensures) at c.in-Accepted.ensures)
     c.of_files.ensures.says c.of_files.ensures.shown
 
 pub returns : goal.returns

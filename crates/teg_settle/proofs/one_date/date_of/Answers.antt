@@ -26,4 +26,5 @@ returns c =
     let k = c.args.number in
     let few = c.if-number-count.false in
     subst (IsLeastDate net t k) (sym c.date-in-None.ensures)
-    (row_date net r own.tokens own.waits c.ready_tokens-most.result searched.ready c.in_ok-searched.searched.rows searched.rows t k c.requires.transition c.requires.first (omega (arith, few, c.count.ensures.value)))
+    (row_date net r own.tokens own.waits c.ready_tokens-most.result searched.ready
+    c.in_ok-searched.searched.rows searched.rows t k c.requires.transition c.requires.first (omega (arith, few, c.count.ensures.value)))

@@ -15,7 +15,8 @@ loop-row-preserved c =
     let r : DueRow = get_or rows j none in
     let rule = c.requires.due.each j none c.loop-row-test.true in
     rw c.index-to.ensures
-    (rows_more c.args.self.now rows c.loop-row.met c.args.number j r c.is_tight_row.result rule.in_range (λ d. get_or_default rows j d none c.loop-row-test.true) c.loop-row.invariant c.is_tight_row.ensures)
+    (rows_more c.args.self.now rows c.loop-row.met c.args.number j r c.is_tight_row.result rule.in_range
+    (λ d. get_or_default rows j d none c.loop-row-test.true) c.loop-row.invariant c.is_tight_row.ensures)
 
 pub returns : goal.returns
 returns c = let end : c.loop-row.row-index ≡ length c.args.rows.now = omega (arith, c.loop-row-test.false, c.loop-row.auto.row-index-end) in rw end at c.loop-row.invariant
