@@ -1,5 +1,5 @@
 //! Whether rows of dates that are told move by steps, as a settled form says (chapter 3).
-ghost use Rattle.std.specs.Prelude.{ℕ, ◌+◌, ◌≡◌, ◌≤◌, ◌<◌, IsTrue, length, option_copied};
+ghost use Rattle.std.specs.Prelude.{◌+◌, ◌≡◌, ◌≤◌, ◌<◌, IsTrue, length, option_copied};
 ghost use Rattle.dioid.specs.Dates.{move};
 ghost use Rattle.teg_net.specs.Inputs.{list_of_input};
 ghost use Rattle.teg_net.specs.Nets.{IsInput, IsNet};

@@ -1,6 +1,6 @@
 //! Whether each date of one number, in rows of latest dates that are told, is the least of what is
 //! ahead of it (chapter 5).
-ghost use Rattle.std.specs.Prelude.{ℕ, ◌≡◌, ◌≤◌, ◌<◌, ◌↔◌, ◌⊎◌, All, IsTrue, length};
+ghost use Rattle.std.specs.Prelude.{◌≡◌, ◌≤◌, ◌<◌, ◌↔◌, ◌⊎◌, All, IsTrue, length};
 ghost use Rattle.dioid.specs.Dates.{IsAtMostDate, delayed};
 ghost use Rattle.teg_net.specs.Circuits.{place_at};
 ghost use Rattle.teg_net.specs.Limits.{greatest_firing_number};
