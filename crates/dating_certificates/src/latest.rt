@@ -36,10 +36,10 @@ fn are_solved(told: &ToldRows<'_>, rows: &[DueRow], numbers: u64, met: &mut [boo
 ///
 /// In a live net it says yes just where they are its latest dates for these due dates (`latest`),
 /// which the rows of the list tell ([`due_rows_are_listed`](crate::due_rows_are_listed)). It says
-/// no where the dates are no whole rows up to the number, where a firing past it is due, and where a
-/// date is not the least of what is ahead. The input lists of the net play no part. It takes memory
-/// of one flag for each transition, and time of order `n + p + r` a number for n transitions, p
-/// places and r due dates.
+/// no where the dates are no whole rows up to the number, where a firing past it is due, and where
+/// a date is not the least of what is ahead. The input lists of the net play no part. It takes
+/// memory of one flag for each transition, and time of order `n + p + r` a number for n
+/// transitions, p places and r due dates.
 pub fn check_latest(
     alloc: Global,
     net: &Net,

@@ -136,8 +136,8 @@ pub(crate) fn rows_of(net: &Net, dates: &[Date]) -> Option<u64>
 ///
 /// In a live net it says yes just where they are the first rows of the least dating (`first`). It
 /// says no where the dates are no whole rows, where a number is before 0 or above 2 times 10^30,
-/// which no least date is, and where a date is not the latest of what its firing waits for. It takes
-/// memory for one row, and time of order `n + p` a row for n transitions and p places.
+/// which no least date is, and where a date is not the latest of what its firing waits for. It
+/// takes memory for one row, and time of order `n + p` a row for n transitions and p places.
 pub fn check_rows(alloc: Global, net: &Net, dates: &[Date]) -> Result<bool, OutOfMemory>
     ensures tight { IfOk result (λ yes. IsTrue yes ↔ AreTightRows net.now dates.now) }
     ensures first { IsLive net.now → IfOk result (λ yes. IsTrue yes ↔ AreFirstRows net.now

@@ -20,8 +20,8 @@ const MOST_NUMBERS: u64 = 100_000_000_000_000_000;
 /// is never or from one that is early; and the releases of the inputs move by the steps too. The
 /// rows stand one after another from number 1 on, each with one date for each transition in order.
 /// They have to go on past the number by two periods and one number more, and by two periods and
-/// the tokens of each place. The steps stand one for each transition in order, 0 where the dates are
-/// never.
+/// the tokens of each place. The steps stand one for each transition in order, 0 where the dates
+/// are never.
 ///
 /// In a live net, where it says yes, the dates are the first rows of the least dating, and the form
 /// that they tell with the period and the steps stands for it: the date of each transition at each

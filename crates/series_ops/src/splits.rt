@@ -41,8 +41,8 @@ pub(crate) fn places(from: usize, most: usize, shift: usize) -> usize
     }
 }
 
-// The greatest sum at a shift whose first part is at one of the places of the span: one of the known
-// ones, else found by all splits.
+// The greatest sum at a shift whose first part is at one of the places of the span: one of the
+// known ones, else found by all splits.
 pub(crate) fn greatest_at(
     known: &[Date],
     first: &Cells,

@@ -108,8 +108,8 @@ impl LiveNet {
     /// else stays.
     ///
     /// `TokenFree` comes exactly where some circuit would have no tokens, and names one;
-    /// `OutOfMemory` comes only where no memory is found. A change that is refused leaves the net as
-    /// it was. It takes the time of [`check`].
+    /// `OutOfMemory` comes only where no memory is found. A change that is refused leaves the net
+    /// as it was. It takes the time of [`check`].
     pub fn set_tokens(
         &mut self,
         alloc: Global,

@@ -108,8 +108,8 @@ impl DateCell for u64 {
     }
 }
 
-/// A number from 0 on in eight bytes, of which the greatest stands for `Never`, or one below 0, which
-/// stands for `Early`.
+/// A number from 0 on in eight bytes, of which the greatest stands for `Never`, or one below 0,
+/// which stands for `Early`.
 impl DateCell for i64 {
     ghost use Rattle.std.specs.Prelude.{◌^◌, ⊤};
     ghost use Rattle.teg_dates.specs.DateCells.{date_of_signed_cell};

@@ -35,8 +35,8 @@ impl Model for FirstRows {
 
 impl FirstRows {
     /// Before the first row of the net with these ranks. `OutOfMemory` comes only where no memory
-    /// is found. It takes time of order `n (m + 64) + p log p` for n transitions and p places with at
-    /// most m tokens each.
+    /// is found. It takes time of order `n (m + 64) + p log p` for n transitions and p places with
+    /// at most m tokens each.
     pub fn new(alloc: Global, net: &Net, live: &Live) -> Result<FirstRows, OutOfMemory>
         requires stands { IsRanking net.now live.now }
         ensures stands { IfOk result (AreFirstRowsOf net.now) }

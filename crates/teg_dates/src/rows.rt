@@ -99,8 +99,8 @@ impl Rows {
     }
 
     /// The rows of [`with_next`](Rows::with_next), of a system whose dates up to number 1,000,000
-    /// fit into eight bytes: those rows are made in eight bytes a date, so that they take a third of
-    /// the time and less.
+    /// fit into eight bytes: those rows are made in eight bytes a date, so that they take a third
+    /// of the time and less.
     pub fn with_next_in_cells<S: Source>(
         self,
         net: &Net,

@@ -1,10 +1,10 @@
 //! Whether no date comes after it is due, past a number from which dates and due dates repeat, each
 //! after its own firings: by one look at each of them, and not along their common period.
 //!
-//! The dates of a cycle lie under a line that rises as they do in the long run, and the due dates of
-//! one turn lie over a line that rises as those do. Where the first line begins no higher than the
-//! second, and rises no faster, no date is late. Where both rise alike and their periods have no
-//! common divisor, each date meets each due date, and the lines tell it just so; else they may
+//! The dates of a cycle lie under a line that rises as they do in the long run, and the due dates
+//! of one turn lie over a line that rises as those do. Where the first line begins no higher than
+//! the second, and rises no faster, no date is late. Where both rise alike and their periods have
+//! no common divisor, each date meets each due date, and the lines tell it just so; else they may
 //! cross though none is late.
 ghost use Rattle.std.specs.Prelude.{◌≤◌, ◌<◌, ◌+◌, ◌*◌, IsTrue};
 ghost use Rattle.teg_net.specs.Limits.{greatest_every, greatest_input_date, most_rows};

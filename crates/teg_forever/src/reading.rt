@@ -128,8 +128,8 @@ impl RowFile for EndlessFile<'_> {
 /// that an earlier row has; a number of firings that is not 1 to 1,000, a gap or a date above
 /// 10^12, or more than 10,000 dates; dates that fall, within the list or past it. A first record
 /// `transition`, `every`, `gap`, `dates` is passed over. Dates and gaps are whole numbers in the
-/// user's unit. It takes memory for the rows, and time of the order of the bytes, with the square of
-/// the number of rows; `OutOfMemory` comes only where no memory is found.
+/// user's unit. It takes memory for the rows, and time of the order of the bytes, with the square
+/// of the number of rows; `OutOfMemory` comes only where no memory is found.
 pub fn read_endless(
     alloc: Global,
     net: &Net,

@@ -76,9 +76,9 @@ fn are_apart(rows: &[EndlessRow]) -> bool
 
 /// Whether the rows keep the rules of due dates without end of this net, as
 /// [`forever`](crate::forever) asks it: each is of a transition of the net that is no input, and no
-/// two of one; each has 1 to 10,000 dates in the user's unit, from 0 to 10^12, which never fall, and
-/// goes on after 1 to 1,000 of them by a gap of at most 10^12 so that none falls there (chapter 5).
-/// It takes no memory, and as many steps as there are dates, and as the square of the number of
+/// two of one; each has 1 to 10,000 dates in the user's unit, from 0 to 10^12, which never fall,
+/// and goes on after 1 to 1,000 of them by a gap of at most 10^12 so that none falls there (chapter
+/// 5). It takes no memory, and as many steps as there are dates, and as the square of the number of
 /// rows.
 pub fn is_endless_of(net: &Net, rows: &[EndlessRow]) -> bool
     ensures { IsTrue result ↔ IsEndlessOf net.now rows.now }

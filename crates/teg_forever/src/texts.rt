@@ -96,7 +96,8 @@ fn push_releases(
 
 /// The text of the releases of the inputs in order: a line `latest inputs forever`, and for each
 /// input a line with `free`, or with the values of its series, its period and its step. It takes
-/// the memory of the text, and time of its order; `OutOfMemory` comes only where no memory is found.
+/// the memory of the text, and time of its order; `OutOfMemory` comes only where no memory is
+/// found.
 pub fn releases_text(alloc: Global, net: &Net, releases: &[Release]) -> Result<String, OutOfMemory>
     requires { length releases.now ≡ length (inputs_of net.now) }
     ensures text { IfOk result (λ text. string_bytes text

@@ -65,8 +65,8 @@ impl Parts {
         self.part_of[transition.index as usize]
     }
 
-    /// The number of each transition's part, as a list by transition. `OutOfMemory` comes only where
-    /// no memory is found.
+    /// The number of each transition's part, as a list by transition. `OutOfMemory` comes only
+    /// where no memory is found.
     pub fn numbers(&self) -> Result<Vec<u32>, OutOfMemory>
         ensures { IfOk result (λ numbers. numbers.items ≡ self.now.part_of) }
     {

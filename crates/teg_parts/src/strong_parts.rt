@@ -26,8 +26,8 @@ pub fn split(alloc: Global, net: &Net) -> Result<Parts, OutOfMemory>
 }
 
 /// Whether these are the parts of the net (`AreParts`, chapter 2), as a value is where it was found
-/// for another net: a net has one list of parts, so that they are those that `split` finds. It takes
-/// the time of `split`. `OutOfMemory` comes only where no memory is found.
+/// for another net: a net has one list of parts, so that they are those that `split` finds. It
+/// takes the time of `split`. `OutOfMemory` comes only where no memory is found.
 pub fn are_parts(alloc: Global, net: &Net, parts: &Parts) -> Result<bool, OutOfMemory>
     ensures { IfOk result (λ are. IsTrue are ↔ AreParts net.now parts.now) }
 {

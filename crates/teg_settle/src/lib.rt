@@ -8,8 +8,9 @@
 //! that number and a step; contracts see it as a `SettledForm`. It tells the date of every number.
 //! [`settle_dates`] and [`settle_dates_within`] answer the same form as the rows that show it, for
 //! callers that ask for some of its dates: [`SettledDates`] takes a quarter of the memory.
-//! [`date_of`] answers one date, by the rows alone where they go so far. [`shown_form`] is the step of the search for rows of one's own: it takes no memory, and so many
-//! rows as the lists of the net tell always show a form.
+//! [`date_of`] answers one date, by the rows alone where they go so far. [`shown_form`] is the step
+//! of the search for rows of one's own: it takes no memory, and so many rows as the lists of the
+//! net tell always show a form.
 //!
 //! Rows of dates are made until they show a form: in its last period no step falls along a place,
 //! the dates before move alike, and so do the releases of the inputs. The crate stands on

@@ -121,10 +121,10 @@ fn followed(
 /// places together; `Unworkable` exactly where the plan does not leave some place its time, with
 /// the lowest numbered such place; `TooLong` exactly where there is a limit, from 1 to 200,000,
 /// that the settling length exceeds. `OutOfMemory` comes where no memory is found and, without a
-/// limit, past 20,000,000,000,000 rows, which no memory holds. For n transitions, p places, r delays
-/// and a settling length l it takes time of order `n^2 + n r + (n + p) l`, and what the periods that
-/// are tried take beside the rows, as in [`settle_within`](teg_settle::settle_within); the rows are
-/// kept, eight bytes a date where dates are below 2^63 - 1.
+/// limit, past 20,000,000,000,000 rows, which no memory holds. For n transitions, p places, r
+/// delays and a settling length l it takes time of order `n^2 + n r + (n + p) l`, and what the
+/// periods that are tried take beside the rows, as in [`settle_within`](teg_settle::settle_within);
+/// the rows are kept, eight bytes a date where dates are below 2^63 - 1.
 pub fn spread(
     alloc: Global,
     net: &Net,
