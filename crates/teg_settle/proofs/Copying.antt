@@ -1,8 +1,8 @@
 -- A settled form that is copied from rows of the least dating stands for it.
-use Rattle.std.proofs.Common.{ℕ, zero, suc, ◌+◌, ◌-◌, ◌<◌, ◌≤◌, ◌≡◌, List, [], ◌∷◌, ◌++◌, All, map, Vec, length, get_or, refl, sym, ap, subst, ◌∙◌, arith, ⊎_elim}
+use Rattle.std.proofs.Common.{ℕ, zero, suc, ◌+◌, ◌-◌, ◌<◌, ◌≤◌, ◌≡◌, ◌≢◌, List, [], ◌∷◌, ◌++◌, All, map, Vec, length, get_or, set, refl, sym, ap, subst, ◌∙◌, arith, ⊎_elim}
 use Rattle.std.specs.declared.alloc.Global.{Global}
 use Rattle.std.specs.Prelude.{ℤ, pos}
-use Rattle.std.proofs.lemmas.List.{get_or_default, get_or-map, length-map}
+use Rattle.std.proofs.lemmas.List.{get_or_default, get_or-map, get_or-set_other, get_or-set_same, length-append, length-map, length-set}
 use Rattle.dioid.specs.declared.dates.Date.{Date}
 use Rattle.dioid.specs.declared.dates.Date.TheVariants.{Early, Never}
 use Rattle.dioid.specs.Dates.{move}
@@ -31,6 +31,38 @@ pub mapped_more : {X Y : Type 0} (f : X → Y) (P : ℕ → Y → Type 0) (d : Y
 mapped_more f P d [] y h e t l = let is : t ≡ 0 = omega arith in rw is e
 mapped_more f P d (x ∷ xs) y h e zero l = h 0 (omega arith)
 mapped_more f P d (x ∷ xs) y h e (suc t) l = mapped_more f (λ i. P (suc i)) d xs y (λ i m. h (suc i) (omega arith)) e t (omega arith)
+
+-- no dates
+pub shown_none : (rows : TableDates) (t : ℕ) (dates : List Date) → dates ≡ [] → AreShownDates rows t 0 dates
+shown_none rows t dates is = subst (AreShownDates rows t 0) (sym is) (record { long = refl; same = λ k o m. absurd (omega (arith, o, m)) })
+
+-- dates, and that of the next number
+pub shown_more : (rows : TableDates) (t n : ℕ) (dates all : List Date) (d : Date) → AreShownDates rows t n dates → d ≡ date_at rows t (n + 1) → all ≡ dates ++ d ∷ [] → AreShownDates rows t (n + 1) all
+shown_more rows t n dates all d h e is = subst (AreShownDates rows t (n + 1)) (sym is) (record {
+  long = length-append dates (d ∷ []) ∙ ap (λ m. m + 1) h.long;
+  same = λ k o m.
+      let here : (k - 1) + 1 ≡ k = omega arith in
+      let last : d ≡ date_at rows t (length dates + 1) = e ∙ ap (λ m. date_at rows t (m + 1)) (sym h.long) in
+      let before : (i : ℕ) → i < length dates → get_or dates i Early ≡ date_at rows t (i + 1) = λ i l.
+      let back : (i + 1) - 1 ≡ i = omega arith in
+      ap (λ j. get_or dates j Early) (sym back) ∙ h.same (i + 1) (omega arith) (omega (arith, l, h.long)) in
+      more (λ i x. x ≡ date_at rows t (i + 1)) Early dates d before last (k - 1) (omega (arith, o, m, h.long))
+      ∙ ap (date_at rows t) here;
+})
+
+-- one list of several, and the others
+pub row_there : (table : List (Vec Date Global)) (i : ℕ) (d : Vec Date Global) → i < length table → get_or (map (λ r. r.items) table) i [] ≡ (get_or table i d).items
+row_there table i d l = get_or-map (λ r. r.items) table i d [] l
+
+pub row_set : (P : List Date → Type 0) (table : List (Vec Date Global)) (i : ℕ) (v : Vec Date Global) → i < length table → P v.items → P (get_or (map (λ r. r.items) (set table i v)) i [])
+row_set P table i v l h = subst P (sym (row_there (set table i v) i v (omega (arith, l, length-set table i v)) ∙ ap (λ r. r.items) (get_or-set_same table i v v l))) h
+
+pub row_apart : (P : List Date → Type 0) (table : List (Vec Date Global)) (i : ℕ) (v : Vec Date Global) (t : ℕ) → t < length table → t ≢ i
+    → P (get_or (map (λ r. r.items) table) t []) → P (get_or (map (λ r. r.items) (set table i v)) t [])
+row_apart P table i v t l ne h =
+    subst P
+    (row_there table t v l ∙ sym (row_there (set table i v) t v (omega (arith, l, length-set table i v)) ∙ ap (λ r. r.items) (get_or-set_other table i t v v ne)))
+    h
 
 -- the form has the dates and the steps of the rows
 pub record IsCopy (net : NetLists) (table : TableDates) (f : Repetition) (s : SettledForm) : Type 0 where

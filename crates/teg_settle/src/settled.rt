@@ -1,5 +1,5 @@
 //! A settled form in memory.
-ghost use Rattle.std.specs.Prelude.{ℕ, ◌≡◌, ◌<◌, ◌≤◌, ◌+◌, ◌-◌, ◌*◌, ◌/◌, ◌+ℤ◌, ◌*ℤ◌, FitsSigned, IfOk, IsTrue, pos, length, map, slice_index, slice_index_or, [], if◌then◌else◌};
+ghost use Rattle.std.specs.Prelude.{ℕ, ◌≡◌, ◌<◌, ◌≤◌, ◌+◌, ◌-◌, ◌*◌, ◌/◌, ◌+ℤ◌, ◌*ℤ◌, FitsSigned, IfOk, OnOk, IsTrue, pos, length, map, slice_index, slice_index_or, [], if◌then◌else◌};
 ghost use Rattle.std.specs.Int.{w128};
 ghost use Rattle.teg_net.specs.Limits.{greatest_firing_number, most_transitions};
 ghost use Rattle.dioid.specs.declared.dates.Date.{Date};
@@ -80,25 +80,66 @@ pub(crate) fn back_from(number: u64, settled: u64, period: u64) -> Back
     }
 }
 
-// The first `count` dates of the transition.
-fn dates_of(
-    alloc: Global,
+// In how many numbers the dates of one transition after another are copied: so each part of the
+// rows is read while it is near.
+const COPIED_AT_ONCE: u64 = 64;
+
+// No dates of so many transitions, with room for so many of each.
+fn no_dates(alloc: Global, width: usize, count: u64) -> Result<Vec<Vec<Date>>, AllocError>
+    ensures width { IfOk result (λ table. length table.items ≡ width) }
+    ensures none { IfOk result (λ table. (t : ℕ) → t < width
+        → slice_index_or (map (λ r. r.items) table.items) t [] ≡ []) }
+{
+    let mut table = Vec::new(alloc);
+    for _transition in 0..width {
+        let none = Vec::with_capacity(alloc, count as usize)?;
+        table.push(none)?;
+    }
+    Ok(table)
+}
+
+// Adds the dates of the transition after these, up to number `count`.
+fn add_dates(
+    dates: &mut Vec<Date>,
     rows: &Rows,
     transition: TransitionId,
     count: u64,
-) -> Result<Vec<Date>, AllocError>
+) -> Result<(), AllocError>
     requires transition { transition.index < rows.now.width }
+    requires fewer { length dates.old.items ≤ count }
     requires few { count ≤ rows.now.count }
-    ensures { IfOk result (λ dates. AreShownDates rows.now transition.index count dates.items) }
+    requires shown { AreShownDates rows.now transition.index (length dates.old.items)
+        dates.old.items }
+    ensures { IfOk result (λ _. AreShownDates rows.now transition.index count dates.new.items) }
 {
-    let mut dates = Vec::with_capacity(alloc, count as usize)?;
-    for number in 1..count + 1 {
-        dates.push(rows.date(transition, number))?;
+    for number in dates.len() as u64..count {
+        dates.push(rows.date(transition, number + 1))?;
     }
-    Ok(dates)
+    Ok(())
 }
 
 // The same of each transition.
+fn add_all(table: &mut [Vec<Date>], rows: &Rows, shown: u64, count: u64) -> Result<(), AllocError>
+    requires width { length table.old ≡ rows.now.width }
+    requires small { rows.now.width ≤ most_transitions }
+    requires fewer { shown ≤ count }
+    requires few { count ≤ rows.now.count }
+    requires shown { (t : ℕ) → t < rows.now.width
+        → AreShownDates rows.now t shown (slice_index_or (map (λ r. r.items) table.old) t []) }
+    ensures width { OnOk result (length table.new ≡ rows.now.width) }
+    ensures shown { OnOk result ((t : ℕ) → t < rows.now.width
+        → AreShownDates rows.now t count (slice_index_or (map (λ r. r.items) table.new) t [])) }
+{
+    for index in 0..table.len() {
+        let id = TransitionId {
+            index: index as u32,
+        };
+        add_dates(&mut table[index], rows, id, count)?;
+    }
+    Ok(())
+}
+
+// The first `count` dates of each transition.
 fn table_of(alloc: Global, net: &Net, rows: &Rows, count: u64) -> Result<Vec<Vec<Date>>, AllocError>
     requires width { rows.now.width ≡ length net.now.transitions }
     requires few { count ≤ rows.now.count }
@@ -106,12 +147,12 @@ fn table_of(alloc: Global, net: &Net, rows: &Rows, count: u64) -> Result<Vec<Vec
     ensures rows { IfOk result (λ table. (t : ℕ) → t < length net.now.transitions
         → AreShownDates rows.now t count (slice_index_or (map (λ r. r.items) table.items) t [])) }
 {
-    let mut table = Vec::new(alloc);
-    for index in 0..net.transitions().len() {
-        let id = TransitionId {
-            index: index as u32,
-        };
-        table.push(dates_of(alloc, rows, id, count)?)?;
+    let mut table = no_dates(alloc, net.transitions().len(), count)?;
+    let mut shown = 0;
+    while shown < count {
+        let next = shown + COPIED_AT_ONCE.min(count - shown);
+        add_all(&mut table, rows, shown, next)?;
+        shown = next;
     }
     Ok(table)
 }

@@ -1,16 +1,15 @@
-use Rattle.std.proofs.Common.{[], arith}
-use Rattle.std.proofs.lemmas.Grind.{common_steps}
-use Rattle.teg_settle.specs.Copies.{AreShownDates}
-use Rattle.teg_settle.proofs.Copying.{mapped_more}
+use Rattle.std.proofs.Common.{sym, ◌∙◌, arith}
+use Rattle.teg_settle.proofs.Copying.{shown_none}
 use Rattle.teg_settle.proofs.settled.table_of.Goals as goal
 
-pub loop-index-preserved : goal.loop-index-preserved
-loop-index-preserved c =
-    let inv = c.loop-index.invariant in
+pub loop-shown-init : goal.loop-shown-init
+loop-shown-init c =
+    let none = rw c.transitions.ensures.value at c.in_ok-table.ensures in
     record {
-      count = grind (arith, common_steps);
-      rows = λ t l. rw c.in_ok-push.ensures.items
-          (mapped_more (λ r. r.items) (λ i dates. AreShownDates c.args.rows.now i c.args.count dates) [] c.loop-index.table.items
-          c.in_ok-dates_of.field-0 (λ i m. inv.rows i (omega (arith, inv.count)))
-          (rw inv.count c.in_ok-dates_of.ensures) t (omega (arith, inv.count)));
+      few = omega arith;
+      width = none.width ∙ sym c.requires.width;
+      rows = λ t l. shown_none c.args.rows.now t _ (none.none t (omega (arith, l, c.requires.width)));
     }
+
+pub add_all-requires-clause-small : goal.add_all-requires-clause-small
+add_all-requires-clause-small c = omega (arith, c.requires.width, c.transitions.ensures.rules.few_transitions)

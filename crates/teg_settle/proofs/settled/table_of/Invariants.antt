@@ -1,9 +1,13 @@
-use Rattle.std.proofs.Common.{ℕ, ◌≡◌, ◌<◌, [], map, length, get_or}
+use Rattle.std.proofs.Common.{ℕ, ◌-◌, ◌≡◌, ◌≤◌, ◌<◌, [], map, length, get_or}
 use Rattle.teg_settle.specs.Copies.{AreShownDates}
 use Rattle.teg_settle.proofs.settled.table_of.Given as goal
 
-abbrev pub invariant-loop-index : goal.invariant-loop-index
-invariant-loop-index l = record {
-  count : length l.table.items ≡ l.index;
-  rows : (t : ℕ) → t < l.index → AreShownDates l.rows t l.count (get_or (map (λ r. r.items) l.table.items) t []);
+abbrev pub invariant-loop-shown : goal.invariant-loop-shown
+invariant-loop-shown l = record {
+  few : l.shown ≤ l.count;
+  width : length l.table.items ≡ l.rows.width;
+  rows : (t : ℕ) → t < l.rows.width → AreShownDates l.rows t l.shown (get_or (map (λ r. r.items) l.table.items) t []);
 }
+
+abbrev pub decreases-loop-shown : goal.decreases-loop-shown
+decreases-loop-shown l = l.count - l.shown
