@@ -4,7 +4,7 @@ ghost use Rattle.std.specs.Prelude.{◌≡◌, ◌<◌, length, IfOk, IsTrue, Is
 ghost use Rattle.teg_net.specs.Nets.{IsNet};
 ghost use Rattle.teg_net.specs.Circuits.{from_of, IsCircuit};
 ghost use Rattle.teg_net.specs.Parts.{to_of};
-ghost use Rattle.teg_critical.specs.Hops.{hop_at, open_count, IsUsable, IsHopSmall, AreHops, AreClosed, IsReachedNow, IsPassed, IsLastHop, IsTrace};
+ghost use Rattle.teg_critical.specs.Hops.{hop_at, open_count, IsHopSmall, AreHops, AreClosed, IsReachedNow, IsPassed, IsLastHop, IsTrace};
 
 use std::alloc::{AllocError, Global};
 use teg_net::{Net, Place, PlaceId};
