@@ -91,12 +91,13 @@ def own_places(count, tokens):
     return Net(names, [(f"l{k}", f"s{k}", f"s{k}", 1, own) for k, own in enumerate(tokens)])
 
 
-def overtaken(inputs, lead, count=400, places=4000):
+def overtaken(inputs, lead, count=400, places=4000, later=0):
     """From each input two ways to c: by a, which is slow to begin and does a firing in 10, and by d, in 11. The
-    second overtakes the first after `lead` firings. The other transitions and places are there to be gone through."""
+    second overtakes the first after `lead` firings. From each input all places are held `later` longer than from the
+    one before. The other transitions and places are there to be gone through."""
     inputs = [f"u{k}" for k in range(inputs)]
     rest = [f"x{k}" for k in range(count - len(inputs) - 3)]
-    held = [(f"{name}{end}", name, end, 0, 0) for name in inputs for end in "ad"]
+    held = [(f"{name}{end}", name, end, later * k, 0) for k, name in enumerate(inputs) for end in "ad"]
     held += [("aa", "a", "a", 10, 1), ("dd", "d", "d", 11, 1), ("ac", "a", "c", lead, 0), ("dc", "d", "c", 0, 0)]
     held += [(f"p{k}", rest[k % len(rest)], rest[(k * 7 + 1) % len(rest)], 0, 1) for k in range(len(held), places)]
     return Net(inputs + ["a", "d", "c"] + rest, held, inputs, ["c"])
@@ -253,11 +254,12 @@ def overtaken_text(net, lead):
         f"transition {name} {lines.get(name, others)}" for name in net.names)
 
 
-def overtaken_times(inputs, lead):
-    """The text of `transfer` for the same: from each input alike."""
-    times = row(max(10 * k + lead, 11 * k) for k in range(lead + 1))
+def overtaken_times(inputs, lead, later):
+    """The text of `transfer` for the same: from each input alike, but so much later than from the one before."""
+    times = [max(10 * k + lead, 11 * k) for k in range(lead + 1)]
     return f"transfer of {inputs} inputs to 1 outputs\n" + "".join(
-        f"from u{k} settled after {lead} period 1\nto c {times} step 11\n" for k in range(inputs))
+        f"from u{k} settled after {lead} period 1\nto c {row(time + later * k for time in times)} step 11\n"
+        for k in range(inputs))
 
 
 def steady_text(net, jump):
@@ -408,6 +410,7 @@ def settled_cases():
            {"net": overtaken(0, 199_000, 40, 200).text()}, DONE, "date c 1000000 10999989\n")
     yield overtaken_inputs(20, 990)
     yield overtaken_inputs(200, 990)
+    yield overtaken_inputs(200, 990, 7)
     for tokens, bound in ([101, 103], 6_207_001), ([991, 997], 7_995_001):
         yield (f"bound: own places of {tokens[0]} and {tokens[1]} tokens", ["bound", "net"], {"net": joined_own_places(tokens).text()},
                DONE, f"bound {bound}\nsettled after 0 period {tokens[0] * tokens[1]}\n")
@@ -474,10 +477,10 @@ def wide_replay(firings):
             f"replayed {firings} firings\nfirings {firings}\nhigh water 4000\ngreatest lateness 0\n")
 
 
-def overtaken_inputs(inputs, lead):
+def overtaken_inputs(inputs, lead, later=0):
     """Times of walks from inputs, which settle late."""
-    return (f"transfer: {inputs} inputs overtaken after {lead:,}", ["transfer", "net"], {"net": overtaken(inputs, lead).text()}, DONE,
-            partial(overtaken_times, inputs, lead))
+    return (f"transfer: {inputs} inputs overtaken after {lead:,}, each {later} later", ["transfer", "net"],
+            {"net": overtaken(inputs, lead, later=later).text()}, DONE, partial(overtaken_times, inputs, lead, later))
 
 
 def answered_cases():

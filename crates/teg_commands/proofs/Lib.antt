@@ -1,6 +1,7 @@
 pub mod BestRatios
 pub mod CycleTold
 pub mod Formed
+pub mod Lagged
 pub mod Paths
 pub mod Planned
 pub mod Released

@@ -1,5 +1,5 @@
 -- The times from the inputs of a net to its outputs.
-use Rattle.std.proofs.Common.{◌≡◌, ◌+◌, ◌<◌, ◌≤◌, ◌++◌, ◌∷◌, [], ℕ, Bool, cond, ap, ◌∙◌, true, false, List, Option, Some, None, All, length, map, take, get_or, refl, sym, subst, arith}
+use Rattle.std.proofs.Common.{◌≡◌, ◌+◌, ◌<◌, ◌++◌, ◌∷◌, [], ℕ, Bool, cond, ap, ◌∙◌, true, false, List, Option, Some, None, All, length, map, take, get_or, refl, sym, subst, arith}
 use Rattle.std.specs.Prelude.{IsSomeAnd, slice_get}
 use Rattle.std.specs.List.{filter, range_with_len}
 use Rattle.std.specs.Option.{option_map_or}
@@ -9,15 +9,14 @@ use Rattle.std.proofs.lemmas.List.Elements.{All-append, All-cons, All-filter, Al
 use Rattle.std.proofs.Math.Seq.{take-suc}
 use Rattle.std.proofs.lemmas.List.FromFn.{filter_of_map_range_with_len_more, get_or-map-range_with_len, length-map-range_with_len}
 use native.Mathlib.Numerals.{unary_clauses}
-use Rattle.settled_laws.specs.SettledForms.{SettledForm, settled_length}
+use Rattle.settled_laws.specs.SettledForms.{SettledForm}
 use Rattle.teg_net.specs.declared.entries.Role.{Role}
 use Rattle.teg_net.specs.declared.entries.Role.TheVariants.{Internal, Input, Output}
 use Rattle.teg_net.specs.declared.entries.Transition.{Transition}
 use Rattle.teg_net.specs.declared.entries.TransitionId.{TransitionId}
 use Rattle.teg_net.specs.Nets.{NetLists, IsInput}
 use Rattle.teg_report.specs.SettledTexts.{AreTimesIn, TimesFrom, TimesTo}
-use Rattle.teg_settle.specs.Transfers.{IsTransferOf}
-use Rattle.teg_commands.specs.Transfer.{AreTimesFrom, IsTimesFrom, has_transition_role, is_same_role, those_of_role, times_in, times_of, transition_id}
+use Rattle.teg_commands.specs.Transfer.{AreTimesFrom, IsTimesFrom, has_transition_role, is_same_role, those_of_role, times_in, transition_id}
 
 -- the transitions of a role are some of the net
 pub those_within : (net : NetLists) (role : Role) → All (λ t. t.index < length net.transitions) (those_of_role net role)

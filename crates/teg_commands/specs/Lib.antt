@@ -6,6 +6,7 @@ pub mod CommandDates
 pub mod Forever
 pub mod Form
 pub mod Jit
+pub mod Lags
 pub mod SpecialCases
 pub mod CommandLimits
 pub mod List

@@ -28,6 +28,7 @@ mod dates;
 mod forever;
 mod form;
 mod jit;
+mod lags;
 mod laws;
 mod migrate;
 mod numbers;
