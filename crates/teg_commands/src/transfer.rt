@@ -235,8 +235,8 @@ fn times_by_another(
     Ok(None)
 }
 
-// What is asked of each input: the transitions where its walks end, the places where they begin, and
-// how long a form is taken.
+// What is asked of each input: the transitions where its walks end, the places where they begin,
+// and how long a form is taken.
 #[derive(Drop)]
 struct Asked {
     outputs: Vec<TransitionId>,
