@@ -1,6 +1,7 @@
 -- Inputs whose places lead on alike, but that from one all is held so much longer: walks from it take so much longer, and so its times are
 -- those from the other, all moved.
-use Rattle.std.proofs.Common.{ℕ, ℤ, pos, suc, ◌+◌, ◌-◌, ◌<◌, ◌≤◌, ◌≡◌, ◌≢◌, ◌==◌, ◌⊎◌, ◌+ℤ◌, ◌-ℤ◌, inl, inr, true, false, List, [], ◌∷◌, Option, Some, None, All, length, map, take, get_or, refl, sym, subst, ap, ◌∙◌, arith, ⊎_elim}
+use Rattle.std.proofs.Common.{ℕ, ℤ, pos, suc, ◌+◌, ◌-◌, ◌<◌, ◌≤◌, ◌≡◌, ◌≢◌, ◌==◌, ◌⊎◌, ◌+ℤ◌, ◌-ℤ◌, inl, inr, true, false}
+use Rattle.std.proofs.Common.{List, [], ◌∷◌, Option, Some, None, All, length, map, take, get_or, refl, sym, subst, ap, ◌∙◌, arith, ⊎_elim}
 use Rattle.std.specs.Prelude.{◌≤ℤ◌, Contains, IfOk, IfSome, IsSomeAnd, Result, slice_get, if◌then◌else◌}
 use Rattle.std.specs.List.{range_with_len}
 use Rattle.std.specs.Option.{option_map_or}
@@ -123,7 +124,8 @@ module _ (net : NetLists) (ok : IsNet net) (u v : ℕ) (lag : ℤ) (first : IsIn
         own = By q ∷ steps;
         walk = (own.1, own.2, on);
         time = lag_first (walk_time net (By q ∷ steps)) (walk_time net (By p ∷ steps)) (place_at net q).hold (place_at net p).hold (walk_time net steps) more
-            (sum_by-cons (step_time net) (By q) steps) (sum_by-cons (step_time net) (By p) steps) (subst (λ (z : ℤ). pos (place_at net q).hold ≡ pos (place_at net p).hold +ℤ z) (sym same.1) twin.hold);
+            (sum_by-cons (step_time net) (By q) steps) (sum_by-cons (step_time net) (By p) steps)
+            (subst (λ (z : ℤ). pos (place_at net q).hold ≡ pos (place_at net p).hold +ℤ z) (sym same.1) twin.hold);
       }
     where
       there : (s t : ℕ) (more : ℤ) → Swaps u v lag s t more → (IsInput net s → ⊥) → (s ≡ t) × (more ≡ lag)
@@ -379,7 +381,8 @@ leads net lists u v lag are u_in v_in each p within from =
     )
 
 -- the places that leave two transitions, each with one that is held so much longer, or shorter
-pub lists_lagged : (net : NetLists) (lists : List (List PlaceId)) (u v : ℕ) (lag : ℤ) (firsts others : List PlaceId) → ArePlacesOf net From lists → u < length net.transitions → v < length net.transitions
+pub lists_lagged : (net : NetLists) (lists : List (List PlaceId)) (u v : ℕ) (lag : ℤ) (firsts others : List PlaceId)
+    → ArePlacesOf net From lists → u < length net.transitions → v < length net.transitions
     → firsts ≡ get_or lists u [] → others ≡ get_or lists v []
     → All (λ p. HasHeldLonger net lag others (place_at net p)) firsts → All (λ p. HasHeldLonger net (pos 0 -ℤ lag) firsts (place_at net p)) others → AreLagged net u v lag
 lists_lagged net lists u v lag firsts others are u_in v_in a b there back = (

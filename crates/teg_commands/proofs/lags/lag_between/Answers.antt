@@ -13,5 +13,6 @@ returns-then-lead_longer-2 c =
     let minus : to_z w128 (of_z w128 (pos 0 -ℤ lag)) ≡ pos 0 -ℤ lag = to_z-of_z w128 (pos 0 -ℤ lag) (record { sfits = c.lag_of_firsts-lag.ensures.sfits }) in
     let there = rw known at (c.lead_longer.ensures c.if-lead_longer.true) in
     let back = rw (known, minus) at (c.lead_longer-then-lead_longer.ensures c.if-lead_longer-2.true) in
-    rw known (lists_lagged c.args.net.now c.args.leaving.now c.args.first.index c.args.other.index lag c.of-firsts.result.now c.of-others.result.now c.requires.leaving c.requires.first c.requires.other
+    rw known (lists_lagged c.args.net.now c.args.leaving.now c.args.first.index c.args.other.index lag c.of-firsts.result.now c.of-others.result.now
+    c.requires.leaving c.requires.first c.requires.other
     c.of-firsts.ensures c.of-others.ensures there back)

@@ -22,5 +22,6 @@ returns c = λ yes.
     let firsts = c.args.firsts.now in
     let low : length firsts ≤ c.loop-first.first-index = c.loop-first-test.false in
     let known : to_z w128 (of_z w128 c.args.lag) ≡ c.args.lag = to_z-of_z w128 c.args.lag (record { sfits = c.ranges.lag.sfits }) in
-    let all = subst (All (λ p. HasHeldLonger c.args.net.now (to_z w128 (of_z w128 c.args.lag)) c.args.others.now (place_at c.args.net.now p))) (take_all c.loop-first.first-index firsts low) c.loop-first.invariant in
+    let all = subst (All (λ p. HasHeldLonger c.args.net.now (to_z w128 (of_z w128 c.args.lag)) c.args.others.now (place_at c.args.net.now p)))
+    (take_all c.loop-first.first-index firsts low) c.loop-first.invariant in
     subst (λ z. All (λ p. HasHeldLonger c.args.net.now z c.args.others.now (place_at c.args.net.now p)) firsts) known all
