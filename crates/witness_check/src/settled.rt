@@ -13,7 +13,7 @@ use crate::settled_reading::settled_in;
 use dating_certificates::check_settled;
 use dioid::Date;
 use std::alloc::{AllocError, Global};
-use teg_net::{Net, OutOfMemory, TransitionId};
+use teg_net::{Net, OutOfMemory};
 use teg_text::{push_date, push_settled};
 
 /// What the text of `teg dates` shows of a live net: past this number its dates go on by steps in
@@ -73,13 +73,13 @@ fn push_told(
     Ok(())
 }
 
-// Begins the line of the transition.
-fn begin_form_line(text: &mut String, net: &Net, transition: TransitionId) -> Result<(), AllocError>
-    requires { transition.index < length net.now.transitions }
+// Begins the line of the transition of this number.
+fn begin_form_line(text: &mut String, net: &Net, index: usize) -> Result<(), AllocError>
+    requires { index < length net.now.transitions }
     ensures { IfOk result (λ _. string_bytes text.new ≡ string_bytes text.old
-        ++ (codes "transition " ++ name_of_transition net.now transition)) }
+        ++ (codes "transition " ++ name_of_transition net.now (record { index = index }))) }
 {
-    let name = net.transitions()[transition.index as usize].name.as_str();
+    let name = net.transitions()[index].name.as_str();
     write!(text, "transition {name}")
 }
 
@@ -104,15 +104,10 @@ fn push_form_line(
     requires rows { form.count * form.width ≤ length form.dates.now }
     requires steps { length form.steps.now ≡ form.width }
     ensures { IfOk result (λ _. string_bytes text.new ≡ string_bytes text.old
-        ++ line_then (form_line net.now (form_by_rows form.width form.dates.now form.after
-        form.period form.steps.now) index) []) }
+        ++ line_then (form_line net.now (form_by_rows form.entry.width form.entry.dates.now
+        form.entry.after form.entry.period form.entry.steps.now) index) []) }
 {
-    // The rules of the net, by which its transitions are few.
-    net.rules();
-    let transition = TransitionId {
-        index: index as u32,
-    };
-    begin_form_line(text, net, transition)?;
+    begin_form_line(text, net, index)?;
     push_told(text, form.dates, form.width, index, form.count)?;
     end_form_line(text, form.steps[index])?;
     Ok(())
@@ -125,7 +120,8 @@ fn lines_of(alloc: Global, net: &Net, form: FormRows<'_>) -> Result<String, Allo
     requires rows { form.count * form.width ≤ length form.dates.now }
     requires steps { length form.steps.now ≡ form.width }
     ensures { IfOk result (λ text. string_bytes text ≡ written (lines_of_form net.now
-        (form_by_rows form.width form.dates.now form.after form.period form.steps.now))) }
+        (form_by_rows form.entry.width form.entry.dates.now form.entry.after form.entry.period
+        form.entry.steps.now))) }
 {
     let mut text = String::new(alloc);
     push_settled(&mut text, form.after, form.period)?;

@@ -115,7 +115,8 @@ fn push_firings(
     requires ways { rows.numbers * rows.width ≤ length rows.ways.now }
     requires in_net { All (IsWayIn net.now) rows.ways.now }
     ensures { IfOk result (λ _. string_bytes text.new ≡ string_bytes text.old ++ written
-        (firing_lines net.now rows.width rows.numbers rows.dates.now rows.ways.now index)) }
+        (firing_lines net.now rows.entry.width rows.entry.numbers rows.entry.dates.now
+        rows.entry.ways.now index)) }
 {
     for before in 0..rows.numbers {
         let at = before as usize * rows.width + index;
@@ -137,7 +138,7 @@ fn lines_of(alloc: Global, net: &Net, rows: TableRows<'_>) -> Result<String, All
     requires ways { rows.numbers * rows.width ≤ length rows.ways.now }
     requires in_net { All (IsWayIn net.now) rows.ways.now }
     ensures { IfOk result (λ text. string_bytes text ≡ written (table_told_lines net.now
-        rows.width rows.numbers rows.dates.now rows.ways.now)) }
+        rows.entry.width rows.entry.numbers rows.entry.dates.now rows.entry.ways.now)) }
 {
     let numbers = rows.numbers;
     let mut text = format!(in alloc; "latest inputs for {numbers} firings\n")?;

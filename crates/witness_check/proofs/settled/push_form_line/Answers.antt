@@ -1,4 +1,4 @@
-use Rattle.std.proofs.Common.{ℕ, ◌≡◌, ◌++◌, ◌∷◌, [], List, pos, codes, map, slice_index_or, ap, sym, ◌∙◌, append_assoc, string_bytes}
+use Rattle.std.proofs.Common.{rules, ℕ, ◌≡◌, ◌++◌, ◌∷◌, [], List, pos, codes, map, slice_index_or, ap, sym, ◌∙◌, append_assoc, string_bytes}
 use Rattle.std.specs.Fmt.{signed_decimal}
 use Rattle.std.specs.List.{range_with_len}
 use Rattle.settled_laws.specs.SettledForms.{row_of}
@@ -24,7 +24,8 @@ returns c =
     let body = further_then (map word numbers ++ last) [] in
     let row : map date_word (row_of (form_by_rows form.width form.dates.now form.after form.period form.steps.now) t) ≡ map word numbers =
     rw c.requires.count (words_of_row form.width form.dates.now form.after form.period form.steps.now t (rw c.requires.width c.requires.index)) in
-    line_goes_on word numbers last (string_bytes c.begin_form_line.new.text) (string_bytes c.push_told.new.text) _ c.in_ok-push_told.ensures c.in_ok-end_form_line.ensures
+    let ended : string_bytes c.end_form_line.new.text ≡ string_bytes c.push_told.new.text ++ further_then last [] = search rules in
+    line_goes_on word numbers last (string_bytes c.begin_form_line.new.text) (string_bytes c.push_told.new.text) _ c.in_ok-push_told.ensures ended
     ∙ (ap (λ (l : List ℕ). l ++ body) c.in_ok-begin_form_line.ensures
     ∙ (append_assoc before (codes "transition " ++ name) body
     ∙ ap (λ (ws : List (List ℕ)). before ++ line_then (codes "transition" ∷ name ∷ (ws ++ last)) []) (sym row)))

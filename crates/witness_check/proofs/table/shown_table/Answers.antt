@@ -7,8 +7,8 @@ pub returns : goal.returns
 returns c =
     let net = c.args.net.now in
     let told = c.in-Some.told in
-    let dates = c.as_slice.result.now in
-    let ways = c.as_slice-2.result.now in
+    let dates = c.as_slice-dates.result.now in
+    let ways = c.as_slice-ways.result.now in
     let same : string_bytes c.in_ok-lines.lines ≡ c.args.text.now = search rules in
     let sure : IsTrue c.in_ok-check_latest.field-0 = search rules in
     let wide = ap length c.transitions.ensures.value in (
