@@ -8,7 +8,7 @@ ghost use Rattle.witness_check.specs.ShownSizes.{IsAtMostEnough, IsNoneEnough, I
 
 use crate::beginnings::begins_with;
 use crate::potentials::potentials_of;
-use crate::size_reading::{SizeTold, size_in};
+use crate::size_reading::size_in;
 use std::alloc::{AllocError, Global};
 use teg_certificates::{
     always_above_shows_none, check_enough, shows_never_enough, shows_too_few,
@@ -165,17 +165,18 @@ fn shown_enough(
     }))
 }
 
-// The answer that no number is enough, where the circuit that was read shows that.
+// The answer that no number is enough, where that is shown.
 fn shown_impossible(
     alloc: Global,
     net: &Net,
     text: &str,
-    told: &SizeTold,
+    place: PlaceId,
+    target: Ratio,
+    circuit: &[PlaceId],
 ) -> Result<Option<ShownSize>, AllocError>
     ensures { IfOk result (λ shown. IfSome shown (IsShownSize net.now text.now)) }
 {
-    let (place, target) = (told.place, told.target);
-    if !is_impossible(net, &target, place, &told.circuit) {
+    if !is_impossible(net, &target, place, circuit) {
         return Ok(None);
     }
     if !tells_impossible(alloc, net, text, place, &target)? {
@@ -204,7 +205,7 @@ pub fn shown_size(alloc: Global, net: &Net, text: &str) -> Result<Option<ShownSi
             };
             shown_enough(alloc, net, text, sizing, &told.circuit)?
         }
-        None => shown_impossible(alloc, net, text, &told)?,
+        None => shown_impossible(alloc, net, text, told.place, told.target, &told.circuit)?,
     };
     Ok(shown)
 }
