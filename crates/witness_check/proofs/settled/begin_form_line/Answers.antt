@@ -1,4 +1,4 @@
-use Rattle.std.proofs.Common.{◌≡◌, List, length, slice_index_or, ap, ◌∙◌}
+use Rattle.std.proofs.Common.{◌≡◌, List, slice_index_or, ap, ◌∙◌}
 use Rattle.std.proofs.lemmas.List.{get_or_default}
 use Rattle.teg_net.specs.declared.entries.Transition.{Transition}
 use Rattle.teg_text.specs.WordsOfNames.{name_of_transition, no_transition}

@@ -1,4 +1,4 @@
-use Rattle.std.proofs.Common.{ℕ, ◌+◌, ◌-◌, ◌*◌, ◌≡◌, List, [], ◌∷◌, ◌++◌, slice_index_or, refl, ap, ◌∙◌, append_assoc, string_bytes, arith}
+use Rattle.std.proofs.Common.{ℕ, ◌+◌, ◌-◌, ◌*◌, ◌≡◌, List, [], ◌∷◌, ◌++◌, slice_index_or, ap, ◌∙◌, append_assoc, string_bytes, arith}
 use Rattle.dioid.specs.declared.dates.Date.TheVariants.{Early}
 use Rattle.teg_text.specs.ValueWords.{date_word}
 use Rattle.teg_text.proofs.Listing.{more_after}

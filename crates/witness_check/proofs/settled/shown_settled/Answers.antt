@@ -1,4 +1,4 @@
-use Rattle.std.proofs.Common.{rules, ◌≡◌, List, ℕ, IsTrue, refl, sym, ap, ◌∙◌, length, string_bytes}
+use Rattle.std.proofs.Common.{rules, ◌≡◌, ℕ, IsTrue, refl, sym, ap, ◌∙◌, length, string_bytes}
 use Rattle.teg_net.specs.Circuits.{IsLive}
 use Rattle.teg_text.specs.Lines.{written}
 use Rattle.dating_certificates.specs.SettledRows.{form_by_rows, SettlesAs}

@@ -1,4 +1,4 @@
-use Rattle.std.proofs.Common.{ℕ, ◌+◌, ◌-◌, ◌*◌, ◌≡◌, [], slice_index_or, None, ap, string_bytes, arith}
+use Rattle.std.proofs.Common.{◌+◌, ◌-◌, ◌*◌, ◌≡◌, [], slice_index_or, None, ap, string_bytes, arith}
 use Rattle.std.specs.List.{range_with_len}
 use Rattle.dioid.specs.declared.dates.Date.TheVariants.{Early}
 use Rattle.teg_text.specs.Lines.{line_then}
