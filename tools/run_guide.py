@@ -17,9 +17,10 @@ examples/:
 Each file of examples/ is named by a command of the guide, and each command that takes a net alone, by the
 usage, answers for each net there: with status 0, or, where the net is refused, as `check` does.
 
-With --witnesses each answer of `check`, `cycle`, `size` and `jit` that a command of the guide asks for is handed to the
-program witness_runner that `rt ci` leaves, which has to tell it as shown, and then with one number of it made greater by
-one, or of a circuit without tokens with the last place left out, which has to be told as not shown.
+With --witnesses each answer of `check`, `cycle`, `dates`, `size` and `jit` that a command of the guide asks for, and of
+`timetable` each whose delays are kept, is handed to the program witness_runner that `rt ci` leaves, which has to tell it as
+shown, and then with one number of it made greater by one, or of a circuit that stands without numbers with the last place
+left out, which has to be told as not shown.
 
 A difference is told. The last line is 'N passed, M failed', and the exit status 0 where some passed and none failed.
 """
@@ -34,9 +35,11 @@ from common import TOP, Status
 
 
 # What asks for an answer that a checker reads, and how such answers begin.
-ASKS = re.compile(r"\./teg (?:check|cycle|size|jit)(?: [\w./]+)+")
+ASKS = re.compile(r"\./teg (?:check|cycle|dates|size|jit|timetable)(?: [\w./]+)+")
 TABLE = "latest inputs for "
-CLAIMS = ("live\n", "refused: token-free circuit ", "cycle time ", "size ", "late ", TABLE)
+SETTLED = "settled after "
+KEPT = re.compile(r"settled after .*\nkept\n")
+CLAIMS = ("live\n", "refused: token-free circuit ", "cycle time ", "size ", "late ", SETTLED, TABLE)
 
 
 def blocks_of(text):
@@ -68,20 +71,31 @@ def indented(text):
     return "".join(f"    {line}\n" for line in text.splitlines()) or "    (nothing)\n"
 
 
+def raised(line):
+    """The line with its last number made greater by one, and with its last date before a step."""
+    for number in (r"(.* )(\d+)", r"(.* )(\d+)(?= step )"):
+        if re.match(number, line):
+            yield re.sub(number, lambda found: f"{found[1]}{int(found[2]) + 1}", line, count=1)
+
+
 def changed(text):
-    """The answer with a number made greater by one: the last of a line of the table of latest dates that tells a date,
-    line by line, or the last of the first line of another answer that has one. A circuit loses its last place."""
+    """The answer with a number made greater by one, the last of a line: of the table of latest dates in each line that tells
+    a date, of settled dates in each line, and else in the first line that has one. The circuit of delays that are kept, and one
+    that stands alone, loses its last place."""
     lines = text.splitlines(keepends=True)
     numbered = [at for at, line in enumerate(lines) if re.search(r" \d+\b", line)]
+    if KEPT.match(text):
+        yield re.sub(r"^(circuit.*) \S+$", r"\1", text, count=1, flags=re.M)
+        return
     if text.startswith(TABLE):
         numbered = [at for at in numbered[1:] if not lines[at].endswith(" free\n")]
     elif not numbered:
         yield re.sub(r" \S+\n", "\n", text, count=1)
-    else:
+    elif not text.startswith(SETTLED):
         numbered = numbered[:1]
     for at in numbered:
-        other = re.sub(r"(.* )(\d+)", lambda found: f"{found[1]}{int(found[2]) + 1}", lines[at], count=1)
-        yield "".join([*lines[:at], other, *lines[at + 1 :]])
+        for other in raised(lines[at]):
+            yield "".join([*lines[:at], other, *lines[at + 1 :]])
 
 
 def odd_witnesses(command, folder):
@@ -89,9 +103,10 @@ def odd_witnesses(command, folder):
     for asked in ASKS.findall(command):
         words = asked.split()
         text = run(words, folder)[1]
-        if not text.startswith(CLAIMS):
+        if not text.startswith(CLAIMS) or words[1] == "timetable" and not KEPT.match(text):
             continue
-        files = [words[2], "answer.txt", *(words[3:] if words[1] == "jit" else [])]
+        further = {"jit": words[3:], "timetable": words[3:4]}
+        files = [words[2], "answer.txt", *further.get(words[1], [])]
         odd = 0
         for other, due in [(text, (0, False)), *((it, (1, True)) for it in changed(text))]:
             with open(f"{folder}/answer.txt", "w", encoding="utf-8") as file:

@@ -32,21 +32,24 @@ pub enum ShownSize {
     },
 }
 
-// Appends the line of a number that is enough.
-fn push_enough(
-    text: &mut String,
-    net: &Net,
+// So many extra tokens of a place, and a target.
+#[derive(Clone, Copy)]
+struct Sizing {
     place: PlaceId,
-    target: &Ratio,
+    target: Ratio,
     extra: u64,
-) -> Result<(), AllocError>
-    requires { place.index < length net.now.places }
-    ensures { IfOk result (λ _. string_bytes text.new ≡
-        string_bytes text.old ++ line_then (enough_words net.now place target.now extra) []) }
+}
+
+// Appends the line of a number that is enough.
+fn push_enough(text: &mut String, net: &Net, sizing: Sizing) -> Result<(), AllocError>
+    requires { sizing.place.index < length net.now.places }
+    ensures { IfOk result (λ _. string_bytes text.new ≡ string_bytes text.old
+        ++ line_then (enough_words net.now sizing.place sizing.target sizing.extra) []) }
 {
-    let name = net.places()[place.index as usize].name.as_str();
-    let time = target.time();
-    let tokens = target.tokens();
+    let name = net.places()[sizing.place.index as usize].name.as_str();
+    let time = sizing.target.time();
+    let tokens = sizing.target.tokens();
+    let extra = sizing.extra;
     write!(text, "size {name} {time}/{tokens} extra {extra}\n")
 }
 
@@ -68,22 +71,15 @@ fn push_impossible(
 }
 
 // Whether the text begins with the line of a number that is enough.
-fn tells_enough(
-    alloc: Global,
-    net: &Net,
-    text: &str,
-    place: PlaceId,
-    target: &Ratio,
-    extra: u64,
-) -> Result<bool, AllocError>
-    ensures { IfOk result (λ yes. IsTrue yes
-        → BeginsWithLine text.now (enough_words net.now place target.now extra)) }
+fn tells_enough(alloc: Global, net: &Net, text: &str, sizing: Sizing) -> Result<bool, AllocError>
+    ensures { IfOk result (λ yes. IsTrue yes → BeginsWithLine text.now
+        (enough_words net.now sizing.place sizing.target sizing.extra)) }
 {
-    if !net.contains_place(place) {
+    if !net.contains_place(sizing.place) {
         return Ok(false);
     }
     let mut line = String::new(alloc);
-    push_enough(&mut line, net, place, target, extra)?;
+    push_enough(&mut line, net, sizing)?;
     Ok(begins_with(text, line.as_str()))
 }
 
@@ -107,36 +103,29 @@ fn tells_impossible(
 }
 
 // Whether the number is 0, or the circuit shows that one less is too few.
-fn is_at_most_enough(
-    net: &Net,
-    target: &Ratio,
-    place: PlaceId,
-    extra: u64,
-    circuit: &[PlaceId],
-) -> bool
-    ensures { IsTrue result → IsAtMostEnough net.now target.now place extra }
+fn is_at_most_enough(net: &Net, sizing: Sizing, circuit: &[PlaceId]) -> bool
+    ensures { IsTrue result → IsAtMostEnough net.now sizing.target sizing.place sizing.extra }
 {
     still_above_shows_more();
-    if extra == 0 {
+    if sizing.extra == 0 {
         return true;
     }
-    shows_too_few(net, target, place, extra - 1, circuit)
+    let less = sizing.extra - 1;
+    shows_too_few(net, &sizing.target, sizing.place, less, circuit)
 }
 
 // Whether so many extra tokens are enough, and no fewer.
-fn is_fewest(
-    net: &Net,
-    target: &Ratio,
-    place: PlaceId,
-    extra: u64,
-    potentials: &[i128],
-    circuit: &[PlaceId],
-) -> bool
-    ensures enough { IsTrue result → IsEnough net.now target.now place extra }
-    ensures fewest { IsTrue result → IsAtMostEnough net.now target.now place extra }
+fn is_fewest(net: &Net, sizing: Sizing, potentials: &[i128], circuit: &[PlaceId]) -> bool
+    ensures enough { IsTrue result → IsEnough net.now sizing.target sizing.place sizing.extra }
+    ensures fewest { IsTrue result → IsAtMostEnough net.now sizing.target sizing.place
+        sizing.extra }
 {
-    check_enough(net, target, place, extra, potentials)
-        && is_at_most_enough(net, target, place, extra, circuit)
+    let Sizing {
+        place,
+        target,
+        extra,
+    } = sizing;
+    check_enough(net, &target, place, extra, potentials) && is_at_most_enough(net, sizing, circuit)
 }
 
 // Whether the circuit shows that no number is enough.
@@ -152,18 +141,21 @@ fn shown_enough(
     alloc: Global,
     net: &Net,
     text: &str,
-    place: PlaceId,
-    target: Ratio,
-    extra: u64,
+    sizing: Sizing,
     circuit: &[PlaceId],
 ) -> Result<Option<ShownSize>, AllocError>
     ensures { IfOk result (λ shown. IfSome shown (IsShownSize net.now text.now)) }
 {
+    let Sizing {
+        place,
+        target,
+        extra,
+    } = sizing;
     let potentials = potentials_of(alloc, net, target, place, extra)?;
-    if !is_fewest(net, &target, place, extra, &potentials, circuit) {
+    if !is_fewest(net, sizing, &potentials, circuit) {
         return Ok(None);
     }
-    if !tells_enough(alloc, net, text, place, &target, extra)? {
+    if !tells_enough(alloc, net, text, sizing)? {
         return Ok(None);
     }
     Ok(Some(ShownSize::Enough {
@@ -205,15 +197,14 @@ pub fn shown_size(alloc: Global, net: &Net, text: &str) -> Result<Option<ShownSi
         return Ok(None);
     };
     let shown = match told.extra {
-        Some(extra) => shown_enough(
-            alloc,
-            net,
-            text,
-            told.place,
-            told.target,
-            extra,
-            &told.circuit,
-        )?,
+        Some(extra) => {
+            let sizing = Sizing {
+                place: told.place,
+                target: told.target,
+                extra,
+            };
+            shown_enough(alloc, net, text, sizing, &told.circuit)?
+        }
         None => shown_impossible(alloc, net, text, told.place, told.target, &told.circuit)?,
     };
     Ok(shown)

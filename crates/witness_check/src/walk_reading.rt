@@ -2,52 +2,61 @@
 use std::alloc::{AllocError, Global};
 use teg_net::{Net, Step, TransitionId, Walk};
 
-// Where the line of a firing stands among those of the latest dates of so many numbers.
-fn line_of(transition: TransitionId, number: u64, numbers: usize) -> Option<usize> {
-    let number = usize::try_from(number).ok()?;
-    transition.index().checked_mul(numbers)?.checked_add(number)
+// The lines of a table of latest dates of so many numbers, with the line before them.
+#[derive(Drop)]
+struct TableLines<'t> {
+    lines: Vec<&'t str>,
+    numbers: usize,
 }
 
-// The walk that begins at the firing and goes from line to line to one that is due.
-fn walk_along(
-    alloc: Global,
-    net: &Net,
-    lines: &[&str],
-    numbers: usize,
-    start: TransitionId,
-    number: u64,
-) -> Result<Option<Walk>, AllocError> {
-    let mut steps = Vec::new(alloc);
-    let (mut at, mut count) = (start, number);
-    for _ in 0..lines.len() {
-        let Some(line) = line_of(at, count, numbers).and_then(|index| lines.get(index)) else {
-            return Ok(None);
-        };
-        let words: Vec<&str> = line.split_whitespace().collect(alloc)?;
-        match words.as_slice() {
-            [_, _, _, _, "next"] => {
-                steps.push(Step::Next)?;
-                count = count.saturating_add(1);
-            }
-            [_, _, _, _, "by", name] => {
-                let Some(id) = net.find_place(name) else {
-                    return Ok(None);
-                };
-                let Some(place) = net.places().get(id.index()) else {
-                    return Ok(None);
-                };
-                steps.push(Step::By(id))?;
-                at = place.to;
-                count = count.saturating_add(u64::from(place.tokens));
-            }
-            _ => break,
-        }
+impl<'t> TableLines<'t> {
+    // The line of a firing.
+    fn line(&self, transition: TransitionId, number: u64) -> Option<&'t str> {
+        let number = usize::try_from(number).ok()?;
+        let start = transition.index().checked_mul(self.numbers)?;
+        self.lines.get(start.checked_add(number)?).copied()
     }
-    Ok(Some(Walk {
-        start,
-        number,
-        steps,
-    }))
+
+    // The walk that begins at the firing and goes from line to line to one that is due.
+    fn walk_along(
+        &self,
+        alloc: Global,
+        net: &Net,
+        start: TransitionId,
+        number: u64,
+    ) -> Result<Option<Walk>, AllocError> {
+        let mut steps = Vec::new(alloc);
+        let (mut at, mut count) = (start, number);
+        for _ in 0..self.lines.len() {
+            let Some(line) = self.line(at, count) else {
+                return Ok(None);
+            };
+            let words: Vec<&str> = line.split_whitespace().collect(alloc)?;
+            match words.as_slice() {
+                [_, _, _, _, "next"] => {
+                    steps.push(Step::Next)?;
+                    count = count.saturating_add(1);
+                }
+                [_, _, _, _, "by", name] => {
+                    let Some(id) = net.find_place(name) else {
+                        return Ok(None);
+                    };
+                    let Some(place) = net.places().get(id.index()) else {
+                        return Ok(None);
+                    };
+                    steps.push(Step::By(id))?;
+                    at = place.to;
+                    count = count.saturating_add(u64::from(place.tokens));
+                }
+                _ => break,
+            }
+        }
+        Ok(Some(Walk {
+            start,
+            number,
+            steps,
+        }))
+    }
 }
 
 // The walk that the text of `teg jit` tells from this firing on.
@@ -64,7 +73,8 @@ pub(crate) fn walk_in(
         return Ok(None);
     }
     let numbers = (lines.len() - 1) / count;
-    walk_along(alloc, net, &lines, numbers, start, number)
+    let table = TableLines { lines, numbers };
+    table.walk_along(alloc, net, start, number)
 }
 
 // The steps of a path, of which each names a place or `next`, and the firing to which it leads.

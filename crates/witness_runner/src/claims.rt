@@ -1,14 +1,25 @@
 //! The lines of an answer that claim something, each with whether the answer shows it.
 use std::alloc::Global;
-use teg_due::DueRow;
+use teg_due::{Due, DueRow};
 use teg_net::{Net, OutOfMemory};
-use witness_check::{shown_late, shown_latest, shown_pace, shown_size, shows_deadlock, shows_live};
+use witness_check::{
+    shown_kept, shown_late, shown_latest, shown_pace, shown_settled, shown_size, shown_table,
+    shows_deadlock, shows_live,
+};
 
 /// A line of an answer, and whether the answer shows it.
 #[derive(Clone, Copy, Debug)]
 pub struct Claim<'t> {
     pub line: &'t str,
     pub is_shown: bool,
+}
+
+/// What an answer was asked with beside the net: the rows that are due, and the period of a
+/// timetable, if there is one.
+#[derive(Drop)]
+pub struct Asked {
+    pub due: Due,
+    pub period: Option<u64>,
 }
 
 // Whether the firing that the text tells as late is due by its date, and is shown to be late.
@@ -41,39 +52,50 @@ fn is_latest(
     Ok(false)
 }
 
-// Whether the text of an answer that is one claim shows it. The first word tells which it is.
-fn is_shown(alloc: Global, net: &Net, due: &[DueRow], text: &str) -> Result<bool, OutOfMemory> {
-    match text.split_whitespace().next() {
-        Some("live") => shows_live(alloc, net, text),
-        Some("refused:") => shows_deadlock(alloc, net, text),
-        Some("cycle") => Ok(shown_pace(alloc, net, text)?.is_some()),
-        Some("size") => Ok(shown_size(alloc, net, text)?.is_some()),
-        Some("late") => is_late(alloc, net, due, text),
+// Whether the text of an answer that is one claim shows it. The first word tells which it is; of a
+// timetable its period is known.
+fn is_shown(alloc: Global, net: &Net, asked: &Asked, text: &str) -> Result<bool, OutOfMemory> {
+    match (text.split_whitespace().next(), asked.period) {
+        (_, Some(period)) => Ok(shown_kept(alloc, net, period, text)?.is_some()),
+        (Some("live"), None) => shows_live(alloc, net, text),
+        (Some("refused:"), None) => shows_deadlock(alloc, net, text),
+        (Some("cycle"), None) => Ok(shown_pace(alloc, net, text)?.is_some()),
+        (Some("settled"), None) => Ok(shown_settled(alloc, net, text)?.is_some()),
+        (Some("size"), None) => Ok(shown_size(alloc, net, text)?.is_some()),
+        (Some("latest"), None) => Ok(shown_table(alloc, net, &asked.due, text)?.is_some()),
+        (Some("late"), None) => is_late(alloc, net, &asked.due.rows, text),
         _ => Ok(false),
     }
 }
 
-/// The claims of an answer on the net, with these rows due. The table of latest dates has one in
-/// each line that tells a date, and each other answer one, in its first line.
+// The line of an answer that is one claim: its first, or of a timetable its second.
+fn line_of<'t>(asked: &Asked, text: &'t str) -> &'t str {
+    let mut lines = text.lines();
+    if asked.period.is_some() {
+        lines.next();
+    }
+    lines.next().unwrap_or("")
+}
+
+/// The claims of an answer on the net that was asked with these rows and this period. Each has one:
+/// in its first line, or of a timetable in its second, that delays are kept. The table of latest
+/// dates has a further one in each line that tells a date: that the firing may come no later.
 pub fn claims_of<'t>(
     alloc: Global,
     net: &Net,
-    due: &[DueRow],
+    asked: &Asked,
     text: &'t str,
 ) -> anyhow::Result<Vec<Claim<'t>>> {
     let mut claims = Vec::new(alloc);
-    let first = text.lines().next().unwrap_or("");
-    if !first.starts_with("latest inputs for ") {
-        let is_shown = is_shown(alloc, net, due, text)?;
-        claims.push(Claim {
-            line: first,
-            is_shown,
-        })?;
+    let line = line_of(asked, text);
+    let is_shown = is_shown(alloc, net, asked, text)?;
+    claims.push(Claim { line, is_shown })?;
+    if !line.starts_with("latest inputs for ") {
         return Ok(claims);
     }
     for line in text.lines().skip(1) {
         if !line.ends_with(" free") {
-            let is_shown = is_latest(alloc, net, due, line, text)?;
+            let is_shown = is_latest(alloc, net, &asked.due.rows, line, text)?;
             claims.push(Claim { line, is_shown })?;
         }
     }

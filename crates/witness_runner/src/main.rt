@@ -1,12 +1,14 @@
 //! Checks a printed answer of `teg` by the net and the text alone.
 //!
-//! `witness_runner NET ANSWER [DUE]` reads a net file, a file with all that `teg check`, `cycle`,
-//! `size` or `jit` printed of it, and for `jit` the due file. It prints each line that claims
-//! something behind `shown` or `not shown`, and ends with status 0 where all are shown, with 1
-//! where one is not, or where a file is not read, and with 2 where the words are others. What is
-//! shown is right by the contracts of `witness_check`, whatever printed it: of the table of latest
-//! dates, that no firing may come later than its line says. A line `free` tells no date and is
-//! passed over.
+//! `witness_runner NET ANSWER [DUE | PERIOD]` reads a net file, a file with all that `teg check`,
+//! `cycle`, `dates`, `size`, `jit` or `timetable` printed of it, for `jit` the due file, and for
+//! `timetable`, where delays are kept, its period. It prints each line that claims something behind
+//! `shown` or `not shown`, and ends with status 0 where all are shown, with 1 where one is not, or
+//! where a file is not read, and with 2 where the words are others. What is shown is right by the
+//! contracts of `witness_check`, whatever printed it, in a live net: of `dates`, that its form tells
+//! all dates; of the first line of latest dates, that the table has the latest dates, and of each
+//! other one, that its firing may come no later; of `kept`, that the circuit keeps each delay. A line
+//! `free` tells no date and is passed over.
 //!
 //! It stands on `witness_check` for what answers show, on `teg_reader` and `teg_due` for files, and
 //! on `teg_net` for nets.
@@ -14,7 +16,7 @@
 
 mod claims;
 
-use crate::claims::claims_of;
+use crate::claims::{Asked, claims_of};
 use anyhow::{Context, Result, ensure};
 use std::alloc::Global;
 use std::process::ExitCode;
@@ -35,24 +37,26 @@ fn text_of(rt: &(impl Files + Alloc<A = Global>), name: &str) -> Result<String> 
 fn main(rt: HostRuntime) -> Result<ExitCode> {
     let alloc = rt.alloc();
     let words: Vec<String> = env::args(&rt)?.skip(1).collect(alloc)?;
-    let (net, answer, due) = match words.as_slice() {
+    let (net, answer, with) = match words.as_slice() {
         [net, answer] => (net, answer, None),
-        [net, answer, due] => (net, answer, Some(due)),
+        [net, answer, with] => (net, answer, Some(with.as_str())),
         _ => {
-            eprintln!(rt; "usage: witness_runner NET ANSWER [DUE]")?;
+            eprintln!(rt; "usage: witness_runner NET ANSWER [DUE | PERIOD]")?;
             return Ok(ExitCode::from(2));
         }
     };
     let net = read_net(alloc, text_of(&rt, net)?.as_bytes())?;
     let text = text_of(&rt, answer)?;
-    let due = match due {
-        Some(name) => due_of(alloc, &net, text_of(&rt, name)?.as_bytes())?,
-        None => Due {
+    let period = with.and_then(|word| word.parse::<u64>().ok());
+    let due = match with {
+        Some(name) if period.is_none() => due_of(alloc, &net, text_of(&rt, name)?.as_bytes())?,
+        _ => Due {
             rows: Vec::new(alloc),
         },
     };
+    let asked = Asked { due, period };
     let mut all = true;
-    for claim in claims_of(alloc, &net, &due.rows, text.as_str())? {
+    for claim in claims_of(alloc, &net, &asked, text.as_str())? {
         let said = if claim.is_shown { "shown" } else { "not shown" };
         println!(rt; "{said} {}", claim.line)?;
         all = all && claim.is_shown;
