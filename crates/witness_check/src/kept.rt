@@ -13,8 +13,8 @@ use std::alloc::{AllocError, Global};
 use teg_net::{Circuit, Net, OutOfMemory, is_circuit};
 use teg_text::{push_circuit, push_settled};
 
-// The number and the period of the first line of delays that stay, and the circuit. Nothing rests on
-// it: what is read is checked.
+// The number and the period of the first line of delays that stay, and the circuit. Nothing rests
+// on it: what is read is checked.
 fn kept_in(
     alloc: Global,
     net: &Net,
@@ -56,13 +56,13 @@ fn told(
     Ok(text)
 }
 
-/// The circuit that the text of `teg timetable` tells for delays that are kept, where it is shown to
-/// keep them under a timetable of this period, in the user's unit (chapters 2 and 3): it takes just
-/// the time that the timetable gives it. So whatever is delayed, where the timetable leaves time for
-/// each place of the live net, each of its transitions is at numbers past every bound as late as one
-/// of them ever is. That one of them is late at some number, the circuit does not show. It takes
-/// time of the order of the circuit times the places of the net. `OutOfMemory` comes only where no
-/// memory is found.
+/// The circuit that the text of `teg timetable` tells for delays that are kept, where it is shown
+/// to keep them under a timetable of this period, in the user's unit (chapters 2 and 3): it takes
+/// just the time that the timetable gives it. So whatever is delayed, where the timetable leaves
+/// time for each place of the live net, each of its transitions is at numbers past every bound as
+/// late as one of them ever is. That one of them is late at some number, the circuit does not show.
+/// It takes time of the order of the circuit times the places of the net. `OutOfMemory` comes only
+/// where no memory is found.
 pub fn shown_kept(
     alloc: Global,
     net: &Net,

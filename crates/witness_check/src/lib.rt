@@ -12,13 +12,13 @@
 //! | `jit`: late | the walk | [`shown_late`] |
 //! | `timetable`: kept | the circuit | [`shown_kept`] |
 //!
-//! Each call reads a text without a promise, lets a checker look at what was read, prints the line or
-//! the whole text anew and compares. So what it tells rests on the checker,
-//! on its law and on the words of the line, and neither on the parser nor on whatever found the
-//! answer. The crate stands on `teg_net` for nets and walks, on `teg_text` for words, on
-//! `teg_certificates`, `dating_certificates` and `delay_laws` for checkers, on `latest_laws` for what
-//! walks show, and on `settled_laws` for settled forms; no crate of the program's search is below
-//! it. Its examples stand in `library_examples` and in `witness_examples`.
+//! Each call reads a text without a promise, lets a checker look at what was read, prints the line
+//! or the whole text anew and compares. So what it tells rests on the checker, on its law and on
+//! the words of the line, and neither on the parser nor on whatever found the answer. The crate
+//! stands on `teg_net` for nets and walks, on `teg_text` for words, on `teg_certificates`,
+//! `dating_certificates` and `delay_laws` for checkers, on `latest_laws` for what walks show, and
+//! on `settled_laws` for settled forms; no crate of the program's search is below it. Its examples
+//! stand in `library_examples` and in `witness_examples`.
 #![tactic(auto)]
 
 mod beginnings;

@@ -131,12 +131,12 @@ fn lines_of(alloc: Global, net: &Net, form: FormRows<'_>) -> Result<String, Allo
     Ok(text)
 }
 
-/// The number and the period that the text of `teg dates` tells, where its dates and steps show of a
-/// live net that they tell the least dating: the date of each transition at each number is that of
-/// the form of the text (chapter 3). The whole text is looked at. That no less number and no shorter
-/// period would do, it does not tell. It takes memory for the dates that are told, for those of
-/// another period and of the tokens of a place, and for the text; and time of their order with the
-/// places of the net. `OutOfMemory` comes only where no memory is found.
+/// The number and the period that the text of `teg dates` tells, where its dates and steps show of
+/// a live net that they tell the least dating: the date of each transition at each number is that
+/// of the form of the text (chapter 3). The whole text is looked at. That no less number and no
+/// shorter period would do, it does not tell. It takes memory for the dates that are told, for
+/// those of another period and of the tokens of a place, and for the text; and time of their order
+/// with the places of the net. `OutOfMemory` comes only where no memory is found.
 pub fn shown_settled(
     alloc: Global,
     net: &Net,

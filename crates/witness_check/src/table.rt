@@ -150,11 +150,11 @@ fn lines_of(alloc: Global, net: &Net, rows: TableRows<'_>) -> Result<String, All
 
 /// The number of firings that the text of `teg jit` tells, where its dates are shown to be the
 /// latest of a live net for these due dates (chapter 5): up to that number the date of each line is
-/// that of its firing, a firing that is `free` has none, and past it all firings are free. The whole
-/// text is looked at, but not whether a walk leads on by the step that a line names, as
+/// that of its firing, a firing that is `free` has none, and past it all firings are free. The
+/// whole text is looked at, but not whether a walk leads on by the step that a line names, as
 /// [`shown_latest`](crate::shown_latest) does. No rows that are no due list of the net show
-/// anything. It takes memory for the dates, the steps and the text, and time of their order with the
-/// places and the due dates. `OutOfMemory` comes only where no memory is found.
+/// anything. It takes memory for the dates, the steps and the text, and time of their order with
+/// the places and the due dates. `OutOfMemory` comes only where no memory is found.
 pub fn shown_table(
     alloc: Global,
     net: &Net,

@@ -3,8 +3,8 @@ use dioid::Date;
 use std::alloc::{AllocError, Global};
 use teg_net::{Names, Net, Step};
 
-// Rows of dates from number 1 up to a number, one after another with one date for each transition in
-// order, and so for each date the first step of a walk by which it is attained, if there is one.
+// Rows of dates from number 1 up to a number, one after another with one date for each transition
+// in order, and so for each date the first step of a walk by which it is attained, if there is one.
 #[derive(Drop)]
 pub(crate) struct TableTold {
     pub(crate) numbers: u32,

@@ -1,6 +1,6 @@
 //! Examples of `witness_check`: texts of the guide that show their dates, latest dates and delays
-//! that stay, and the same texts with a digit changed, which show nothing. The crate has tests alone;
-//! those of the other answers stand in `library_examples`.
+//! that stay, and the same texts with a digit changed, which show nothing. The crate has tests
+//! alone; those of the other answers stand in `library_examples`.
 #![tactic(auto)]
 
 #[cfg(test)]
