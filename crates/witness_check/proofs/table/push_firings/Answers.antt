@@ -17,7 +17,8 @@ loop-before-preserved c =
     let back : k ≡ k + 1 - 1 = omega arith in
     more_after (λ j. line_then (firing_line net t j (date_in_rows rows.width rows.dates.now t j) (slice_index_or rows.ways.now ((j - 1) * rows.width + t) None)) []) _ _ _ _ 1 k (k + 1) (omega arith)
     c.in_ok-push_firing.ensures
-    (ap (λ j. line_then (firing_line net t (k + 1) (slice_index_or rows.dates.now (j * rows.width + t) Early) (slice_index_or rows.ways.now (j * rows.width + t) None)) []) back) c.loop-before.invariant
+    (ap (λ j. line_then (firing_line net t (k + 1) (slice_index_or rows.dates.now (j * rows.width + t) Early)
+    (slice_index_or rows.ways.now (j * rows.width + t) None)) []) back) c.loop-before.invariant
 
 pub returns : goal.returns
 returns c =
