@@ -1,5 +1,7 @@
 //! Conditions of calls, tested before the calls are made.
 use std::test::Fail;
+use teg_check::LiveNet;
+use teg_form::{is_standard_form_of, standard_form};
 use teg_net::Ratio;
 use teg_parts::{are_parts, split};
 use teg_reader::read_net;
@@ -37,5 +39,16 @@ fn targets_keep_their_limits(rt: HostRuntime) -> Result<(), Fail> {
     assert!(rt; !is_target(&Ratio::of(1_000_000_000_001, 1)));
     assert!(rt; is_target(&Ratio::of(1, 1_000_000)));
     assert!(rt; !is_target(&Ratio::of(1, 1_000_001)));
+    Ok(())
+}
+
+#[test]
+fn a_form_is_that_of_its_net(rt: HostRuntime) -> Result<(), Fail> {
+    let alloc = rt.alloc();
+    let ring = LiveNet::new(alloc, read_net(alloc, RING)?)?;
+    let path = LiveNet::new(alloc, read_net(alloc, PATH)?)?;
+    let form = standard_form(alloc, ring.net(), ring.live())?;
+    assert!(rt; is_standard_form_of(alloc, ring.net(), ring.live(), &form)?);
+    assert!(rt; !is_standard_form_of(alloc, path.net(), path.live(), &form)?);
     Ok(())
 }

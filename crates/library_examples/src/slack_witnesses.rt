@@ -1,10 +1,14 @@
 //! Slacks, checked by circuits, potentials and numbers alone; what is off by one shows nothing.
+ghost use Rattle.teg_net.specs.Certificates.{IsCertificate};
+ghost use Rattle.teg_net.specs.Circuits.{IsLive};
+
 use std::alloc::Global;
 use std::test::Fail;
 use teg_certificates::{RiseWitness, check_cycle, shows_critical, shows_no_circuit, shows_rise};
 use teg_check::LiveNet;
+use teg_critical::{SlackWitness, slack_witness};
 use teg_cycle::cycle;
-use teg_net::{Circuit, CycleAnswer, OutOfMemory, PlaceId};
+use teg_net::{Circuit, CycleAnswer, Net, OutOfMemory, PlaceId};
 use teg_parts::split;
 use teg_reader::read_net;
 
@@ -85,5 +89,31 @@ fn that_no_circuit_passes_is_shown(rt: HostRuntime) -> Result<(), Fail> {
     assert!(rt; !shows_no_circuit(held.net(), &answer.part_of, PlaceId::new(2)));
     assert!(rt; !shows_no_circuit(held.net(), &[0, 0, 1, 1], shipping));
     assert!(rt; !shows_no_circuit(held.net(), &answer.part_of, PlaceId::new(7)));
+    Ok(())
+}
+
+// Whether the checkers say yes to what is handed out for the place of this name.
+fn is_shown(alloc: Global, net: &Net, answer: &CycleAnswer, name: &str) -> Result<bool, Fail>
+    requires certificate { IsCertificate net.now answer.now }
+    requires live { IsLive net.now }
+{
+    let place = net.find_place(name).ok_or("no such place")?;
+    Ok(match slack_witness(alloc, net, answer, place)? {
+        SlackWitness::NoCircuit { numbers } => shows_no_circuit(net, &numbers, place),
+        SlackWitness::Critical { circuit } => shows_critical(net, answer, place, &circuit.places),
+        SlackWitness::Rise { rise } => rise.by == 1 && shows_rise(net, answer, place, &rise),
+    })
+}
+
+#[test]
+fn what_shows_a_slack_is_handed_out(rt: HostRuntime) -> Result<(), Fail> {
+    let alloc = rt.alloc();
+    let held = LiveNet::new(alloc, read_net(alloc, LINE)?)?;
+    let net = held.net();
+    let parts = split(alloc, net)?;
+    let answer = cycle(alloc, net, held.live(), &parts)?;
+    assert!(rt; is_shown(alloc, net, &answer, "to_paint")?);
+    assert!(rt; is_shown(alloc, net, &answer, "drill_free")?);
+    assert!(rt; is_shown(alloc, net, &answer, "to_ship")?);
     Ok(())
 }
