@@ -100,8 +100,8 @@ impl Scheduler {
 
     /// Gives the place of this name another holding time, in the user's unit; all else stays.
     ///
-    /// `NoPlace` comes exactly where no place has the name, and `HoldTooLong` where one has and the
-    /// holding time is past 1,000,000,000. The net is then as it was. It takes no memory.
+    /// `NoPlace` comes only where no place has the name, and `HoldTooLong` only where the holding
+    /// time is past 1,000,000,000. The net is then as it was. It takes no memory.
     pub fn set_hold(&mut self, place: &str, hold: u64) -> Result<(), NoAnswer>
         ensures changed { OnOk result (IsHoldChanged self.old place.now hold self.new) }
         ensures kept { OnErr result (self.new ≡ self.old) }
