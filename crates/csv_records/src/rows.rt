@@ -103,7 +103,8 @@ fn add_record<F: RowFile>(
 
 /// The rows of a file of at most 4,194,304 bytes, in order, or the refusal of its first faulty
 /// record. Records are counted from 1; a first one that is a header is passed over, and counts.
-/// There are no more rows than bytes. `no_memory` comes only where no memory is found.
+/// There are no more rows than bytes. `no_memory` comes only where no memory is found. It takes
+/// time of the order of the bytes, besides what `read_row` takes.
 pub fn read_rows<F: RowFile>(
     alloc: Global,
     mut file: F,

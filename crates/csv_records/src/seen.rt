@@ -9,14 +9,14 @@ use crate::records::OutOfMemory;
 use std::alloc::Global;
 use std::marker::Model;
 
-/// The greatest number that is seen.
+/// The greatest number that a table can have seen.
 pub const GREATEST_SEEN_NUMBER: u32 = 10_000;
 
 // Cells of one column, one for each number from 0 on.
 const CELLS: usize = 10_001;
 
 /// For each column which numbers from 0 to 10,000 were seen in it: so a row that repeats an earlier
-/// one is found in one step.
+/// one is found in one step. Columns are counted from 0.
 #[derive(Drop)]
 pub struct Seen {
     width: usize,
@@ -34,8 +34,8 @@ impl Model for Seen {
 }
 
 impl Seen {
-    /// A table of `width` columns, in which nothing was seen: 10,001 bytes a column. `OutOfMemory`
-    /// comes only where no memory is found.
+    /// A table of `width` columns, at most 1,000,000, in which nothing was seen: 10,001 bytes a
+    /// column. `OutOfMemory` comes only where no memory is found.
     pub fn new(alloc: Global, width: usize) -> Result<Seen, OutOfMemory>
         requires { width ≤ most_columns }
         ensures width { IfOk result (λ s. s.width ≡ width) }
@@ -69,7 +69,7 @@ impl Seen {
         }
     }
 
-    /// Sees the number in the column. It takes no memory.
+    /// Sees the number, at most 10,000, in the column. It takes no memory.
     pub fn add(&mut self, column: usize, number: u32)
         requires column { column < self.old.width }
         requires number { number ≤ greatest_seen_number }

@@ -56,8 +56,8 @@ fn are_distinct(delays: &[Delay]) -> bool
 /// Whether the timetable keeps the rules of timetables of this net, as `spread` of `teg_timetable`
 /// asks it: one first departure for each transition, in order, each at most 10^9 in the user's
 /// unit; delays of transitions of the net, each of 1 to 50,000 at a departure from 1 to 10,000, and
-/// no two of them of the same departure (chapters 2 and 3). It takes no memory, and as many steps
-/// as the square of the number of delays.
+/// no two of them of the same departure (chapters 2 and 3). It takes no memory, and a step a
+/// transition and as many as the square of the number of delays.
 pub fn is_table_of(net: &Net, table: &Timetable) -> bool
     ensures { IsTrue result ↔ IsTableOf net.now table.now }
 {

@@ -6,7 +6,8 @@ ghost use Rattle.delay_laws.specs.SettlingLaws.{DelaysSettle, FormsTellDelays, R
 use periodic_laws::{periodic_datings_settle, systems_settle};
 use settled_laws::shortest_forms_are_one;
 
-/// The delayed dating and the releases of each timetable have a settled form together (chapter 3).
+/// In a live net the delayed dating and the releases of each timetable have a settled form together
+/// (chapter 3).
 pub fn delays_settle()
     ensures { DelaysSettle }
 {
@@ -33,13 +34,15 @@ pub fn release_nets_tell_delays()
     ensures tells { ReleaseNetsTellDelays }
 {}
 
-/// In each period of a settled form the dates go on by as many planned steps (chapter 3).
+/// Where the plan leaves time for each place, in each period of a settled form the dates go on by
+/// as many planned steps (chapter 3).
 pub fn steps_are_the_plan()
     ensures { StepsAreThePlan }
 {}
 
-/// A settled form tells the date of each departure as its plan and the delay that is left, and past
-/// the form's number the delays come again in each period (chapters 2 and 3).
+/// Where the plan leaves time for each place, a settled form tells the date of each departure as
+/// its plan and the delay that is left, and past the form's number the delays come again in each
+/// period (chapters 2 and 3).
 pub fn forms_tell_delays()
     ensures { FormsTellDelays }
 {}

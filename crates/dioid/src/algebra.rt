@@ -89,7 +89,8 @@ pub trait Dioid: Sized + Drop {
     ghost laws: { DioidLaws is_element zero one sum product };
 }
 
-/// A dioid with stars: for each `b`, `star(a) b` is the least `x` with `a x + b` at most `x`.
+/// A dioid with stars (chapter 4): for each `b`, `star(a) b` is the least `x` with `a x + b` at
+/// most `x`.
 pub trait Kleene: Dioid {
     ghost use Rattle.dioid.specs.ElementAnswers.{Answers};
     ghost use Rattle.dioid.specs.DioidAxioms.{StarLaws};
@@ -131,7 +132,7 @@ pub trait Residuated: Dioid {
         ensures divisor { Self.is_element self.now }
         ensures bound { Self.is_element other.now };
 
-    /// The greatest lower bound.
+    /// The greatest lower bound of the two.
     fn meet(&self, alloc: Global, other: &Self) -> Result<Self, Refused>
         ensures answer { Answers Self.TAKES_MEMORY (meet_fits self.now other.now)
             (meet self.now other.now) result }

@@ -12,7 +12,7 @@ use std::fmt;
 pub enum Date {
     /// Minus infinity: earlier than every number.
     Early,
-    /// This many units after date 0.
+    /// This many units after date 0; before it where the number is below 0.
     At(i128),
     /// Plus infinity: later than every number.
     Never,

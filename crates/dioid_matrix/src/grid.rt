@@ -4,7 +4,8 @@ use crate::refusals::MatrixRefused;
 use dioid::Dioid;
 use std::marker::Model;
 
-/// A matrix of elements: from 1 to 4,096 rows and columns, and one entry for each row and column.
+/// A matrix of elements of a dioid (chapter 4): from 1 to 4,096 rows and columns, and one entry for
+/// each row and column.
 ///
 /// Contracts see the sizes, and the entries row after row.
 #[derive(Drop)]

@@ -71,7 +71,8 @@ impl<D: Dioid> Matrix<D> {
     ghost use Rattle.dioid_matrix.specs.Sums.{AnswersSum};
     ghost use Rattle.dioid_matrix.specs.Tables.{IsTable};
 
-    /// The sum, entry by entry, of two matrices of equal sizes.
+    /// The sum, entry by entry, of two matrices of equal sizes. It takes time of the order of the
+    /// entries.
     ///
     /// `Range`, with step 0, exactly at the first entry by rows whose sum does not fit.
     /// `OutOfMemory` comes only where no memory is found.
@@ -97,7 +98,8 @@ impl<D: Dioid> Matrix<D> {
         })
     }
 
-    /// The product of two matrices.
+    /// The product of two matrices: the left's rows by the right's columns. It takes time of the
+    /// order of the entries of the result, times the left's columns.
     ///
     /// `Shape` exactly where the left's columns are not as many as the right's rows. `Range` names
     /// the first entry by rows that does not fit, and as step the first middle index at which the

@@ -37,7 +37,9 @@ impl<D: Kleene> Matrix<D> {
         })
     }
 
-    /// The least solution of `x = self x + right`: the star by `right`.
+    /// The least solution of `x = self x + right`: the star by `right`, with the sizes of `right`
+    /// (chapter 4). It takes time of the order of n^3, as the star does, and of n^2 for each column
+    /// of `right`.
     ///
     /// Its refusals are those of `star`, then those of `times` of the star by `right`; so
     /// `OutOfMemory` comes only where no memory is found.

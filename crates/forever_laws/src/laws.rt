@@ -20,7 +20,8 @@ pub fn zero_inputs_are_no_lists()
     ensures { ZeroInputsAreNoLists }
 {}
 
-/// Inputs at 0 meet endless due dates exactly where no number of any row is late (chapter 5).
+/// In a live net inputs at 0 meet endless due dates exactly where no number of any row is late
+/// (chapter 5).
 pub fn zero_meets_where_none_late()
     ensures { ZeroMeetsWhereNoneLate }
 {}
@@ -31,10 +32,10 @@ pub fn rows_go_on()
     ensures { RowsGoOn }
 {}
 
-/// What a table of dates tells of all late numbers of a row: up to a turn past the number from
-/// which the dates of its transition and the due dates repeat together they are looked up, past
-/// that what a turn adds tells them (chapter 5). A turn is of the transition's own dates; those of
-/// other transitions may take longer to repeat.
+/// In a live net, what a table of its dates with all inputs at 0 tells of all late numbers of a
+/// row: up to a turn past the number from which the dates of its transition and the due dates
+/// repeat together they are looked up, past that what a turn adds tells them (chapter 5). A turn is
+/// of the transition's own dates; those of other transitions may take longer to repeat.
 ///
 /// The step of each transition is a number from 0 on.
 pub fn turns_tell_late()
@@ -42,20 +43,21 @@ pub fn turns_tell_late()
     ensures steps { StepsAreFromZero }
 {}
 
-/// A row with a late number has a least one (chapter 5).
+/// In a live net a row with a late number has a least one (chapter 5).
 pub fn late_numbers_have_least()
     ensures { LateNumbersHaveLeast }
 {}
 
-/// The least late number of a row is below 10^23, and its dates are below 10^35 (chapter 5).
+/// In a live net the least late number of a row is below 10^23, and its dates are below 10^35
+/// (chapter 5).
 pub fn late_is_soon()
     ensures { LateIsSoon }
 {}
 
-/// Where no circuit that leads to a row's transition has a greater ratio of time to tokens than the
-/// row of gap to firings, a late number of the row comes up to a bound of the net's own, if at all:
-/// the dates it lists, `every` times the tokens that so many places as transitions can have, and
-/// those of one place more (chapters 3 and 5).
+/// In a live net: where no circuit that leads to a row's transition has a greater ratio of time to
+/// tokens than the row of gap to firings, a late number of the row comes up to a bound of the net's
+/// own, if at all: the dates it lists, `every` times the tokens that so many places as transitions
+/// can have, and those of one place more (chapters 3 and 5).
 pub fn paced_late_is_soon()
     ensures { PacedLateIsSoon }
 {}

@@ -5,10 +5,10 @@ ghost use Rattle.growth_laws.specs.Growth.{DatesGrowBySlopes, SlopesAreOne, Slop
 
 use periodic_laws::least_datings_repeat;
 
-/// Potentials bound dates: take potentials of a set of transitions that no place into the set
-/// exceeds at a ratio `a / b`, and a constant `c`; where `b` times each start is at most `c` plus
-/// the potential plus `a` for each number, so is `b` times each least date, so that no date of the
-/// set rises by more than the ratio in the long run (chapter 3).
+/// Potentials bound dates: in a live net take potentials of a set of transitions that no place into
+/// the set exceeds at a ratio `a / b`, and a constant `c`; where `b` times each start is at most
+/// `c` plus the potential plus `a` for each number, so is `b` times each least date, so that no
+/// date of the set rises by more than the ratio in the long run (chapter 3).
 ///
 /// Where no input is kept waiting there is such a constant: `b` times the greatest ready date, and
 /// as much as the potentials are below 0. The places into the set have to come from it: a

@@ -24,8 +24,8 @@ pub struct Advice {
 }
 
 /// The greatest ratio of time to tokens over the circuits of a live net, in the user's unit for a
-/// firing of each transition; none where it has no circuit (chapter 2). It answers `OutOfMemory`
-/// only where no memory is found.
+/// token; none where it has no circuit (chapter 2). It answers `OutOfMemory` only where no memory
+/// is found. It takes the time of `split` and of `cycle`.
 pub fn pace(alloc: Global, net: &Net, live: &Live) -> Result<Option<Ratio>, OutOfMemory>
     requires { IsRanking net.now live.now }
     ensures { IfOk result (IsPaceOf net.now) }
@@ -46,9 +46,10 @@ fn line_of(alloc: Global, pace: Option<Ratio>) -> Result<String, AllocError>
 }
 
 /// The line of the pace of the net that a net file says, and the latest inputs that meet the dates
-/// of a due file (chapters 2 and 5). It refuses with the refusal of the first call that refuses:
-/// the net file says no net, the net has a circuit without tokens, the due file says no due dates,
-/// or a firing comes later than it is due whatever the inputs do; or where no memory is found.
+/// of a due file of at most 4,194,304 bytes (chapters 2 and 5). It refuses with the refusal of a
+/// call that refuses: the net file says no net, the net has a circuit without tokens, the due file
+/// says no due dates, or a firing comes later than it is due whatever the inputs do; or where no
+/// memory is found.
 pub fn advise(alloc: Global, net: &[u8], due: &[u8]) -> Result<Advice, NoAdvice>
     requires { length due.now ≤ most_file_bytes }
     ensures advice { IfOk result (λ advice. IsAdvice net.now due.now (string_bytes advice.pace)

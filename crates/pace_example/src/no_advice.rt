@@ -10,8 +10,8 @@ use teg_jit::JitRefusal;
 use teg_net::OutOfMemory;
 use teg_reader::ReadRefusal;
 
-/// Why [`crate::advise`] gives no advice: the refusal of the first call that gave one. A refusal
-/// here is never want of memory, which is `OutOfMemory` whichever call found none.
+/// Why [`crate::advise`] gives no advice: the refusal of a call that gave one. A refusal here is
+/// never want of memory, which is `OutOfMemory` whichever call found none.
 #[derive(Debug, Drop)]
 pub enum NoAdvice {
     /// The net file says no net.

@@ -21,8 +21,8 @@ use teg_reader::read_net;
 /// The pace of a net and its bottleneck (chapter 2).
 #[derive(Debug, Drop)]
 pub struct Pace {
-    /// The greatest ratio of holding time to tokens: the time that a firing of each transition
-    /// takes, in the user's unit, over so many firings.
+    /// The greatest ratio of holding time, in the user's unit, to tokens over the circuits of the
+    /// net.
     pub ratio: Ratio,
     /// A circuit that has this ratio.
     pub bottleneck: Circuit,
@@ -62,7 +62,7 @@ fn pace_in(net: &Net, mut answer: CycleAnswer) -> Option<Pace>
 }
 
 impl Scheduler {
-    /// The scheduler of the net that the bytes of a net file say.
+    /// The scheduler of the net that the bytes of a net file say, at most 4,194,304 of them.
     ///
     /// `NoNet` comes where they say none, with the first fault; `NotLive` where some circuit has no
     /// tokens; `OutOfMemory` only where no memory is found.
@@ -88,7 +88,7 @@ impl Scheduler {
     }
 
     /// The pace of the net as it is, and its bottleneck; none where it has no circuit. It answers
-    /// `OutOfMemory` only where no memory is found.
+    /// `OutOfMemory` only where no memory is found. It takes the time of `split` and of `cycle`.
     pub fn pace(&self, alloc: Global) -> Result<Option<Pace>, OutOfMemory>
         ensures { IfOk result (IsPaceOf self.now) }
     {
@@ -100,8 +100,8 @@ impl Scheduler {
 
     /// Gives the place of this name another holding time, in the user's unit; all else stays.
     ///
-    /// `NoPlace` comes exactly where no place has the name, and `HoldTooLong` where one has and the
-    /// holding time is past 1,000,000,000. The net is then as it was. It takes no memory.
+    /// `NoPlace` comes only where no place has the name, and `HoldTooLong` only where the holding
+    /// time is past 1,000,000,000. The net is then as it was. It takes no memory.
     pub fn set_hold(&mut self, place: &str, hold: u64) -> Result<(), NoAnswer>
         ensures changed { OnOk result (IsHoldChanged self.old place.now hold self.new) }
         ensures kept { OnErr result (self.new ≡ self.old) }
@@ -118,10 +118,11 @@ impl Scheduler {
     }
 
     /// The latest dates of the firings of the net as it is, by which the due dates are met that the
-    /// bytes of a due file say (chapter 5).
+    /// bytes of a due file say, at most 4,194,304 of them (chapter 5).
     ///
     /// `NoDue` comes where they say none, with the first fault; `Late` where a firing comes later
-    /// than it is due, whatever the inputs do; `OutOfMemory` only where no memory is found.
+    /// than it is due, whatever the inputs do; `OutOfMemory` only where no memory is found. It
+    /// takes the time of `read_due` and of `latest_inputs`.
     pub fn latest(&self, alloc: Global, bytes: &[u8]) -> Result<Plan, NoAnswer>
         requires { length bytes.now ≤ most_file_bytes }
         ensures plan { IfOk result (IsLatestPlan self.now bytes.now) }

@@ -10,7 +10,9 @@ use std::alloc::{AllocError, Global};
 use std::marker::Model;
 use thiserror::Error;
 
-/// A causal series in its canonical form: the least period, and with it the shortest list.
+/// A causal series in its canonical form: the least period, and with it the shortest list (chapter
+/// 5). Shifts count from 0, and values are dates in the user's unit. The list has at most 20,000
+/// values, and no number passes a magnitude of 10^18.
 #[derive(Drop)]
 pub struct Series {
     pub(crate) values: Vec<Date>,
@@ -21,10 +23,11 @@ pub struct Series {
 /// Why there is no series to answer.
 #[derive(Clone, Copy, Debug, PartialEq, Eq, Drop, Error)]
 pub enum SeriesRefused {
-    /// The operation's need is above 20,000.
+    /// The operation's need, in shifts, is above 20,000.
     #[error("series needs {need}")]
     TooLong { need: u128 },
-    /// The first number of the canonical form with a magnitude above 10^18.
+    /// The first number of the canonical form with a magnitude above 10^18: values by shift, and
+    /// the step last.
     #[error("number {value}")]
     TooGreat { value: i128 },
     /// No memory was found.
@@ -56,7 +59,7 @@ impl Series {
     /// The series that is Early below `shift` and `date` from there on; the shift and the magnitude
     /// of the date are below 10^19. Its need is `shift + 1`: TooLong above 20,000, and where not,
     /// TooGreat for a date of a magnitude above 10^18. `OutOfMemory` comes only where no memory is
-    /// found. (Chapter 5.)
+    /// found. It takes time of the order of the shift. (Chapter 5.)
     pub fn monomial(alloc: Global, shift: u64, date: i128) -> Result<Series, SeriesRefused>
         requires shift { shift < monomial_bound }
         requires date { unsigned_abs date < monomial_bound }
@@ -78,7 +81,8 @@ impl Series {
     /// Never or Early throughout, the step is of no account. Its need is the length: TooLong above
     /// 20,000, also for a longer list than the canonical one; where not, TooGreat for a number of
     /// the canonical form of a magnitude above 10^18. `OutOfMemory` comes only where no memory is
-    /// found. (Chapter 5.)
+    /// found. It takes time of the order of the length times the number of the period's divisors at
+    /// most. (Chapter 5.)
     pub fn from_list(
         alloc: Global,
         values: &[Date],
@@ -102,8 +106,8 @@ impl Series {
         }
     }
 
-    /// The series with the one value everywhere; a number has a magnitude of at most 10^18. Refuses
-    /// for want of memory alone.
+    /// The series with the one value everywhere; a number has a magnitude of at most 10^18. Its
+    /// period is 1, and its step 0. Refuses for want of memory alone.
     pub fn constant(alloc: Global, date: Date) -> Result<Series, SeriesRefused>
         requires { IsSmallDate date }
         ensures { IsConstant date result }
@@ -135,7 +139,8 @@ impl Series {
         self.period
     }
 
-    /// What a period adds to a value past the list. It takes no memory.
+    /// What a period adds to a value past the list, in the user's unit; 0 where the series ends in
+    /// Early or Never. It takes no memory.
     pub fn step(&self) -> i128
         ensures value { result ≡ self.now.step }
         ensures series { IsSeries self.now }

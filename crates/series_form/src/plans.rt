@@ -72,8 +72,8 @@ pub fn tail(series: &Series) -> Date
     series.at(start(series) as u64)
 }
 
-/// What a series gains over a number of its periods, given in shifts: as many steps. Takes no
-/// memory. For the operations of `series_ops`.
+/// What a series gains over a number of its periods, given in shifts: as many steps, in the user's
+/// unit. Takes no memory. For the operations of `series_ops`.
 pub fn gain_over(series: &Series, shifts: usize) -> i128
     requires { shifts ≤ most_common_shifts }
     ensures value { result ≡ times (shifts / series.now.period) series.now.step }
@@ -97,8 +97,9 @@ fn sign_of(difference: i128) -> Slopes
     }
 }
 
-/// What the first series gains on the second over the common period, below 0 where it loses. Takes
-/// no memory, and time of the order of the second period. For the operations of `series_ops`.
+/// What the first series gains on the second over the common period, in the user's unit, below 0
+/// where it loses. Takes no memory, and time of the order of the second period. For the operations
+/// of `series_ops`.
 pub fn lead_gain(first: &Series, second: &Series) -> i128
     ensures value { result ≡ rise_of first.now second.now -ℤ fall_of first.now second.now }
     ensures bound { unsigned_abs result ≤ greatest_gain_gap }

@@ -106,7 +106,8 @@ fn plan_of_least(first: &Series, second: &Series) -> NeedPlan
     }
 }
 
-/// The greater value at a shift. Takes no memory. For the operations of `series_ops`.
+/// The greater value at a shift of at most 20,000. Takes no memory. For the operations of
+/// `series_ops`.
 pub fn later_at(first: &Series, second: &Series, shift: usize) -> Date
     requires { shift ≤ 20000 }
     ensures { result ≡ sum_at (value_at first.now) (value_at second.now) shift }
@@ -122,8 +123,8 @@ fn earlier_at(first: &Series, second: &Series, shift: usize) -> Date
     first.at(shift as u64).earlier(second.at(shift as u64))
 }
 
-/// The first values of the sum, at the shifts 0, 1, .. Refuses for want of memory alone. For the
-/// operations of `series_ops`.
+/// The first `count` values of the sum, at most 20,000, at the shifts 0, 1, .. Refuses for want of
+/// memory alone. For the operations of `series_ops`.
 pub fn sum_values(
     alloc: Global,
     first: &Series,
@@ -160,8 +161,8 @@ fn least_values(
 }
 
 /// The pointwise greater of two series (chapter 5). TooLong exactly where its need exceeds 20,000:
-/// with equal slopes the later start and the common period; with the first slope greater and both
-/// tails numbers the crossing and the first period; else the later start and the period of the
+/// with equal slopes the later start and the common period; with one slope greater and both tails
+/// numbers the crossing and the period of that series; else the later start and the period of the
 /// greater slope. Where not, TooGreat exactly where a number of the result has a magnitude above
 /// 10^18. `OutOfMemory` comes only where no memory is found. It takes time of the order of the need
 /// and of the two periods.

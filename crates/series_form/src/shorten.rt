@@ -225,7 +225,8 @@ fn is_great(number: i128) -> bool
 }
 
 /// The canonical form of a function that is known as in `shortest`, with numbers of any size. Takes
-/// no memory. For the star of `series_ops`, which needs the form on the way.
+/// no memory, and the work of `shortest`. For the star of `series_ops`, which needs the form on the
+/// way.
 pub fn canonical_part(values: &[Date], turn: usize, next: Date) -> Shape
     requires { IsBeginning values.now turn next }
     ensures { IsCanonicalPart values.now turn next result }

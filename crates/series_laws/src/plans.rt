@@ -1,6 +1,7 @@
 //! What needs are told in.
 
-/// From where the result of an operation repeats, and by how many shifts. The sum is the need.
+/// From which shift the result of an operation repeats, and by how many shifts. The sum of the two
+/// is the need (chapter 5).
 #[derive(Clone, Copy, Debug, PartialEq, Eq)]
 pub struct NeedPlan {
     pub from: u128,
@@ -15,8 +16,9 @@ pub enum Slopes {
     Second,
 }
 
-/// A part and its value, which has the greatest ratio among parts; the period and the step where
-/// none has at least theirs.
+/// A part of a list, in shifts, and its value, which has the greatest ratio of value to shift among
+/// parts. Where no part has at least the ratio of the step to the period, `found` is false, and
+/// these two stand there.
 #[derive(Clone, Copy)]
 pub struct Anchor {
     pub found: bool,

@@ -14,7 +14,8 @@ use std::alloc::Global;
 
 /// The series that an expression means (chapter 5), by its operands from left to right and then its
 /// operator; or the first refusal in this order. The expression has at most 4,096 nodes, and each
-/// shift and date in it is below 10^19. `OutOfMemory` comes only where no memory is found.
+/// shift and date in it is below 10^19. `OutOfMemory` comes only where no memory is found. It takes
+/// the time of the operations.
 pub fn evaluate(alloc: Global, expr: &Expr) -> Result<Series, SeriesRefused>
     requires nodes { node_count (tree_of_expression expr.now) ≤ 4096 }
     requires numbers { HasShortNumbers (tree_of_expression expr.now) }

@@ -3,7 +3,8 @@
 /// An expression of periodic series (chapter 5).
 #[derive(Drop)]
 pub enum Expr {
-    /// The monomial of a shift and a date, which is below 0 where `minus` stands before it.
+    /// The monomial of a shift and a date in the user's unit, which is below 0 where `minus` stands
+    /// before it.
     Mono { shift: u64, minus: bool, date: u64 },
     /// Early everywhere, the zero of series.
     Epsilon,

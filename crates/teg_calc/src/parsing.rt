@@ -15,7 +15,8 @@ use std::alloc::Global;
 /// the text that is a prefix of some expression. TooDeep comes instead, exactly where in this
 /// prefix a bracket is opened while 64 are open, with the offset of the first such bracket. `+` and
 /// `.` group to the left, so a text has one tree. It has at most 4,096 nodes, and each shift and
-/// date in it is below 10^19. `OutOfMemory` comes only where no memory is found.
+/// date in it is below 10^19. `OutOfMemory` comes only where no memory is found. It takes time of
+/// the order of the text.
 pub fn parse(alloc: Global, text: &[u8]) -> Result<Expr, ParseRefused>
     requires { length text.now ≤ 4096 }
     ensures answer { IsParseOf text.now result }

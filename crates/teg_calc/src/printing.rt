@@ -8,8 +8,9 @@ use std::alloc::Global;
 use teg_net::OutOfMemory;
 use teg_text::push_dates;
 
-/// The line of a series: the word `series`, the values of its list, and its period and step. It
-/// ends with a line feed. `OutOfMemory` comes only where no memory is found.
+/// The line of a series: the word `series`, the values of its list, and its period and step, dates
+/// in the user's unit. It ends with a line feed. `OutOfMemory` comes only where no memory is found.
+/// It takes time of the order of the text.
 pub fn print(alloc: Global, series: &Series) -> Result<Vec<u8>, OutOfMemory>
     ensures { IfOk result (λ text. text.items ≡ written (series_line series.now ∷ [])) }
 {

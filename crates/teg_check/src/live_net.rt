@@ -93,8 +93,8 @@ impl LiveNet {
         self.net
     }
 
-    /// Gives the place another holding time, in the user's unit; all else stays, its ranks too. It
-    /// takes no memory.
+    /// Gives the place another holding time, in the user's unit and at most 1,000,000,000; all else
+    /// stays, its ranks too. It takes no memory.
     pub fn set_hold(&mut self, place: PlaceId, hold: u64)
         requires place { place.index < length self.old.places }
         requires hold { hold ≤ greatest_hold }
@@ -104,8 +104,8 @@ impl LiveNet {
         self.net.set_hold(place, hold);
     }
 
-    /// Gives the place another number of initial tokens, where the net stays live with them; all
-    /// else stays.
+    /// Gives the place another number of initial tokens, at most 1,000, and as many as it has ready
+    /// dates where it has some, where the net stays live with them; all else stays.
     ///
     /// `TokenFree` comes exactly where some circuit would have no tokens, and names one;
     /// `OutOfMemory` comes only where no memory is found. A change that is refused leaves the net

@@ -97,7 +97,7 @@ fn tell_series(alloc: Global, expr: &Expr) -> Result<CommandOutcome, OutOfMemory
     }
 }
 
-/// The value of an expression, or its refusal.
+/// The value of an expression (chapter 5), or its refusal. It takes the time of its operations.
 pub fn tell_calc(alloc: Global, expression: &Expression) -> Result<CommandOutcome, OutOfMemory>
     ensures { Tells (SaysCalc expression.now) (outcome_of result) }
 {

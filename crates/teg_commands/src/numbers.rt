@@ -24,7 +24,7 @@ pub type Count = UpTo<MOST_NUMBERS>;
 /// The greatest length that a settled form may have, from 1 to 200,000.
 pub type Limit = UpTo<GREATEST_LIMIT>;
 
-/// The period of a timetable, from 1 to 10^6.
+/// The period of a timetable, in the user's unit, from 1 to 10^6.
 pub type Period = UpTo<GREATEST_PERIOD>;
 
 /// How many machines a line has, from 1 to 400.
@@ -41,13 +41,14 @@ pub(crate) fn most_of(limit: Option<Limit>) -> Option<u32>
     }
 }
 
-/// The greatest time of a target ratio.
+/// The greatest time of a target ratio, in the user's unit.
 pub const GREATEST_TARGET_TIME: u64 = 1_000_000_000_000;
 
 /// The most tokens of a target ratio.
 pub const MOST_TARGET_TOKENS: u64 = 1_000_000;
 
-/// A ratio that is aimed at: a time, at most 10^12, to tokens, from 1 to 10^6. Contracts see both.
+/// A ratio that is aimed at: a time in the user's unit, at most 10^12, to tokens, from 1 to 10^6.
+/// No call takes memory. Contracts see both.
 #[derive(Debug, Drop)]
 pub struct Target {
     time: u64,

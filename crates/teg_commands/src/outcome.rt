@@ -19,7 +19,7 @@ pub enum Verdict {
     Late,
     /// The log has a faulty row, or one that the net does not allow.
     Log,
-    /// The expression has no value within the limits.
+    /// The text is no expression, or has no value within the limits.
     Calc,
 }
 

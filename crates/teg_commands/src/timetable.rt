@@ -85,10 +85,11 @@ fn tell_delays(
 }
 
 /// How the delays of the timetable in a file spread through a live net that departs again every
-/// period: the delays left of each transition, and whether they die out or a circuit keeps them; or
-/// that the net is too large for it, that the timetable does not leave a place its time, or that
-/// the settled form is longer than the limit, where one is given; or the first fault of the file.
-/// It takes the time of the search for the settled form of the delayed dates.
+/// period: the delays left of each transition, and whether they die out or a circuit keeps them
+/// (chapters 2 and 3); or that the net is too large for it, that the timetable does not leave a
+/// place its time, or that the settled form is longer than the limit, where one is given; or the
+/// first fault of the file. It takes the time of the search for the settled form of the delayed
+/// dates.
 pub fn tell_timetable(
     alloc: Global,
     net: &LiveNet,

@@ -9,7 +9,7 @@ pub fn gaps_tell_slacks()
     ensures { GapsTellSlacks }
 {}
 
-/// A place has one slack (chapters 2 and 3).
+/// A place has no two slacks by one ratio (chapters 2 and 3).
 pub fn slacks_are_one()
     ensures { SlacksAreOne }
 {}

@@ -118,8 +118,9 @@ fn gathered(net: &Net, parts: &Parts, part_of: Vec<u32>, answers: Vec<PartAnswer
 /// m tokens has the reduced time b h - a m at the ratio a/b. It is the last round of the part's
 /// policy run. `best` is the first part of greatest ratio, none exactly where the net has no
 /// circuit. The answer is a certificate; each ratio has a time of at most 4 x 10^11 and at most
-/// 400,000 tokens, and no potential passes 4 x 10^17 in magnitude. Values stand for the net. It
-/// answers `OutOfMemory` only where no memory is found.
+/// 400,000 tokens, and no potential passes 4 x 10^17 in magnitude. Values stand for the net. For
+/// each part with a circuit it takes the time of `last_round` of `teg_howard`. It answers
+/// `OutOfMemory` only where no memory is found.
 pub fn cycle(
     alloc: Global,
     net: &Net,
@@ -150,7 +151,8 @@ pub fn cycle(
 /// The cycle times as `cycle` gives them (chapters 2 and 3), and of each part with a circuit, in
 /// order, the rounds of policy iteration that end in its answer.
 ///
-/// Policy iteration runs once. It answers `OutOfMemory` only where no memory is found.
+/// Policy iteration runs once, so it takes the time of `cycle`, and it keeps all rounds. It answers
+/// `OutOfMemory` only where no memory is found.
 pub fn cycle_with_runs(
     alloc: Global,
     net: &Net,

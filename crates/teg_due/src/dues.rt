@@ -122,7 +122,8 @@ impl RowFile for DueFile<'_> {
 /// three fields or whose second or third is no number; a name of no transition; an input; a firing
 /// that an earlier row has; a number that is not 1 to 10,000, or a date above 10^12. A first record
 /// `transition`, `number`, `date` is passed over. `OutOfMemory` comes only where no memory is
-/// found.
+/// found. It takes 10,001 bytes for each transition of the net, and time of the order of them and
+/// of the bytes, and for each row a look-up of its name.
 pub fn read_due(alloc: Global, net: &Net, bytes: &[u8]) -> Result<Due, DueRefusal>
     requires { length bytes.now ≤ most_file_bytes }
     ensures rows { IfOk result (λ due. due_of net.now bytes.now ≡ Ok due.rows.items) }

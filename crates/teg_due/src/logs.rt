@@ -82,7 +82,8 @@ impl RowFile for Log<'_> {
 /// The rows of a log of at most 4,194,304 bytes, in order (rules of logs), or its first faulty row
 /// with the first of its faults in the order of [`LogRefusal`]: a record that has not two fields or
 /// whose second is no number; a name of no transition; a date above 10^18. A first record
-/// `transition`, `date` is passed over. `OutOfMemory` comes only where no memory is found.
+/// `transition`, `date` is passed over. `OutOfMemory` comes only where no memory is found. It takes
+/// time of the order of the bytes, and for each row a look-up of its name.
 pub fn read_log(alloc: Global, net: &Net, bytes: &[u8]) -> Result<Vec<LogRow>, LogRefusal>
     requires { length bytes.now ≤ most_file_bytes }
     ensures rows { IfOk result (λ rows. log_of net.now bytes.now ≡ Ok rows.items) }

@@ -6,7 +6,8 @@ ghost use Rattle.teg_net.specs.Nets.{IsInput};
 
 use teg_net::{NameOrder, Net, Role, TransitionId};
 
-/// The transition of this name, if there is one. It takes no memory.
+/// The transition of this name, if there is one, by the names of the net in order. It takes no
+/// memory, and as many steps as the logarithm of their number.
 pub fn transition_named(net: &Net, names: &NameOrder<'_>, name: &[u8]) -> Option<TransitionId>
     requires { names.now ≡ net.now }
     ensures named { option_map (λ id. id.index) result ≡ number_named net.now name.now }

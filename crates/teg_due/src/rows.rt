@@ -36,7 +36,8 @@ pub struct LogRow {
     pub date: u64,
 }
 
-/// Why a file is no due file: its first faulty row, and the first of its faults in this order.
+/// Why a file is no due file: its first faulty row, and the first of its faults in this order. Rows
+/// are counted from 1, a header included.
 #[derive(Clone, Copy, Debug, PartialEq, Eq)]
 pub enum DueRefusal {
     /// It has not three fields, or its number or date is no number in decimal digits.
@@ -53,7 +54,8 @@ pub enum DueRefusal {
     OutOfMemory,
 }
 
-/// Why a file is no log: its first faulty row, and the first of its faults in this order.
+/// Why a file is no log: its first faulty row, and the first of its faults in this order. Rows are
+/// counted from 1, a header included.
 #[derive(Clone, Copy, Debug, PartialEq, Eq)]
 pub enum LogRefusal {
     /// It has not two fields, or its date is no number in decimal digits.

@@ -36,7 +36,7 @@ pub enum ForeverRefusal {
     },
     /// A residual of the due series by the walk series, or its meet with the meet of those before
     /// it, is no series of at most 20,000 values and of numbers of a magnitude up to 10^18; `row`
-    /// is the first such row.
+    /// is the number in its file of the first such row.
     TooWide {
         input: TransitionId,
         row: u32,

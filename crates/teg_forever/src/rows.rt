@@ -7,7 +7,7 @@ use std::fmt;
 use teg_net::OutOfMemory;
 
 /// Why a file has no endless due dates: its first faulty row, and the first of its faults in this
-/// order.
+/// order. Rows are counted from 1, a header included.
 #[derive(Clone, Copy, Debug, PartialEq, Eq)]
 pub enum EndlessRefusal {
     /// It has fewer than four fields, or one from the second on is no number in decimal digits.

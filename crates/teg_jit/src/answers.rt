@@ -27,13 +27,14 @@ pub enum LatestDate {
     At { date: u64, onward: Onward },
 }
 
-/// Why there is no plan. Its line tells a transition by its number, counted from 0.
+/// Why there is no plan. Its line tells a transition by its number, counted from 0. Dates are in
+/// the user's unit.
 #[derive(Debug, Drop)]
 pub enum JitRefusal {
     /// With all inputs at 0 the firing comes later than it is due.
     Late {
         transition: TransitionId,
-        /// The number of the firing.
+        /// The number of the firing, from 1.
         number: u32,
         /// The due date, in the user's unit.
         due: u64,

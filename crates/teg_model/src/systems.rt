@@ -17,16 +17,16 @@ pub fn least_in_are_tight()
     ensures least { TightInAreLeast }
 {}
 
-/// Each least date of a system of a net is the greatest start plus time of the walks that end at
-/// its firing; the start of a firing is the greatest of its release and of the dates of the initial
-/// tokens that it takes (chapter 2).
+/// Where ranks rise along the places of a net without tokens, each least date of a system of the
+/// net is the greatest start plus time of the walks that end at its firing; the start of a firing
+/// is the greatest of its release and of the dates of the initial tokens that it takes (chapter 2).
 pub fn least_in_are_walks()
     ensures starts { SystemsHaveStarts }
     ensures walks { LeastInAreWalks }
 {}
 
-/// The least dates of a system stay within what its holds, initial dates and releases are bounded
-/// by (chapter 2).
+/// Where ranks rise along the places of a system without tokens, its least dates stay within what
+/// holds, ranks, initial dates and releases are bounded by (chapter 2).
 pub fn least_in_are_within()
     ensures { LeastInAreWithin }
 {}

@@ -4,7 +4,8 @@ use crate::entries::TransitionId;
 use crate::ratios::Ratio;
 
 /// The potential of a transition at a ratio a/b: the greatest sum of b times holding time less a
-/// times tokens along paths to it, in the user's unit times the tokens of the ratio.
+/// times tokens along the paths in its part that lead to it from where the circuit of the part
+/// begins, in the user's unit times the tokens of the ratio.
 #[derive(Clone, Copy, Debug, PartialEq, Eq)]
 pub struct Potential {
     pub transition: TransitionId,
@@ -28,10 +29,10 @@ pub enum PartAnswer {
 /// The cycle times of a net and of its parts.
 #[derive(Debug, Drop)]
 pub struct CycleAnswer {
-    /// For each transition the number of its part.
+    /// For each transition, in order, the number of its part, counted from 0.
     pub part_of: Vec<u32>,
     /// The answer of each part, by number.
     pub parts: Vec<PartAnswer>,
-    /// The first part of greatest ratio; none where the net has no circuit.
+    /// The number of the first part of greatest ratio; none where the net has no circuit.
     pub best: Option<u32>,
 }

@@ -71,7 +71,9 @@ pub struct Transition {
 #[derive(Debug, Drop)]
 pub struct Place {
     pub name: Name,
+    /// The upstream transition, which it leaves.
     pub from: TransitionId,
+    /// The downstream transition, which it enters.
     pub to: TransitionId,
     /// The holding time, in the user's unit: 0 to 1,000,000,000.
     pub hold: u64,
@@ -92,8 +94,8 @@ pub struct Again {
     pub gap: u64,
 }
 
-/// Dates in the user's unit, in order of firing number. Contracts see the list; it costs no memory
-/// beside it.
+/// Dates in the user's unit, in order of the numbers of firings, or of tokens. Contracts see the
+/// list; it costs no memory beside it.
 #[derive(Debug, Drop)]
 pub struct DateList {
     dates: Vec<u64>,

@@ -26,7 +26,8 @@ pub enum NetFault {
     BadInput(usize, InputFault),
 }
 
-/// The first rule that a place breaks, in the order of the variants.
+/// The first rule that a place breaks, in the order of the variants. Times and dates are in the
+/// user's unit.
 #[derive(Clone, Copy, Debug, PartialEq, Eq)]
 pub enum PlaceFault {
     /// The transition that it leaves is none of the net.
@@ -45,7 +46,8 @@ pub enum PlaceFault {
     LateReady,
 }
 
-/// The first rule that an input list breaks, in the order of the variants.
+/// The first rule that an input list breaks, in the order of the variants. Dates are in the user's
+/// unit.
 #[derive(Clone, Copy, Debug, PartialEq, Eq)]
 pub enum InputFault {
     /// Its transition is no input of the net.

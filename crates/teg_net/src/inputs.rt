@@ -9,7 +9,8 @@ use crate::net::Net;
 
 impl InputList {
     /// The date, in the user's unit, that the list gives to the firing of this number, counted from
-    /// 1; `None` where it never fires. It takes no memory and looks nothing up: who needs the dates
+    /// 1; `None` where it never fires. Where the list goes on, it keeps the rules of a net there,
+    /// as each list of a [`Net`] does. It takes no memory and looks nothing up: who needs the dates
     /// of many firings of one input finds its list once.
     #[tactic(auto, using(crate::proofs::InputDates::is_date_of_list))]
     pub fn date(&self, number: u64) -> Option<u128>
@@ -52,8 +53,8 @@ fn list_of(net: &Net, transition: TransitionId) -> Option<&InputList>
 
 impl Net {
     /// The date, in the user's unit, before which this firing of an input transition cannot happen:
-    /// by its list, or 0 where it has none; `None` where it never fires. It takes
-    /// no memory.
+    /// by its list, or 0 where it has none; `None` where it never fires. It takes no memory, and a
+    /// step a list.
     pub fn input_date(&self, transition: TransitionId, number: u64) -> Option<u128>
         requires input { IsInput self.now transition.index }
         requires first { 1 ≤ number }

@@ -29,7 +29,7 @@ impl<'n> Model for NameOrder<'n> {
 
 impl<'n> NameOrder<'n> {
     /// The order of the names of the net's transitions. `OutOfMemory` comes only where no memory is
-    /// found.
+    /// found. It takes time of order n log n for n transitions.
     pub fn new(alloc: Global, net: &'n Net) -> Result<NameOrder<'n>, OutOfMemory>
         ensures { IfOk result (λ order. order ≡ net.now) }
     {

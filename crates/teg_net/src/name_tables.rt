@@ -50,7 +50,7 @@ fn place_numbers(alloc: Global, net: &Net) -> Result<BTreeMap<String, u32>, OutO
 
 impl Names {
     /// The names of the net's transitions and places. `OutOfMemory` comes only where no memory is
-    /// found.
+    /// found. It takes time of order m log m for m transitions and places.
     pub fn of(alloc: Global, net: &Net) -> Result<Names, OutOfMemory>
         ensures { IfOk result (AreNamesOf net.now) }
     {

@@ -77,9 +77,9 @@ impl Net {
         &self.inputs
     }
 
-    /// Gives the place another holding time, in the user's unit; all else stays. The circuits and
-    /// their tokens stay too (`holds_keep_circuits`), so that a live net stays live. It takes no
-    /// memory.
+    /// Gives the place another holding time, in the user's unit and at most 1,000,000,000; all else
+    /// stays. The circuits and their tokens stay too (`holds_keep_circuits`), so that a live net
+    /// stays live. It takes no memory.
     pub fn set_hold(&mut self, place: PlaceId, hold: u64)
         requires place { place.index < length self.old.places }
         requires hold { hold ≤ greatest_hold }
@@ -88,8 +88,9 @@ impl Net {
         self.places[place.index as usize].hold = hold;
     }
 
-    /// Gives the place another number of initial tokens; all else stays, its ready dates too. The
-    /// net may become live, or live no more. It takes no memory.
+    /// Gives the place another number of initial tokens, at most 1,000, and as many as it has ready
+    /// dates where it has some; all else stays, its ready dates too. The net may become live, or
+    /// live no more. It takes no memory.
     pub fn set_tokens(&mut self, place: PlaceId, tokens: u32)
         requires place { place.index < length self.old.places }
         requires tokens { MayHaveTokens (place_at self.old place) tokens }

@@ -37,7 +37,7 @@ fn path_start(net: &Net, places: &[PlaceId]) -> Option<TransitionId>
 
 /// Whether each number is that of a place of the net, and each place ends where the next begins.
 /// The empty list is a path. Where it says yes, the places are those of the net (`in_range`), so
-/// that their time and tokens may be asked. It takes no memory.
+/// that their time and tokens may be asked. It takes no memory, and a step a place.
 pub fn is_path(net: &Net, places: &[PlaceId]) -> bool
     ensures is { IsTrue result ↔ IsPath net.now places.now }
     ensures in_range { IsTrue result → AreInRange net.now places.now }
@@ -75,7 +75,7 @@ fn leaves_once(net: &Net, places: &[PlaceId]) -> bool
 
 /// Whether the places are a path that is not empty, ends where it begins, and leaves no transition
 /// twice. Where it says yes, the places are those of the net (`in_range`), so that its time and
-/// tokens may be asked. It takes no memory.
+/// tokens may be asked. It takes no memory, and as many steps as there are pairs of places.
 pub fn is_circuit(net: &Net, places: &[PlaceId]) -> bool
     ensures is { IsTrue result ↔ IsCircuit net.now places.now }
     ensures in_range { IsTrue result → AreInRange net.now places.now }

@@ -35,8 +35,9 @@ fn ready_for(place: &Place, transition: TransitionId, number: u64) -> u64
 }
 
 impl Net {
-    /// The date, in the user's unit, from which this initial token of the place is ready: token k
-    /// is the one that firing k of the downstream transition takes. It takes no memory.
+    /// The date, in the user's unit, from which this initial token of the place, counted from 1, is
+    /// ready: token k is the one that firing k of the downstream transition takes. It takes no
+    /// memory.
     pub fn ready(&self, place: PlaceId, token: u32) -> u64
         requires place { place.index < length self.now.places }
         requires first { 1 ≤ token }
@@ -48,7 +49,8 @@ impl Net {
     }
 
     /// The start, in the user's unit, of this firing of the transition, numbered from 1: the latest
-    /// of 0 and the ready dates of the initial tokens that it takes. It takes no memory.
+    /// of 0 and the ready dates of the initial tokens that it takes. It takes no memory, and a step
+    /// a place.
     pub fn start_date(&self, transition: TransitionId, number: u64) -> u64
         requires { 1 ≤ number }
         ensures value { result ≡ start_date self.now transition.index number }

@@ -3,7 +3,8 @@ use crate::circuits::Circuit;
 use crate::entries::{PlaceId, TransitionId};
 use crate::ratios::Ratio;
 
-/// The place that a policy gives to a member, which enters it, and the member's potential.
+/// The place that a policy gives to a member, which enters it, and the member's potential by the
+/// policy, in the user's unit times the tokens of the round's ratio.
 #[derive(Clone, Copy, Debug, PartialEq, Eq)]
 pub struct Choice {
     pub transition: TransitionId,

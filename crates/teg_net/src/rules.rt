@@ -299,7 +299,8 @@ fn net_fault(transitions: &[Transition], places: &[Place], inputs: &[InputList])
 }
 
 /// Whether these lists keep the rules of a net, which [`Net`] tells (chapter 2). It takes no
-/// memory, and as many steps as the square of the number of places.
+/// memory, and as many steps as the squares of the numbers of transitions and of places, and one a
+/// date.
 #[tactic(auto, using(crate::proofs::NetFaultLaws::fault_breaks))]
 pub fn is_net(transitions: &[Transition], places: &[Place], inputs: &[InputList]) -> bool
     ensures { IsTrue result ↔ IsNet (lists_of transitions.now places.now inputs.now) }
@@ -311,8 +312,8 @@ impl Net {
     /// The net of these lists, exactly where they keep the rules of nets (chapter 2).
     ///
     /// The refusal is the first rule that they break, in the order of [`NetFault`], at the first
-    /// entry that breaks it. It takes no memory, and as many steps as the square of the number of
-    /// places.
+    /// entry that breaks it. It takes no memory, and as many steps as the squares of the numbers of
+    /// transitions and of places, and one a date.
     #[tactic(auto, using(crate::proofs::NetFaultLaws::fault_breaks))]
     pub fn checked(
         transitions: Vec<Transition>,

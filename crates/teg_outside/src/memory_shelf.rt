@@ -116,7 +116,8 @@ impl Shelf for MemoryShelf {
     ghost state = { shelf_told };
 
     /// The whole file of that name. Each call is numbered, from 1, and those whose number was given
-    /// to fail answer Failed; so does a name that is not there. No other call fails.
+    /// to fail answer Failed; so does a name that is not there. No other call answers Failed;
+    /// TooLarge comes only where the file is longer than `limit`.
     fn read(&mut self, alloc: Global, name: &str, limit: usize) -> Result<Vec<u8>, ShelfFault>
         ensures files { (shelf_told self.new).files ≡ (shelf_told self.old).files }
         ensures faults { (shelf_told self.old).faults ≤ (shelf_told self.new).faults }

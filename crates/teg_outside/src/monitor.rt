@@ -16,7 +16,7 @@ pub struct Firing {
     pub number: u64,
     /// When it fired, in the user's unit of time.
     pub date: u64,
-    /// The earliest date at which it could have fired.
+    /// The earliest date at which it could have fired, in the user's unit of time.
     pub earliest: u64,
     /// The tokens in all places of the net after it.
     pub tokens: u64,
@@ -53,7 +53,7 @@ pub trait Monitor: Drop {
     ghost line_text: { Self → List Firing → List ℕ };
 
     /// Sees one more firing: what it would print after further ones is what it would have printed
-    /// before after this one and those. It cannot fail.
+    /// before after this one and those. It cannot fail, and takes no memory.
     fn see(&mut self, firing: Firing)
         ensures { (more : List Firing) → line_text self.new more
             ≡ line_text self.old (firing ∷ more) };

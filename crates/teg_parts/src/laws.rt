@@ -1,8 +1,8 @@
 //! The law of parts: a function that does nothing when it runs, whose contract is the law.
 ghost use Rattle.teg_parts.specs.Partitions.{PartsAreOne};
 
-/// A net has one list of strong parts: the numbers, their order and the marks are determined by it
-/// (chapter 2; the order of the numbers is this project's own).
+/// A net has no two lists of strong parts: the numbers, their order and the marks are determined by
+/// it (chapter 2; the order of the numbers is this project's own).
 pub fn parts_are_one()
     ensures { PartsAreOne }
 {}

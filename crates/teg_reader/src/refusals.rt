@@ -80,8 +80,8 @@ pub enum ReadRefusal {
     InputHasUpstream {
         place: Name,
     },
-    /// The list does not belong to an input (position 0), falls at this date, or cannot go on
-    /// (the position after its last date).
+    /// The list does not belong to an input (position 0), falls at the date of this position,
+    /// counted from 1, or cannot go on (the position after its last date).
     BadInput {
         transition: Name,
         position: u32,
@@ -92,7 +92,8 @@ pub enum ReadRefusal {
         given: u32,
         tokens: u32,
     },
-    /// The place's hold and the duration of its upstream transition are together too great.
+    /// The place's hold and the duration of its upstream transition are together past
+    /// 1,000,000,000.
     TooSlow {
         place: Name,
     },

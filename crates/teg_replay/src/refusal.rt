@@ -12,7 +12,8 @@ use teg_net::PlaceId;
 #[derive(Clone, Copy, Debug, PartialEq, Eq)]
 pub enum FireRefusal {
     /// This place, the lowest numbered of those into the transition, has not its token by the date:
-    /// the token is ready later, or the firing that brings it is missing.
+    /// the token is there only from the date `ready` on, or, where that is none, the firing that
+    /// brings it is missing.
     Illegal { place: PlaceId, ready: Option<u128> },
     /// The date is before that of the last accepted firing.
     BackInTime { last: u64 },

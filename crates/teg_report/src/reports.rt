@@ -137,7 +137,7 @@ pub fn report(alloc: Global, net: Option<&Net>, answer: &Answer<'_>) -> Result<V
 /// The bytes of two answers about one net, each told with the net or without it. Where the answers
 /// differ, so do the bytes.
 ///
-/// `OutOfMemory` comes only where no memory is found.
+/// `OutOfMemory` comes only where no memory is found. It takes time of the order of the texts.
 pub fn report_both(
     alloc: Global,
     first_net: Option<&Net>,

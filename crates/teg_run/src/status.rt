@@ -25,7 +25,7 @@ pub enum Status {
     TooLong,
     /// The log has a faulty row, or one that the net does not allow.
     Log,
-    /// The expression has no value within the limits.
+    /// The text is no expression, or has no value within the limits.
     Calc,
     /// The net has no transition, or no place, of the name that was given.
     Name,

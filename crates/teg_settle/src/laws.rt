@@ -12,8 +12,8 @@ pub fn walk_times_settle()
     systems_settle();
 }
 
-/// The greatest times of walks from an input have one shortest settled form, and it is longer than
-/// each limit that every form of them exceeds (chapter 3).
+/// The greatest times of walks from an input have no two shortest settled forms, and one is longer
+/// than each limit that every form of them exceeds (chapter 3).
 pub fn transfers_are_one()
     ensures one { TransfersAreOne }
     ensures limits { TransferLimitsAreTold }

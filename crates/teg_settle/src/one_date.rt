@@ -14,10 +14,11 @@ use teg_net::{Net, OutOfMemory, TransitionId};
 /// The date of the firing of this number, from 1 to 10^18, of a transition of a live net, by its
 /// least dating, with its ready dates and its input lists (chapters 2 and 3). It is that of a row
 /// where no fewer rows show the settled form, and else that which the form tells: so it makes at
-/// most as many rows as the number and twice as many as the form needs, each in time of order
-/// `n + p` for n transitions and p places, and keeps them, eight bytes a date where dates are below
-/// 2^63 - 1; and it tries periods as [`settle_within`](crate::settle_within) does. `OutOfMemory`
-/// comes where no memory is found, and past 20,000,000,000,000 rows, which no memory holds.
+/// most as many rows as the number, and at most six more than twice as many as the form needs, each
+/// in time of order `n + p` for n transitions and p places, and keeps them, eight bytes a date
+/// where dates are below 2^63 - 1; and it tries periods as [`settle_within`](crate::settle_within)
+/// does. `OutOfMemory` comes where no memory is found, and past 20,000,000,000,000 rows, which no
+/// memory holds.
 pub fn date_of(
     alloc: Global,
     net: &Net,

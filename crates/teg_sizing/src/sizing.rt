@@ -70,7 +70,7 @@ fn sizing_by(net: &Net, target: Ratio, place: PlaceId, best: Through) -> Sizing
 /// place is given for which one token less is not. `Impossible` comes exactly where no number is
 /// enough, with a circuit above the target that avoids the place or, where there is none, stands
 /// against a target of 0. `OutOfMemory` comes only where no memory is found. It takes time of order
-/// n p for n transitions and p places.
+/// n p for n transitions and p places, and while it runs memory of order n^2.
 pub fn size(
     alloc: Global,
     net: &Net,

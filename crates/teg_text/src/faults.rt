@@ -6,7 +6,7 @@ ghost use Rattle.teg_text.specs.Lines.{line_then, phrase};
 use std::alloc::{AllocError, Global};
 
 /// The line of a faulty row of a file: that it is refused, the file, the number of the row, and
-/// what is wrong.
+/// what is wrong. `AllocError` comes only where no memory is found.
 #[tactic(auto, using(crate::proofs::FaultsWritten::row_written))]
 pub fn row_fault(alloc: Global, file: &str, row: u32, fault: &str) -> Result<String, AllocError>
     ensures text { IfOk result (λ text. string_bytes text

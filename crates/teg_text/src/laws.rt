@@ -7,8 +7,8 @@ pub fn lines_are_read()
     ensures { LinesAreRead }
 {}
 
-/// The law that numbers, dates, ratios and labels are read back from their words. It does nothing
-/// when it runs.
+/// The law that numbers below 10^64, dates, ratios of 64 bits and labels are read back from their
+/// words. It does nothing when it runs.
 pub fn words_are_read()
     ensures numbers { NumbersAreRead }
     ensures dates { DatesAreRead }

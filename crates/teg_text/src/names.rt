@@ -7,7 +7,8 @@ ghost use Rattle.teg_text.specs.WordsOfNames.{circuit_line, name_of_place, settl
 use std::alloc::AllocError;
 use teg_net::{Circuit, Net};
 
-/// Appends the names of the places of a circuit in their order, each behind a blank.
+/// Appends the names of the places of a circuit in their order, each behind a blank. `AllocError`
+/// comes only where no memory is found.
 pub fn push_places(text: &mut String, net: &Net, circuit: &Circuit) -> Result<(), AllocError>
     requires { AreInRange net.now circuit.now.places.items }
     ensures { IfOk result (λ _. string_bytes text.new ≡
@@ -23,6 +24,7 @@ pub fn push_places(text: &mut String, net: &Net, circuit: &Circuit) -> Result<()
 }
 
 /// Appends the line of a circuit: `circuit`, and the names of its places in their order.
+/// `AllocError` comes only where no memory is found.
 pub fn push_circuit(text: &mut String, net: &Net, circuit: &Circuit) -> Result<(), AllocError>
     requires { AreInRange net.now circuit.now.places.items }
     ensures { IfOk result (λ _. string_bytes text.new ≡
@@ -34,7 +36,8 @@ pub fn push_circuit(text: &mut String, net: &Net, circuit: &Circuit) -> Result<(
     Ok(())
 }
 
-/// Appends the line of a settled form: the number past which its dates go on, and their period.
+/// Appends the line of a settled form: the number past which its dates go on, and their period,
+/// both in firings. `AllocError` comes only where no memory is found.
 pub fn push_settled(text: &mut String, after: u64, period: u64) -> Result<(), AllocError>
     ensures { IfOk result (λ _. string_bytes text.new ≡ string_bytes text.old ++ line_then
         (settled_words after period) []) }

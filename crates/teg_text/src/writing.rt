@@ -5,7 +5,8 @@ ghost use Rattle.teg_text.specs.ValueWords.{AreBytes, IsDate, date_word, hex_dig
 use dioid::Date;
 use std::alloc::AllocError;
 
-/// Appends a date: its number, `epsilon` where it is before all numbers and `never` after them.
+/// Appends a date: its number, in the user's unit, `epsilon` where it is before all numbers and
+/// `never` after them. `AllocError` comes only where no memory is found.
 pub fn push_date(text: &mut String, date: Date) -> Result<(), AllocError>
     ensures text { IfOk result (λ _. string_bytes text.new
         ≡ string_bytes text.old ++ date_word date) }
@@ -18,7 +19,8 @@ pub fn push_date(text: &mut String, date: Date) -> Result<(), AllocError>
     }
 }
 
-/// Appends dates in their order, each behind a blank.
+/// Appends dates in their order, each behind a blank. `AllocError` comes only where no memory is
+/// found.
 pub fn push_dates(text: &mut String, dates: &[Date]) -> Result<(), AllocError>
     ensures text { IfOk result (λ _. string_bytes text.new
         ≡ string_bytes text.old ++ flat_map (λ date. 32 ∷ date_word date) dates.now) }
@@ -56,7 +58,8 @@ fn push_label_byte(text: &mut String, byte: u8) -> Result<(), AllocError>
 }
 
 /// Appends a label, byte by byte: a visible byte as it is, a backslash twice, and any other as `\x`
-/// and its two hexadecimal digits. So it has no blank and no line feed.
+/// and its two hexadecimal digits. So it has no blank and no line feed. `AllocError` comes only
+/// where no memory is found.
 pub fn push_label(text: &mut String, label: &str) -> Result<(), AllocError>
     ensures text { IfOk result (λ _. string_bytes text.new
         ≡ string_bytes text.old ++ label_word label.now) }

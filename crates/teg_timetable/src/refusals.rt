@@ -9,8 +9,8 @@ use std::fmt;
 use teg_net::{OutOfMemory, PlaceId, TransitionId};
 
 /// Why a file is no timetable of a net: its first faulty row, and the first of its faults in this
-/// order; or, where no row is faulty, a transition without a first departure. Its line tells a
-/// transition by its number, counted from 0.
+/// order; or, where no row is faulty, a transition without a first departure. Rows are counted from
+/// 1, a header included. Its line tells a transition by its number, counted from 0.
 #[derive(Clone, Copy, Debug, PartialEq, Eq)]
 pub enum TableRefusal {
     /// The row has not two or three fields, or one from the second on is no number in decimal

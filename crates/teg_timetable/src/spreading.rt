@@ -110,8 +110,8 @@ fn followed(
     Ok(Delayed::new(left, outcome))
 }
 
-/// How the delays of a timetable spread through a live net that departs again every `period`
-/// (chapters 2 and 3).
+/// How the delays of a timetable spread through a live net that departs again every `period`, in
+/// the user's unit and from 1 to 10^6 (chapters 2 and 3).
 ///
 /// Each departure is released at its planned date with its delay, and not before an earlier one of
 /// its transition; the delayed dates are the least that the releases, the places and their ready
@@ -119,7 +119,7 @@ fn followed(
 /// period are those of the shortest settled form of delayed dates and releases together. `TooLarge`
 /// comes exactly where the net has more than 200 transitions, or more than 4,000 transitions and
 /// places together; `Unworkable` exactly where the plan does not leave some place its time, with
-/// the lowest numbered such place; `TooLong` exactly where there is a limit, from 1 to 200,000,
+/// the lowest numbered such place; `TooLong` exactly where there is a limit, of at most 200,000,
 /// that the settling length exceeds. `OutOfMemory` comes where no memory is found and, without a
 /// limit, past 20,000,000,000,000 rows, which no memory holds. For n transitions, p places, r
 /// delays and a settling length l it takes time of order `n^2 + n r + (n + p) l`, and what the

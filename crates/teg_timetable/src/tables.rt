@@ -83,8 +83,9 @@ fn delays(alloc: Global, entries: &[TableEntry]) -> Result<Vec<Delay>, AllocErro
 /// file misses the first departure of the first transition. A first record `transition`, `first` is
 /// passed over. First departures come in order of transitions, delays in order of rows. Inputs have
 /// departures like others. Dates and delays are whole numbers in the user's unit. It takes memory
-/// for the rows, and time of order of the bytes, with the logarithm of the number of transitions
-/// for each row; `OutOfMemory` comes only where no memory is found.
+/// for the rows and 10,001 bytes for each transition of the net, and time of order of the bytes,
+/// with the logarithm of the number of transitions for each row; `OutOfMemory` comes only where no
+/// memory is found.
 pub fn read_timetable(alloc: Global, net: &Net, bytes: &[u8]) -> Result<Timetable, TableRefusal>
     requires { length bytes.now ≤ most_file_bytes }
     ensures table { IfOk result (λ table. timetable_of net.now bytes.now

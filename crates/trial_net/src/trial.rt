@@ -74,7 +74,7 @@ fn push_cards(alloc: Global, places: &mut Vec<Place>, count: u32) -> Result<(), 
 /// Machine `mi` works `10 + (37 i mod 23)` units on each piece, one piece at a time (`si`), and
 /// hands it on to the next (`fi`); it may be ahead of the next by `2 + (i mod 2)` pieces (`ci`).
 /// All are internal, and all tokens are ready at 0. `OutOfMemory` comes only where no memory is
-/// found.
+/// found. It takes time of the order of the machines.
 pub fn make_trial(alloc: Global, machines: u32) -> Result<Net, OutOfMemory>
     requires some { 1 ≤ machines }
     requires few { machines ≤ 400 }

@@ -17,7 +17,7 @@ use teg_net::{Net, OutOfMemory};
 use teg_text::{push_date, push_settled};
 
 /// What the text of `teg dates` shows of a live net: past this number its dates go on by steps in
-/// each period.
+/// each period; both are numbers of firings.
 #[derive(Clone, Copy, Debug, PartialEq, Eq)]
 pub struct ShownSettled {
     pub after: u64,
