@@ -1,12 +1,12 @@
 //! The sum and the minimum of two series, shift by shift.
-ghost use Rattle.std.specs.Prelude.{◌≡◌, ◌≤◌, ◌<◌, ◌*◌, ◌-ℤ◌, ◌<ℤ◌, IfOk, pos};
+ghost use Rattle.std.specs.Prelude.{◌≡◌, ◌≤◌, ◌<◌, ◌*◌, ◌-ℤ◌, ◌<ℤ◌, IfOk};
 ghost use Rattle.series_laws.specs.declared.plans.Slopes.TheVariants.{First};
 ghost use Rattle.series_laws.specs.SeriesForms.{value_at, table, HasValues};
 ghost use Rattle.series_form.specs.NumberBounds.{IsSeries};
 ghost use Rattle.series_form.specs.SeriesAnswers.{AnswersOf, AnswersForm};
 ghost use Rattle.series_form.specs.Leads.{IsGaining};
 ghost use Rattle.series_laws.specs.Pointwise.{sum_at, least_at};
-ghost use Rattle.series_laws.specs.Needs.{need_of, later_start, crossing, slopes_of, periods_behind, period_with, sum_plan, least_plan, form_sum, form_least};
+ghost use Rattle.series_laws.specs.Needs.{need_of, crossing, slopes_of, periods_behind, period_with, sum_plan, least_plan, form_sum, form_least};
 ghost use Rattle.series_form.specs.SeriesLimits.{greatest_reach, greatest_height};
 
 use crate::forms::{Series, SeriesRefused, shortest};
