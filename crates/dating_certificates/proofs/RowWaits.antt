@@ -1,18 +1,17 @@
 -- The loops that write a row of dates and raise it to the latest of what each firing waits for.
-use Rattle.std.proofs.Common.{ℕ, ◌+◌, ◌<◌, ◌≤◌, ◌≡◌, ◌≢◌, List, length, get_or, set, refl, sym, subst, ◌∙◌, arith, ⊎_elim}
-use Rattle.std.specs.Prelude.{◌↔◌}
+use Rattle.std.proofs.Common.{ℕ, ◌+◌, ◌<◌, ◌≤◌, ◌≡◌, ◌≢◌, List, length, get_or, set, refl, sym, ◌∙◌, arith, ⊎_elim}
 use Rattle.std.proofs.lemmas.Bool.{cases_lt, cases_eq}
 use Rattle.std.proofs.lemmas.List.{length-set, get_or-set_same, get_or-set_other, get_or_default}
 use Rattle.dioid.specs.declared.dates.Date.{Date}
 use Rattle.dioid.specs.declared.dates.Date.TheVariants.{Early}
 use Rattle.dioid.specs.Dates.{IsAtMostDate, later_of}
-use Rattle.dioid.proofs.DateOrder.{at_most_trans, same_by_at_most, later_left, later_right, later_least}
+use Rattle.dioid.proofs.DateOrder.{at_most_trans, later_left, later_right, later_least}
 use Rattle.teg_net.specs.Nets.{NetLists}
 use Rattle.teg_net.specs.Circuits.{no_place}
 use Rattle.teg_model.specs.Datings.{implicit_place, available_at, at_input}
 use Rattle.teg_model.proofs.DateFunctions.{Dating}
 use Rattle.teg_model.proofs.OfNet.{all_extended_in, extended_has, implicit_is, release_below, at_input_is}
-use Rattle.dating_certificates.specs.TightRows.{AreThereBy, IsLatestWait, IsLatestOfWaits}
+use Rattle.dating_certificates.specs.TightRows.{AreThereBy}
 use Rattle.dating_certificates.specs.Waits.{begun_date, HasBegun, AreLatestWaits}
 
 -- the row has begun up to transition i
@@ -138,13 +137,3 @@ raised_is net u x k row h = record {
         least = λ z a. s.least z (all_among net u x t k z l a);
       };
 }
-
--- the dates are those of such a row just where each is the latest of what its firing waits for
-pub row_is_tight : (net : NetLists) (u x : Dating) (k : ℕ) (row : List Date) → AreLatestWaits net u x k row
-    → ((t : ℕ) → t < length net.transitions → get_or row t Early ≡ x t k) ↔ ((t : ℕ) → t < length net.transitions → IsLatestOfWaits net u x t k)
-row_is_tight net u x k row h = (
-  λ same t l. subst (IsLatestWait net u x t k) (same t l) (h.latest t l),
-  λ tight t l.
-      let d = get_or row t Early in
-      same_by_at_most d (x t k) ((h.latest t l).least (x t k) (tight t l).there) ((tight t l).least d (h.latest t l).there),
-)

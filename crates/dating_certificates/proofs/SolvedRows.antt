@@ -90,10 +90,6 @@ ByPlaces told k i t = IsNextTight told k t ⊎ HasTightPlace told k i t
 abbrev pub ByRows : ToldDates → List DueRow → ℕ → ℕ → ℕ → Type 0
 ByRows told rows k j t = IsMetAhead told k t ⊎ HasTightRow told rows k j t
 
-pub places_begin : (told : ToldDates) (met : List Bool) (k : ℕ) → AreMarked told met (IsNextTight told k) → AreMarked told met (ByPlaces told k 0)
-places_begin told met k h = marked_as told met (IsNextTight told k) (ByPlaces told k 0) h
-    (λ t l. (λ e. inl e, λ s. ⊎_elim (λ e. e) (λ (a : HasTightPlace told k 0 t). absurd (omega (arith, a.1))) s))
-
 pub places_more : (told : ToldDates) (met : List Bool) (k i : ℕ) (b : Bool) → (get_or told.net.places i no_place).from.index < length told.net.transitions
     → AreMarked told met (ByPlaces told k i) → (b ≡ true) ↔ IsPlaceTight told k (get_or told.net.places i no_place)
     → AreMarked told (set met (get_or told.net.places i no_place).from.index (get_or met (get_or told.net.places i no_place).from.index false || b)) (ByPlaces told k (i + 1))

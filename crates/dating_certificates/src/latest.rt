@@ -11,7 +11,7 @@ use crate::told_rows::ToldRows;
 use dioid::Date;
 use std::alloc::Global;
 use teg_due::{Due, DueRow};
-use teg_net::{Net, OutOfMemory};
+use teg_net::{FiringNumber, Net, OutOfMemory};
 
 // Whether each date of these numbers is the least of what is ahead of it.
 fn are_solved(told: &ToldRows<'_>, rows: &[DueRow], numbers: u64, met: &mut [bool]) -> bool
@@ -21,7 +21,7 @@ fn are_solved(told: &ToldRows<'_>, rows: &[DueRow], numbers: u64, met: &mut [boo
     ensures { IsTrue result ↔ ((k : ℕ) → 1 ≤ k → k ≤ numbers → IsRowSolved told.now rows.now k) }
 {
     for before in 0..numbers {
-        if !told.is_solved(rows, before + 1, met) {
+        if !told.is_solved(rows, &FiringNumber::new(before + 1), met) {
             return false;
         }
     }

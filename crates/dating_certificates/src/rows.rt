@@ -2,7 +2,6 @@
 ghost use Rattle.std.specs.Prelude.{ℕ, ◌*◌, ◌<◌, ◌≤◌, ◌≡◌, ◌↔◌, All, IfNone, IfOk, IfSome, IsTrue, length, slice_index_or};
 ghost use Rattle.dioid.specs.declared.dates.Date.TheVariants.{Early};
 ghost use Rattle.teg_net.specs.Circuits.{IsLive};
-ghost use Rattle.teg_net.specs.Limits.{greatest_firing_number};
 ghost use Rattle.teg_model.specs.DateBounds.{IsDateWithin, greatest_least_date};
 ghost use Rattle.teg_model.specs.Datings.{listed_releases};
 ghost use Rattle.dating_certificates.specs.CheckedRows.{date_in_rows, AreFirstRows, AreRowsOf, AreTightRows};
@@ -12,7 +11,7 @@ ghost use Rattle.dating_certificates.specs.Waits.{AreLatestWaits, HasBegun};
 use crate::waits::{available, date_before, date_in_rows, release};
 use dioid::Date;
 use std::alloc::Global;
-use teg_net::{GREATEST_FIRING_NUMBER, Net, OutOfMemory, PlaceId, TransitionId};
+use teg_net::{FiringNumber, GREATEST_FIRING_NUMBER, Net, OutOfMemory, PlaceId, TransitionId};
 
 // No least date is greater.
 const GREATEST_LEAST_DATE: i128 = 2_000_000_000_000_000_000_000_000_000_000;
@@ -35,15 +34,14 @@ fn all_within(dates: &[Date]) -> bool
 }
 
 // Writes for each transition the later of the firing before this number and the release.
-fn begin_row(net: &Net, dates: &[Date], row: &mut [Date], number: u64)
-    requires number { 1 ≤ number }
-    requires few { number ≤ greatest_firing_number }
-    requires rows { number * length net.now.transitions ≤ length dates.now }
+fn begin_row(net: &Net, dates: &[Date], row: &mut [Date], number: &FiringNumber)
+    requires rows { number.now * length net.now.transitions ≤ length dates.now }
     requires full { length row.old ≡ length net.now.transitions }
     ensures { HasBegun net.now (listed_releases net.now)
-        (date_in_rows (length net.now.transitions) dates.now) number row.new }
+        (date_in_rows (length net.now.transitions) dates.now) number.now row.new }
 {
     let width = net.transitions().len();
+    let number = number.get();
     for index in 0..width {
         let id = TransitionId::new(index as u32);
         row[index] = date_before(net, dates, id, number).later(release(net, id, number));
@@ -51,19 +49,18 @@ fn begin_row(net: &Net, dates: &[Date], row: &mut [Date], number: u64)
 }
 
 // Raises the dates of the row to the tokens that the firings take from the places.
-fn raise_row(net: &Net, dates: &[Date], row: &mut [Date], number: u64)
-    requires number { 1 ≤ number }
-    requires rows { number * length net.now.transitions ≤ length dates.now }
+fn raise_row(net: &Net, dates: &[Date], row: &mut [Date], number: &FiringNumber)
+    requires rows { number.now * length net.now.transitions ≤ length dates.now }
     requires within { All (IsDateWithin greatest_least_date) dates.now }
     requires begun { HasBegun net.now (listed_releases net.now)
-        (date_in_rows (length net.now.transitions) dates.now) number row.old }
+        (date_in_rows (length net.now.transitions) dates.now) number.now row.old }
     ensures { AreLatestWaits net.now (listed_releases net.now)
-        (date_in_rows (length net.now.transitions) dates.now) number row.new }
+        (date_in_rows (length net.now.transitions) dates.now) number.now row.new }
 {
     for (index, place) in net.places().iter().enumerate() {
         let id = PlaceId::new(index as u32);
         let to = place.to.index();
-        row[to] = row[to].later(available(net, dates, id, number));
+        row[to] = row[to].later(available(net, dates, id, number.get()));
     }
 }
 
@@ -83,20 +80,18 @@ fn is_row(dates: &[Date], row: &[Date], number: u64) -> bool
 }
 
 // Whether each date of this number is the latest of what its firing waits for.
-fn is_tight_row(net: &Net, dates: &[Date], row: &mut [Date], number: u64) -> bool
-    requires number { 1 ≤ number }
-    requires few { number ≤ greatest_firing_number }
-    requires rows { number * length net.now.transitions ≤ length dates.now }
+fn is_tight_row(net: &Net, dates: &[Date], row: &mut [Date], number: &FiringNumber) -> bool
+    requires rows { number.now * length net.now.transitions ≤ length dates.now }
     requires within { All (IsDateWithin greatest_least_date) dates.now }
     requires full { length row.old ≡ length net.now.transitions }
     ensures full { length row.new ≡ length net.now.transitions }
     ensures tight { IsTrue result ↔ ((t : ℕ) → t < length net.now.transitions
         → IsLatestOfWaits net.now (listed_releases net.now)
-        (date_in_rows (length net.now.transitions) dates.now) t number) }
+        (date_in_rows (length net.now.transitions) dates.now) t number.now) }
 {
     begin_row(net, dates, row, number);
     raise_row(net, dates, row, number);
-    is_row(dates, row, number)
+    is_row(dates, row, number.get())
 }
 
 // Whether each date of these rows is the latest of what its firing waits for.
@@ -108,7 +103,7 @@ fn are_tight(net: &Net, dates: &[Date], row: &mut [Date], rows: u64) -> bool
         (date_in_rows (length net.now.transitions) dates.now) rows }
 {
     for before in 0..rows {
-        if !is_tight_row(net, dates, row, before + 1) {
+        if !is_tight_row(net, dates, row, &FiringNumber::new(before + 1)) {
             return false;
         }
     }

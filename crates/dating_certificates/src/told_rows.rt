@@ -3,7 +3,6 @@
 ghost use Rattle.std.specs.Prelude.{◌≡◌, ◌≤◌, ◌<◌, ◌↔◌, ◌⊎◌, All, IsTrue, length};
 ghost use Rattle.dioid.specs.Dates.{IsAtMostDate, delayed};
 ghost use Rattle.teg_net.specs.Circuits.{place_at};
-ghost use Rattle.teg_net.specs.Limits.{greatest_firing_number};
 ghost use Rattle.teg_net.specs.Nets.{IsNet};
 ghost use Rattle.teg_due.specs.RowRules.{IsDueOf};
 ghost use Rattle.dating_certificates.specs.CheckedRows.{AreRowsOf};
@@ -13,7 +12,7 @@ use crate::waits::date_in_rows;
 use dioid::Date;
 use std::marker::Model;
 use teg_due::DueRow;
-use teg_net::{Net, Place, PlaceId};
+use teg_net::{FiringNumber, Net, Place, PlaceId};
 
 // Whether the first date is at most the second.
 fn is_at_most(date: Date, other: Date) -> bool
@@ -129,13 +128,12 @@ impl<'a> ToldRows<'a> {
     }
 
     // Whether each date of this number is at most that of the next.
-    fn keeps_next(&self, number: u64) -> bool
-        requires number { 1 ≤ number }
-        requires few { number ≤ greatest_firing_number }
-        ensures { IsTrue result ↔ NextIsKept self.now number }
+    fn keeps_next(&self, number: &FiringNumber) -> bool
+        ensures { IsTrue result ↔ NextIsKept self.now number.now }
     {
+        let at = number.get();
         for index in 0..self.width() {
-            if !is_at_most(self.date(index, number), self.date(index, number + 1)) {
+            if !is_at_most(self.date(index, at), self.date(index, at + 1)) {
                 return false;
             }
         }
@@ -144,22 +142,19 @@ impl<'a> ToldRows<'a> {
 
     // Whether this firing of the start of the place comes a hold before the date at its end, or
     // earlier.
-    fn keeps_place(&self, place: PlaceId, number: u64) -> bool
+    fn keeps_place(&self, place: PlaceId, number: &FiringNumber) -> bool
         requires place { place.index < length self.now.net.places }
-        requires number { 1 ≤ number }
-        requires few { number ≤ greatest_firing_number }
-        ensures { IsTrue result ↔ IsPlaceKept self.now number (place_at self.now.net place) }
+        ensures { IsTrue result ↔ IsPlaceKept self.now number.now (place_at self.now.net place) }
     {
+        let at = number.get();
         let own = &self.net.places()[place.index()];
-        let onward = self.date(own.to.index(), number + u64::from(own.tokens));
-        is_in_time(self.date(own.from.index(), number), own.hold, onward)
+        let onward = self.date(own.to.index(), at + u64::from(own.tokens));
+        is_in_time(self.date(own.from.index(), at), own.hold, onward)
     }
 
     // Whether all places are kept so at this number.
-    fn keeps_places(&self, number: u64) -> bool
-        requires number { 1 ≤ number }
-        requires few { number ≤ greatest_firing_number }
-        ensures { IsTrue result ↔ All (IsPlaceKept self.now number) self.now.net.places }
+    fn keeps_places(&self, number: &FiringNumber) -> bool
+        ensures { IsTrue result ↔ All (IsPlaceKept self.now number.now) self.now.net.places }
     {
         for index in 0..self.places().len() {
             if !self.keeps_place(PlaceId::new(index as u32), number) {
@@ -184,21 +179,18 @@ impl<'a> ToldRows<'a> {
     }
 
     // Whether this firing comes with the next.
-    fn comes_with_next(&self, transition: usize, number: u64) -> bool
+    fn comes_with_next(&self, transition: usize, number: &FiringNumber) -> bool
         requires transition { transition < length self.now.net.transitions }
-        requires number { 1 ≤ number }
-        requires few { number ≤ greatest_firing_number }
-        ensures { IsTrue result ↔ IsNextTight self.now number transition }
+        ensures { IsTrue result ↔ IsNextTight self.now number.now transition }
     {
-        self.date(transition, number) == self.date(transition, number + 1)
+        let at = number.get();
+        self.date(transition, at) == self.date(transition, at + 1)
     }
 
     // Marks the transitions of which the firing of this number comes with the next.
-    fn mark_next(&self, number: u64, met: &mut [bool])
-        requires number { 1 ≤ number }
-        requires few { number ≤ greatest_firing_number }
+    fn mark_next(&self, number: &FiringNumber, met: &mut [bool])
         requires full { length met.old ≡ length self.now.net.transitions }
-        ensures { AreMarked self.now met.new (IsNextTight self.now number) }
+        ensures { AreMarked self.now met.new (IsNextTight self.now number.now) }
     {
         for index in 0..self.width() {
             met[index] = self.comes_with_next(index, number);
@@ -206,23 +198,20 @@ impl<'a> ToldRows<'a> {
     }
 
     // Whether this firing of the start of the place comes just a hold before the date at its end.
-    fn is_tight(&self, place: PlaceId, number: u64) -> bool
+    fn is_tight(&self, place: PlaceId, number: &FiringNumber) -> bool
         requires place { place.index < length self.now.net.places }
-        requires number { 1 ≤ number }
-        requires few { number ≤ greatest_firing_number }
-        ensures { IsTrue result ↔ IsPlaceTight self.now number (place_at self.now.net place) }
+        ensures { IsTrue result ↔ IsPlaceTight self.now number.now (place_at self.now.net place) }
     {
+        let at = number.get();
         let own = &self.net.places()[place.index()];
-        let onward = self.date(own.to.index(), number + u64::from(own.tokens));
-        is_just_in_time(self.date(own.from.index(), number), own.hold, onward)
+        let onward = self.date(own.to.index(), at + u64::from(own.tokens));
+        is_just_in_time(self.date(own.from.index(), at), own.hold, onward)
     }
 
     // Marks the transitions of which it comes just a hold before a date to which a place leads.
-    fn mark_places(&self, number: u64, met: &mut [bool])
-        requires number { 1 ≤ number }
-        requires few { number ≤ greatest_firing_number }
-        requires marked { AreMarked self.now met.old (IsNextTight self.now number) }
-        ensures { AreMarked self.now met.new (IsMetAhead self.now number) }
+    fn mark_places(&self, number: &FiringNumber, met: &mut [bool])
+        requires marked { AreMarked self.now met.old (IsNextTight self.now number.now) }
+        ensures { AreMarked self.now met.new (IsMetAhead self.now number.now) }
     {
         for (index, place) in self.places().iter().enumerate() {
             let from = place.from.index();
@@ -231,23 +220,22 @@ impl<'a> ToldRows<'a> {
     }
 
     // Whether the row is of a firing of this number that comes at its due date.
-    fn is_tight_row(&self, row: &DueRow, number: u64) -> bool
+    fn is_tight_row(&self, row: &DueRow, number: &FiringNumber) -> bool
         requires transition { row.now.transition.index < length self.now.net.transitions }
-        requires number { 1 ≤ number }
-        ensures { IsTrue result ↔ IsTightAt self.now number row.now }
+        ensures { IsTrue result ↔ IsTightAt self.now number.now row.now }
     {
-        if u64::from(row.number) != number {
+        let at = number.get();
+        if u64::from(row.number) != at {
             return false;
         }
-        self.date(row.transition.index(), number) == Date::At(i128::from(row.date))
+        self.date(row.transition.index(), at) == Date::At(i128::from(row.date))
     }
 
     // Marks the transitions of which it comes at its due date.
-    fn mark_rows(&self, rows: &[DueRow], number: u64, met: &mut [bool])
+    fn mark_rows(&self, rows: &[DueRow], number: &FiringNumber, met: &mut [bool])
         requires due { IsDueOf self.now.net rows.now }
-        requires number { 1 ≤ number }
-        requires marked { AreMarked self.now met.old (IsMetAhead self.now number) }
-        ensures { AreMarked self.now met.new (IsMet self.now rows.now number) }
+        requires marked { AreMarked self.now met.old (IsMetAhead self.now number.now) }
+        ensures { AreMarked self.now met.new (IsMet self.now rows.now number.now) }
     {
         for row in rows {
             let to = row.transition.index();
@@ -256,13 +244,11 @@ impl<'a> ToldRows<'a> {
     }
 
     // Whether each date of this number is the least of what is ahead of it.
-    pub(crate) fn is_solved(&self, rows: &[DueRow], number: u64, met: &mut [bool]) -> bool
+    pub(crate) fn is_solved(&self, rows: &[DueRow], number: &FiringNumber, met: &mut [bool]) -> bool
         requires due { IsDueOf self.now.net rows.now }
-        requires number { 1 ≤ number }
-        requires few { number ≤ greatest_firing_number }
         requires full { length met.old ≡ length self.now.net.transitions }
         ensures full { length met.new ≡ length self.now.net.transitions }
-        ensures solved { IsTrue result ↔ IsRowSolved self.now rows.now number }
+        ensures solved { IsTrue result ↔ IsRowSolved self.now rows.now number.now }
     {
         self.mark_next(number, met);
         self.mark_places(number, met);

@@ -15,7 +15,8 @@ use Rattle.teg_due.specs.declared.rows.DueRefusal.{DueRefusal}
 use Rattle.teg_due.specs.declared.rows.DueRefusal.TheVariants.{OutOfMemory as due_memory}
 use Rattle.teg_due.specs.DueFileRows.{due_of}
 use Rattle.teg_jit.specs.due_laws.MeetingDueDates.{AreLatestInputs}
-use Rattle.teg_jit.specs.DueDates.{due_in, IsGreatestNumber}
+use Rattle.teg_due.specs.RowRules.{due_in}
+use Rattle.teg_jit.specs.DueDates.{IsGreatestNumber}
 use Rattle.teg_jit.specs.declared.answers.JitRefusal.{JitRefusal}
 use Rattle.teg_jit.specs.declared.answers.JitRefusal.TheVariants.{OutOfMemory as jit_memory}
 use Rattle.teg_jit.specs.Plans.{PlanDates, dates_of_plan, IsPlanFor}

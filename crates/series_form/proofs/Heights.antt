@@ -17,7 +17,7 @@ use Rattle.series_laws.specs.SeriesForms.{Form, size_of, repeat_start, value_at,
 use Rattle.series_laws.specs.Needs.{period_with, rise_of, fall_of, turns_of, common, greatest_int, later_start, lead_of}
 use Rattle.series_laws.proofs.Sums.{form_repeats_own, common_positive, common_second, tail_number, le_greatest_int, rise_repeats, fall_repeats}
 use Rattle.series_form.specs.NumberBounds.{IsSeries}
-use Rattle.series_form.specs.Leads.{AreNumberSeries, NoGreaterLead, IsReach, climb_of, cover_of, gain_from_before, height_past, lead_past, integer_of_date, place_before, width_of}
+use Rattle.series_form.specs.Leads.{IsGaining, NoGreaterLead, IsReach, climb_of, cover_of, gain_from_before, height_past, lead_past, integer_of_date, place_before, width_of}
 use Rattle.series_form.proofs.Cycles.{comes_low, turns_least, turns_some}
 use Rattle.series_laws.proofs.number_laws_proofs.Pigeons.{difference}
 use Rattle.series_form.specs.SeriesLimits.{greatest_value, most_covering_shifts, greatest_moderate, greatest_height}
@@ -25,13 +25,13 @@ use Rattle.series_form.proofs.DateNumbers.{abs_sum, abs_difference, moderate_fit
 use Rattle.series_form.proofs.Finished.{value_up_to, gap_up_to}
 use Rattle.series_form.proofs.PointwiseTables.{max_up_to}
 
-module _ (f g : Form) (isf : IsForm f) (isg : IsForm g) (numbers : AreNumberSeries f g) where
+module _ (f g : Form) (isf : IsForm f) (isg : IsForm g) (gaining : IsGaining f g) where
   -- values past where both repeat
   first_number : (i : ℕ) → (v : ℤ) × (value_at f (later_start f g + i) ≡ At v)
-  first_number i = tail_number f numbers.first.0 isf numbers.first.1 (later_start f g + i) (omega arith)
+  first_number i = tail_number f gaining.first.0 isf gaining.first.1 (later_start f g + i) (omega arith)
 
   second_number : (i : ℕ) → (v : ℤ) × (value_at g (later_start f g + i) ≡ At v)
-  second_number i = tail_number g numbers.second.0 isg numbers.second.1 (later_start f g + i) (omega arith)
+  second_number i = tail_number g gaining.second.0 isg gaining.second.1 (later_start f g + i) (omega arith)
 
   lead_is : (i : ℕ) → lead_past f g i ≡ integer_of_date (value_at g (later_start f g + i)) -ℤ integer_of_date (value_at f (later_start f g + i))
   lead_is i =
@@ -126,8 +126,9 @@ module _ (f g : Form) (isf : IsForm f) (isg : IsForm g) (numbers : AreNumberSeri
   -- ---- leads on the common period
 
   -- a common period on, the lead is less
-  lead_once : pos 0 <ℤ (rise_of f g -ℤ fall_of f g) → (i : ℕ) → lead_past f g (i + period_with f g) ≤ℤ lead_past f g i
-  lead_once gain i =
+  lead_once : (i : ℕ) → lead_past f g (i + period_with f g) ≤ℤ lead_past f g i
+  lead_once i =
+      let gain : pos 0 <ℤ (rise_of f g -ℤ fall_of f g) = gaining.gain in
       let vf : (v : ℤ) × (value_at f (later_start f g + i) ≡ At v) = first_number i in
       let vg : (v : ℤ) × (value_at g (later_start f g + i) ≡ At v) = second_number i in
       let on : later_start f g + (i + period_with f g) ≡ later_start f g + i + period_with f g = omega arith in
@@ -140,35 +141,35 @@ module _ (f g : Form) (isf : IsForm f) (isg : IsForm g) (numbers : AreNumberSeri
       ap (λ (d : Date). gap d (value_at g (later_start f g + (i + period_with f g)))) wf ∙ ap (gap (At (vf.0 +ℤ rise_of f g))) wg in
       omega (arith, ints)
 
-  lead_later : pos 0 <ℤ (rise_of f g -ℤ fall_of f g) → (t i : ℕ) → lead_past f g (i + t * period_with f g) ≤ℤ lead_past f g i
-  lead_later gain zero i = let e : i + zero * period_with f g ≡ i = omega arith in let h : lead_past f g (i + zero * period_with f g) ≡ lead_past f g i = ap (lead_past f g) e in omega (arith, ints)
-  lead_later gain (suc t) i =
+  lead_later : (t i : ℕ) → lead_past f g (i + t * period_with f g) ≤ℤ lead_past f g i
+  lead_later zero i = let e : i + zero * period_with f g ≡ i = omega arith in let h : lead_past f g (i + zero * period_with f g) ≡ lead_past f g i = ap (lead_past f g) e in omega (arith, ints)
+  lead_later (suc t) i =
       let e : i + suc t * period_with f g ≡ i + t * period_with f g + period_with f g = omega arith in
       let h : lead_past f g (i + suc t * period_with f g) ≡ lead_past f g (i + t * period_with f g + period_with f g) = ap (lead_past f g) e in
-      let once : lead_past f g (i + t * period_with f g + period_with f g) ≤ℤ lead_past f g (i + t * period_with f g) = lead_once gain (i + t * period_with f g) in
-      let rest : lead_past f g (i + t * period_with f g) ≤ℤ lead_past f g i = lead_later gain t i in
+      let once : lead_past f g (i + t * period_with f g + period_with f g) ≤ℤ lead_past f g (i + t * period_with f g) = lead_once (i + t * period_with f g) in
+      let rest : lead_past f g (i + t * period_with f g) ≤ℤ lead_past f g i = lead_later t i in
       omega (arith, ints)
 
   -- no lead is above the greatest on the common period
-  pub lead_below : pos 0 <ℤ (rise_of f g -ℤ fall_of f g) → (i : ℕ) → lead_past f g i ≤ℤ lead_of f g
-  lead_below gain i =
+  pub lead_below : (i : ℕ) → lead_past f g i ≤ℤ lead_of f g
+  lead_below i =
       let l : ℕ = period_with f g in
       let some : 0 < period_with f g = common_positive f.period g.period isf.period_positive in
       let e : i / l * l + i % l ≡ i = div-add-mod' i l in
       let low : i % l < l = mod_below i l some in
       let on : i ≡ i % l + i / l * period_with f g = omega arith in
       let h : lead_past f g i ≡ lead_past f g (i % l + i / l * period_with f g) = ap (lead_past f g) on in
-      let less : lead_past f g (i % l + i / l * period_with f g) ≤ℤ lead_past f g (i % l) = lead_later gain (i / l) (i % l) in
+      let less : lead_past f g (i % l + i / l * period_with f g) ≤ℤ lead_past f g (i % l) = lead_later (i / l) (i % l) in
       let top : lead_past f g (i % l) ≤ℤ lead_of f g = le_greatest_int (lead_past f g) (period_with f g - 1) (i % l) (omega arith) in
       omega (arith, ints)
 
   -- a reach tells a lead, no greater than the greatest
-  pub reach_below : pos 0 <ℤ (rise_of f g -ℤ fall_of f g) → (m place : ℕ) (height : ℤ) → IsReach f g m place height → (height -ℤ integer_of_date (value_at f (later_start f g + place))) ≤ℤ lead_of f g
-  reach_below gain m place height is =
+  pub reach_below : (m place : ℕ) (height : ℤ) → IsReach f g m place height → (height -ℤ integer_of_date (value_at f (later_start f g + place))) ≤ℤ lead_of f g
+  reach_below m place height is =
       let j : ℕ = is.reached.0 in
       let e : height ≡ height_past f g place is.reached.0 = is.reached.1 in
       let h : height_past f g place is.reached.0 -ℤ integer_of_date (value_at f (later_start f g + place)) ≡ lead_past f g (place + is.reached.0 * f.period) = height_lead place is.reached.0 in
-      let low : lead_past f g (place + is.reached.0 * f.period) ≤ℤ lead_of f g = lead_below gain (place + is.reached.0 * f.period) in
+      let low : lead_past f g (place + is.reached.0 * f.period) ≤ℤ lead_of f g = lead_below (place + is.reached.0 * f.period) in
       omega (arith, ints)
 
   -- and no lead from its place within its periods is greater
@@ -288,20 +289,20 @@ pub record IsLedOn (f g : Form) (start m : ℕ) (known best : ℤ) : Type 0 wher
   pub no_more : best ≤ℤ lead_of f g
   pub led : NoGreaterLead f g start m best
 
-pub led_on : (f g : Form) (start m place : ℕ) (height known best : ℤ) → IsForm f → IsForm g → AreNumberSeries f g → pos 0 <ℤ (rise_of f g -ℤ fall_of f g)
+pub led_on : (f g : Form) (start m place : ℕ) (height known best : ℤ) → IsForm f → IsForm g → IsGaining f g
     → known ≤ℤ lead_of f g → NoGreaterLead f g start m known → IsReach f g (m + 1) place height → (place + (m + 1) * f.period) % width_of f g ≡ start
     → best ≡ cond (ltb place f.period) (int_max known (height -ℤ integer_of_date (value_at f (later_start f g + place)))) known
     → IsLedOn f g start (m + 1) known best
-led_on f g start m place height known best isf isg numbers gain low led is at e = ⊎_elim
+led_on f g start m place height known best isf isg gaining low led is at e = ⊎_elim
     (λ (less : place < f.period).
     let t : ltb place f.period ≡ true = grind (arith, nat_tests) in
     let x : ℤ = height -ℤ integer_of_date (value_at f (later_start f g + place)) in
     let b : best ≡ int_max known (height -ℤ integer_of_date (value_at f (later_start f g + place))) = e
     ∙ ap (λ z. cond z (int_max known (height -ℤ integer_of_date (value_at f (later_start f g + place)))) known) t in
-    let top : (height -ℤ integer_of_date (value_at f (later_start f g + place))) ≤ℤ lead_of f g = reach_below f g isf isg numbers gain (m + 1) place height is in
+    let top : (height -ℤ integer_of_date (value_at f (later_start f g + place))) ≤ℤ lead_of f g = reach_below f g isf isg gaining (m + 1) place height is in
     further (omega (arith, ints, clamps)) (omega (arith, ints, clamps))
     (λ p j w l same. let q : p ≡ place = same_place p place ((m + 1) * f.period) (width_of f g) (omega (arith, covers_it f g isf isg)) is.within (same ∙ sym at) in
-    let r : lead_past f g (place + j * f.period) ≤ℤ (height -ℤ integer_of_date (value_at f (later_start f g + place))) = reach_leads f g isf isg numbers (m + 1) place height is j l in
+    let r : lead_past f g (place + j * f.period) ≤ℤ (height -ℤ integer_of_date (value_at f (later_start f g + place))) = reach_leads f g isf isg gaining (m + 1) place height is j l in
     let s : lead_past f g (place + j * f.period) ≤ℤ best = omega (arith, ints, clamps) in
     subst (λ (z : ℕ). lead_past f g (z + j * f.period) ≤ℤ best) (sym q) s))
     (λ (more : f.period ≤ place).

@@ -1,15 +1,16 @@
 -- Working definitions of the walk that finds the greatest lead of a series over one of a greater slope.
-use Rattle.std.specs.Prelude.{◌≡◌, ◌≤◌, ◌<◌, ◌+◌, ◌-◌, ◌*◌, ◌/◌, ◌%◌, ℕ, ℤ, pos, cond, ltb, ◌-ℤ◌, ◌≤ℤ◌}
+use Rattle.std.specs.Prelude.{◌≡◌, ◌≤◌, ◌<◌, ◌+◌, ◌-◌, ◌*◌, ◌/◌, ◌%◌, ℕ, ℤ, pos, cond, ltb, ◌-ℤ◌, ◌≤ℤ◌, ◌<ℤ◌}
 use Rattle.dioid.specs.declared.dates.Date.{Date}
 use Rattle.dioid.specs.declared.dates.Date.TheVariants.{Early, At, Never}
 use Rattle.series_laws.specs.Periodic.{times}
 use Rattle.series_laws.specs.SeriesForms.{Form, value_at, gap}
-use Rattle.series_laws.specs.Needs.{later_start, tail_of}
+use Rattle.series_laws.specs.Needs.{later_start, tail_of, rise_of, fall_of}
 
--- both series are numbers from where both repeat
-pub record AreNumberSeries (f g : Form) : Type 0 where
+-- both series are numbers from where both repeat, and f gains on g over the common period
+pub record IsGaining (f g : Form) : Type 0 where
   pub first : (s : ℤ) × (tail_of f ≡ At s)
   pub second : (t : ℤ) × (tail_of g ≡ At t)
+  pub gain : pos 0 <ℤ (rise_of f g -ℤ fall_of f g)
 
 -- the number of a date, 0 where it is none
 abbrev pub integer_of_date : Date → ℤ

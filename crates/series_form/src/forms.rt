@@ -1,9 +1,12 @@
 //! Series, and the calls that make and read them.
 ghost use Rattle.std.specs.Prelude.{◌≡◌, ◌≤◌, ◌<◌, ◌+◌, ℕ, [], ◌∷◌, IfOk};
-ghost use Rattle.series_laws.specs.SeriesForms.{table, monomial_at};
+ghost use Rattle.series_laws.specs.SeriesForms.{form_with, table, monomial_at, value_at};
+ghost use Rattle.series_laws.specs.Periodic.{Rising};
+ghost use Rattle.series_form.specs.PeriodicLists.{IsPeriodicList};
+ghost use Rattle.series_form.specs.SeriesAnswers.{IsBeginning, IsShortestSeries, form_before};
 ghost use Rattle.series_form.specs.SeriesLimits.{greatest_value};
 
-use crate::shorten::{finish, shortest};
+use crate::shorten::{PeriodicList, step_before};
 use crate::values::{same_values, value_of};
 use dioid::Date;
 use std::alloc::{AllocError, Global};
@@ -224,4 +227,37 @@ fn one_value(alloc: Global, date: Date) -> Result<Vec<Date>, AllocError>
     let mut values = Vec::new(alloc);
     values.push(date)?;
     Ok(values)
+}
+
+// The series of the function of a form with numbers of any size.
+fn finish(mut values: Vec<Date>, turn: usize, step: i128) -> Result<Series, SeriesRefused>
+    requires list { IsPeriodicList (form_with values.items turn step) }
+    requires rising { Rising (value_at (form_with values.items turn step)) }
+    ensures { IsShortestSeries (value_at (form_with values.items turn step)) result }
+{
+    let shorter = PeriodicList::new(values.as_slice(), turn, step).shorten();
+    match shorter {
+        Ok(shape) => {
+            values.truncate(shape.size);
+            Ok(Series {
+                values,
+                period: shape.period,
+                step: shape.step,
+            })
+        }
+        Err(value) => Err(SeriesRefused::TooGreat { value }),
+    }
+}
+
+/// The series of a function that is known by its first values, of which the last `turn` are a
+/// period, and by `next`, the value after them: the canonical form, or TooGreat with its first
+/// number of a magnitude above 10^18, values in order of shift and the step last. Takes no memory
+/// of its own. The work is the length times the number of the period's divisors at most. For the
+/// operations of `series_ops`.
+pub fn shortest(values: Vec<Date>, turn: usize, next: Date) -> Result<Series, SeriesRefused>
+    requires { IsBeginning values.items turn next }
+    ensures { IsShortestSeries (value_at (form_before values.items turn next)) result }
+{
+    let step = step_before(values.as_slice(), turn, next);
+    finish(values, turn, step)
 }

@@ -5,18 +5,17 @@
 //! on one is the greatest of all. The leads at a place and whole periods of the first past it
 //! differ by the second's values and by the steps of the first: back along a cycle of such places
 //! the greatest of them is known from the place after it. Twice round each cycle meets all of them.
-ghost use Rattle.std.specs.Prelude.{◌≡◌, ◌≤◌, ◌<◌, ◌+◌, ◌-◌, ◌*◌, ◌/◌, ◌%◌, ◌-ℤ◌, ◌≤ℤ◌, ◌<ℤ◌, pos, cond, ltb};
+ghost use Rattle.std.specs.Prelude.{◌≡◌, ◌≤◌, ◌<◌, ◌+◌, ◌-◌, ◌*◌, ◌/◌, ◌%◌, ◌-ℤ◌, ◌≤ℤ◌, cond, ltb};
 ghost use Rattle.std.specs.Int.{int_max};
 ghost use Rattle.std.specs.Int.RustNames.{unsigned_abs};
 ghost use Rattle.series_laws.specs.SeriesForms.{value_at};
-ghost use Rattle.series_laws.specs.Needs.{later_start, lead_of, rise_of, fall_of};
+ghost use Rattle.series_laws.specs.Needs.{later_start, lead_of};
 ghost use Rattle.series_form.specs.NumberBounds.{IsSeries};
-ghost use Rattle.series_form.specs.Leads.{NoGreaterLead, AreNumberSeries, IsReach, climb_of, cover_of, gain_from_before, lead_past, integer_of_date, place_before, width_of};
+ghost use Rattle.series_form.specs.Leads.{NoGreaterLead, IsGaining, IsReach, climb_of, cover_of, gain_from_before, lead_past, integer_of_date, place_before, width_of};
 ghost use Rattle.series_form.specs.SeriesLimits.{greatest_gain, greatest_moderate};
 
 use crate::forms::Series;
-use crate::plans::turns_between;
-use crate::pointwise::common_start;
+use crate::plans::{common_start, turns_between};
 use crate::values::gap_of;
 use dioid::Date;
 
@@ -105,7 +104,7 @@ fn gain(first: &Series, second: &Series, place: usize) -> i128
 
 // One place back.
 fn step_back(first: &Series, second: &Series, reach: Reach, periods: usize) -> Reach
-    requires numbers { AreNumberSeries first.now second.now }
+    requires gaining { IsGaining first.now second.now }
     requires periods { periods ≤ 100000 }
     requires reach { IsReach first.now second.now periods reach.place reach.height }
     requires bound { unsigned_abs reach.height ≤ (periods + 1) * greatest_moderate }
@@ -139,8 +138,7 @@ fn better(first: &Series, second: &Series, reach: Reach, best: i128) -> i128
 
 // The greatest of a known lead and those of a cycle, twice round it.
 fn best_on_cycle(first: &Series, second: &Series, start: usize, turns: usize, known: i128) -> i128
-    requires numbers { AreNumberSeries first.now second.now }
-    requires gain { pos 0 <ℤ (rise_of first.now second.now -ℤ fall_of first.now second.now) }
+    requires gaining { IsGaining first.now second.now }
     requires start { start < width_of first.now second.now }
     requires turns { turns ≤ 40000 }
     requires known { known ≤ℤ lead_of first.now second.now }
@@ -171,8 +169,7 @@ fn first_lead(first: &Series, second: &Series) -> i128
 // The greatest lead of the second series over the first, of the greater slope, on the common
 // period. The work is of the order of the two periods.
 pub(crate) fn greatest_lead(first: &Series, second: &Series) -> i128
-    requires numbers { AreNumberSeries first.now second.now }
-    requires gain { pos 0 <ℤ (rise_of first.now second.now -ℤ fall_of first.now second.now) }
+    requires { IsGaining first.now second.now }
     ensures value { result ≡ lead_of first.now second.now }
     ensures bound { unsigned_abs result ≤ greatest_moderate }
 {

@@ -17,8 +17,10 @@ mod pointwise;
 mod shorten;
 mod values;
 
-pub use forms::{Series, SeriesRefused};
-pub use plans::{common_period, compare_slopes, gain_over, gains_for, lead_gain, start, tail};
-pub use pointwise::{common_start, later_at, least, plan_of_sum, sum, sum_values};
+pub use forms::{Series, SeriesRefused, shortest};
+pub use plans::{
+    common_period, common_start, compare_slopes, gain_over, gains_for, lead_gain, start, tail,
+};
+pub use pointwise::{later_at, least, plan_of_sum, sum, sum_values};
 pub use series_laws::{NeedPlan, Slopes, forms_are_lawful};
-pub use shorten::{Shape, canonical_part, shortest};
+pub use shorten::{Shape, canonical_part};

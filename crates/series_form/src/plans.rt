@@ -4,7 +4,7 @@ ghost use Rattle.std.specs.Int.RustNames.{unsigned_abs};
 ghost use Rattle.series_laws.specs.Periodic.{times};
 ghost use Rattle.series_laws.specs.SeriesForms.{repeat_start};
 ghost use Rattle.series_form.specs.NumberBounds.{IsSeries};
-ghost use Rattle.series_laws.specs.Needs.{turns_of, common, ceiling, period_with, rise_of, fall_of, tail_of, slopes_of, by_sign};
+ghost use Rattle.series_laws.specs.Needs.{turns_of, common, ceiling, later_start, period_with, rise_of, fall_of, tail_of, slopes_of, by_sign};
 ghost use Rattle.series_form.specs.SeriesLimits.{most_common_shifts, greatest_gain, greatest_reach, greatest_gain_gap};
 
 use crate::forms::Series;
@@ -61,6 +61,19 @@ pub fn start(series: &Series) -> usize
     ensures series { IsSeries series.now }
 {
     series.values().len() - series.period()
+}
+
+/// The greater of the two shifts from which the series repeat. Takes no memory. For the operations
+/// of `series_ops`.
+pub fn common_start(first: &Series, second: &Series) -> usize
+    ensures value { result ≡ later_start first.now second.now }
+    ensures bound { result < 20000 }
+    ensures left { IsSeries first.now }
+    ensures right { IsSeries second.now }
+{
+    let first = start(first);
+    let second = start(second);
+    if first < second { second } else { first }
 }
 
 /// The value at which the list begins to repeat: a number, or what the series is from there on

@@ -1,34 +1,20 @@
 //! The sum and the minimum of two series, shift by shift.
-ghost use Rattle.std.specs.Prelude.{◌≡◌, ◌≤◌, ◌<◌, ◌*◌, ◌-ℤ◌, ◌<ℤ◌, IfOk, pos};
+ghost use Rattle.std.specs.Prelude.{◌≡◌, ◌≤◌, ◌<◌, ◌*◌, ◌-ℤ◌, ◌<ℤ◌, IfOk};
 ghost use Rattle.series_laws.specs.declared.plans.Slopes.TheVariants.{First};
 ghost use Rattle.series_laws.specs.SeriesForms.{value_at, table, HasValues};
 ghost use Rattle.series_form.specs.NumberBounds.{IsSeries};
 ghost use Rattle.series_form.specs.SeriesAnswers.{AnswersOf, AnswersForm};
-ghost use Rattle.series_form.specs.Leads.{AreNumberSeries};
+ghost use Rattle.series_form.specs.Leads.{IsGaining};
 ghost use Rattle.series_laws.specs.Pointwise.{sum_at, least_at};
-ghost use Rattle.series_laws.specs.Needs.{need_of, later_start, crossing, slopes_of, periods_behind, period_with, rise_of, fall_of, sum_plan, least_plan, form_sum, form_least};
+ghost use Rattle.series_laws.specs.Needs.{need_of, crossing, slopes_of, periods_behind, period_with, sum_plan, least_plan, form_sum, form_least};
 ghost use Rattle.series_form.specs.SeriesLimits.{greatest_reach, greatest_height};
 
-use crate::forms::{Series, SeriesRefused};
+use crate::forms::{Series, SeriesRefused, shortest};
 use crate::leads::greatest_lead;
-use crate::plans::{common_period, compare_slopes, gains_for, lead_gain, start, tail};
-use crate::shorten::shortest;
+use crate::plans::{common_period, common_start, compare_slopes, gains_for, lead_gain, tail};
 use dioid::Date;
 use series_laws::{NeedPlan, Slopes};
 use std::alloc::{AllocError, Global};
-
-/// The greater of the two shifts from which the series repeat. Takes no memory. For the operations
-/// of `series_ops`.
-pub fn common_start(first: &Series, second: &Series) -> usize
-    ensures value { result ≡ later_start first.now second.now }
-    ensures bound { result < 20000 }
-    ensures left { IsSeries first.now }
-    ensures right { IsSeries second.now }
-{
-    let first = start(first);
-    let second = start(second);
-    if first < second { second } else { first }
-}
 
 // From where the first series, of the greater slope, has the greater values: past the starts of
 // both, the common periods in which it makes up the greatest lead of the other.
@@ -46,8 +32,7 @@ fn crossing_of(first: &Series, second: &Series) -> u128
 
 // The shifts in which the first series makes up the greatest lead of the second.
 fn shifts_behind(first: &Series, second: &Series) -> u128
-    requires numbers { AreNumberSeries first.now second.now }
-    requires gain { pos 0 <ℤ (rise_of first.now second.now -ℤ fall_of first.now second.now) }
+    requires { IsGaining first.now second.now }
     ensures value { result ≡ periods_behind first.now second.now * period_with first.now
         second.now }
     ensures bound { result ≤ greatest_height }

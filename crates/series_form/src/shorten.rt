@@ -5,12 +5,11 @@ ghost use Rattle.std.specs.Int.RustNames.{unsigned_abs};
 ghost use Rattle.series_laws.specs.SeriesForms.{value_at, form_with, size_of, repeat_start, gap, moves, repeats_test, least_period_of, least_start_of};
 ghost use Rattle.series_form.specs.NumberBounds.{IsModerate, IsModerateDate};
 ghost use Rattle.series_laws.specs.Periodic.{Rising};
-ghost use Rattle.series_form.specs.SeriesAnswers.{IsNumberCheck, IsBeginning, IsShortestSeries, form_before};
+ghost use Rattle.series_form.specs.SeriesAnswers.{IsNumberCheck, IsBeginning, form_before};
 ghost use Rattle.series_form.specs.PeriodicLists.{IsPeriodicList};
 ghost use Rattle.series_form.specs.Shapes.{IsPart, IsCanonicalPart, IsShape, IsTooGreat};
 ghost use Rattle.series_form.specs.SeriesLimits.{greatest_value};
 
-use crate::forms::{Series, SeriesRefused};
 use crate::values::{gap_of, is_moved};
 use dioid::Date;
 use std::marker::Model;
@@ -185,7 +184,7 @@ impl<'a> PeriodicList<'a> {
     }
 
     // The same, or the first number that is too great.
-    fn shorten(&self) -> Result<Shape, i128>
+    pub(crate) fn shorten(&self) -> Result<Shape, i128>
         requires { Rising (value_at self.now) }
         ensures { MatchResult result (IsShape self.now.values self.now.period self.now.step)
             (IsTooGreat self.now.values self.now.period self.now.step) }
@@ -235,45 +234,8 @@ pub fn canonical_part(values: &[Date], turn: usize, next: Date) -> Shape
     PeriodicList::new(values, turn, step).shape()
 }
 
-// The series of the function of a form with numbers of any size.
-pub(crate) fn finish(
-    mut values: Vec<Date>,
-    turn: usize,
-    step: i128,
-) -> Result<Series, SeriesRefused>
-    requires list { IsPeriodicList (form_with values.items turn step) }
-    requires rising { Rising (value_at (form_with values.items turn step)) }
-    ensures { IsShortestSeries (value_at (form_with values.items turn step)) result }
-{
-    let shorter = PeriodicList::new(values.as_slice(), turn, step).shorten();
-    match shorter {
-        Ok(shape) => {
-            values.truncate(shape.size);
-            Ok(Series {
-                values,
-                period: shape.period,
-                step: shape.step,
-            })
-        }
-        Err(value) => Err(SeriesRefused::TooGreat { value }),
-    }
-}
-
-/// The series of a function that is known by its first values, of which the last `turn` are a
-/// period, and by `next`, the value after them: the canonical form, or TooGreat with its first
-/// number of a magnitude above 10^18, values in order of shift and the step last. Takes no memory
-/// of its own. The work is the length times the number of the period's divisors at most. For the
-/// operations of `series_ops`.
-pub fn shortest(values: Vec<Date>, turn: usize, next: Date) -> Result<Series, SeriesRefused>
-    requires { IsBeginning values.items turn next }
-    ensures { IsShortestSeries (value_at (form_before values.items turn next)) result }
-{
-    let step = step_before(values.as_slice(), turn, next);
-    finish(values, turn, step)
-}
-
 // What `next` is above the value that stands `turn` before it.
-fn step_before(values: &[Date], turn: usize, next: Date) -> i128
+pub(crate) fn step_before(values: &[Date], turn: usize, next: Date) -> i128
     requires positive { 0 < turn }
     requires fits { turn ≤ length values.now }
     requires moderate { IsModerate (form_before values.now turn next) }

@@ -1,7 +1,7 @@
 -- The entries of a standard form lead between transitions of its net.
 use Rattle.std.proofs.Common.{◌≢◌, ℕ, ◌<◌, List, [], ◌∷◌, length, sym, arith}
-use Rattle.teg_form.specs.declared.form.StarEntry.{StarEntry}
-use Rattle.teg_form.specs.declared.form.Entry.{Entry}
+use Rattle.teg_form.specs.declared.stars.StarEntry.{StarEntry}
+use Rattle.teg_form.specs.declared.entries.Entry.{Entry}
 use Rattle.teg_form.specs.StandardForms.{FormLists, IsStandardFormOf, IsStarEntry, IsEntry}
 use Rattle.teg_net.specs.declared.entries.PlaceId.{PlaceId}
 use Rattle.teg_net.specs.Nets.{NetLists, IsNet}

@@ -3,10 +3,10 @@ use Rattle.std.proofs.Common.{◌≢◌, List, refl}
 use Rattle.due_laws.specs.MeetingDueDates.{AreLatestInputs, InputsMeet, inputs_at_zero}
 use Rattle.due_laws.specs.LatestInputs.{ZeroInputsMeet}
 use Rattle.teg_due.specs.declared.rows.DueRow.{DueRow}
-use Rattle.teg_due.specs.RowRules.{IsDueOf}
+use Rattle.teg_due.specs.RowRules.{IsDueOf, due_in}
 use Rattle.teg_jit.specs.declared.answers.JitRefusal.{JitRefusal}
 use Rattle.teg_jit.specs.declared.answers.JitRefusal.TheVariants.{Late, OutOfMemory}
-use Rattle.teg_jit.specs.DueDates.{due_in, IsGreatestNumber}
+use Rattle.teg_jit.specs.DueDates.{IsGreatestNumber}
 use Rattle.teg_jit.specs.PlansAndLateness.{LateExcludesMeet, PlansLead}
 use Rattle.teg_jit.specs.Plans.{IsPlanFor, KeepsSizes, PlanDates, dates_of_plan}
 use Rattle.teg_jit.specs.LateRefusals.{LateIsRight}

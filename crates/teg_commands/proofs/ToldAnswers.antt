@@ -20,7 +20,7 @@ use Rattle.teg_dates.specs.DateTables.{TableDates, HasDatesOf, IsDateTable, date
 use Rattle.teg_jit.specs.declared.answers.LatestDate.{LatestDate}
 use Rattle.teg_jit.specs.declared.answers.LatestDate.TheVariants.{Free, At}
 use Rattle.teg_jit.specs.declared.answers.Onward.TheVariants.{Due, Next, By}
-use Rattle.teg_jit.specs.DueDates.{due_in}
+use Rattle.teg_due.specs.RowRules.{due_in}
 use Rattle.teg_jit.specs.Plans.{PlanDates, IsPlanFor, HasOnward, dates_of_latest, latest_at, latest_in}
 use Rattle.teg_report.specs.DateLists.{dated_firing, listed_count_line, names_line, number_line}
 use Rattle.teg_report.specs.teg_model.DateBounds.{IsDateWithin, greatest_least_date}

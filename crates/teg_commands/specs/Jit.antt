@@ -8,11 +8,11 @@ use Rattle.teg_due.specs.declared.rows.DueRefusal.{DueRefusal}
 use Rattle.teg_due.specs.declared.rows.DueRefusal.TheVariants.{OutOfMemory as NoRoom}
 use Rattle.teg_due.specs.declared.rows.DueRow.{DueRow}
 use Rattle.teg_due.specs.DueFileRows.{due_of}
-use Rattle.teg_due.specs.RowRules.{IsDueOf}
+use Rattle.teg_due.specs.RowRules.{IsDueOf, due_in}
 use Rattle.teg_jit.specs.declared.answers.JitRefusal.{JitRefusal}
 use Rattle.teg_jit.specs.declared.answers.JitRefusal.TheVariants.{OutOfMemory}
 use Rattle.teg_jit.specs.declared.answers.LatestDate.TheVariants.{Free}
-use Rattle.teg_jit.specs.DueDates.{due_in, IsGreatestNumber}
+use Rattle.teg_jit.specs.DueDates.{IsGreatestNumber}
 use Rattle.teg_jit.specs.Plans.{PlanDates, IsPlanFor, FollowsPlan, latest_at, dates_of_plan}
 use Rattle.teg_jit.specs.LateRefusals.{LateIsRight}
 use Rattle.teg_net.specs.declared.walks.Step.{Step}

@@ -1,6 +1,6 @@
 //! Inputs whose places lead on alike, but that from one all places are held so much longer than
 //! from the other: then walks take so much longer, too.
-ghost use Rattle.std.specs.Prelude.{ℕ, ◌≡◌, ◌<◌, ◌+ℤ◌, ◌-ℤ◌, pos, All, FitsSigned, IfSome, IsTrue, length, slice_index_or, []};
+ghost use Rattle.std.specs.Prelude.{◌≡◌, ◌<◌, ◌+ℤ◌, ◌-ℤ◌, pos, All, FitsSigned, IfSome, IsTrue, length, []};
 ghost use Rattle.std.specs.Int.{w128};
 ghost use Rattle.teg_commands.specs.Lags.{AreLagged, AreLeaving, HasHeldLonger, IsHeldLonger};
 ghost use Rattle.teg_net.specs.Circuits.{place_at};

@@ -20,7 +20,7 @@ use Rattle.teg_loops.proofs.Taking.{sum_most}
 use Rattle.teg_loops.proofs.Splitting.{shorten}
 use Rattle.teg_loops.proofs.Through.{IsThrough, through}
 use Rattle.teg_critical.specs.declared.heights.Raised.{Raised}
-use Rattle.teg_critical.specs.Heights.{most_height, gain_by, cost_by, height_at, CanRaise, IsHeight, AreHeights, IsKeptBy, IsLifted, AreFinal, IsTightBy}
+use Rattle.teg_critical.specs.Heights.{most_height, gain_by, cost_by, height_at, CanRaise, CanPass, IsHeight, AreHeights, IsKeptBy, IsLifted, AreFinal, IsTightBy}
 use Rattle.teg_critical.proofs.Rises.{any_places}
 use Rattle.teg_critical.proofs.GapLaws.{time_cons, tokens_cons, best_circuit, through_lacks}
 use Rattle.teg_critical.proofs.Telling.{ends_below}
@@ -141,6 +141,24 @@ module _ (net : NetLists) (raised : Raised) where
 
       pub all_low : All (λ h. h ≤ most_height) hs
       all_low i d l = subst (λ h. h ≤ most_height) (get_or_default hs i 0 d l) (at_low i (let c = are.count in omega arith))
+
+      -- each place may be passed
+      pub can_pass : (q : PlaceId) → q.index < length net.places → CanPass raised (place_at net q) hs
+      can_pass q l =
+          let rules = rules_of q l in
+          let from = rules.from_in in
+          let to = rules.to_in in
+          let count = are.count in
+          record {
+            from = omega (arith, from, count);
+            to = omega (arith, to, count);
+            time = can.time;
+            tokens = can.tokens;
+            gap = can.low;
+            hold = rules.hold_in;
+            few = rules.tokens_in;
+            small = all_low;
+          }
 
       pub sum_low : sum_by (λ h. h) hs ≤ length net.transitions * most_height
       sum_low = subst (λ n. sum_by (λ h. h) hs ≤ n * most_height) are.count (sum_by-le (λ h. h) most_height hs all_low)

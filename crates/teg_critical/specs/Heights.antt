@@ -1,8 +1,8 @@
 -- Working definitions of heights of transitions, where the reduced time of one place is raised by its gap (chapter 3).
-use Rattle.std.specs.Prelude.{ℕ, ℤ, pos, ◌+◌, ◌*◌, ◌<◌, ◌≤◌, ◌≡◌, ◌==◌, ◌↔◌, if◌then◌else◌, Bool, List, length, Contains, sum_by, slice_index_or, slice_set}
+use Rattle.std.specs.Prelude.{ℕ, ℤ, pos, ◌+◌, ◌*◌, ◌<◌, ◌≤◌, ◌≡◌, ◌==◌, ◌↔◌, if◌then◌else◌, Bool, List, length, All, Contains, sum_by, slice_index_or, slice_set}
 use Rattle.teg_net.specs.declared.entries.PlaceId.{PlaceId}
 use Rattle.teg_net.specs.declared.entries.Place.{Place}
-use Rattle.teg_net.specs.Limits.{greatest_checked_ratio, most_circuit_tokens}
+use Rattle.teg_net.specs.Limits.{greatest_hold, most_place_tokens, greatest_checked_ratio, most_circuit_tokens}
 use Rattle.teg_net.specs.Nets.{NetLists, IsNet}
 use Rattle.teg_net.specs.Circuits.{place_at, IsPathBetween, IsCircuit, time_of, tokens_of}
 use Rattle.teg_net.specs.GreatestRatios.{IsGreatestRatio, IsAnyPlace}
@@ -59,6 +59,17 @@ pub record IsHeight (net : NetLists) (raised : Raised) (t h : ℕ) : Type 0 wher
 pub record AreHeights (net : NetLists) (raised : Raised) (hs : List ℕ) : Type 0 where
   pub count : length hs ≡ length net.transitions
   pub each : (t : ℕ) → t < length net.transitions → IsHeight net raised t (height_at hs t)
+
+-- the place has its ends among these heights, and its numbers, those of the rise and the heights are small
+pub record CanPass (raised : Raised) (p : Place) (hs : List ℕ) : Type 0 where
+  pub from : p.from.index < length hs
+  pub to : p.to.index < length hs
+  pub time : raised.ratio.time ≤ greatest_checked_ratio
+  pub tokens : raised.ratio.tokens ≤ most_circuit_tokens
+  pub gap : raised.gap ≤ most_gap
+  pub hold : p.hold ≤ greatest_hold
+  pub few : p.tokens ≤ most_place_tokens
+  pub small : All (λ h. h ≤ most_height) hs
 
 -- the place does not lift its end
 abbrev pub IsKeptBy : Raised → ℕ → Place → List ℕ → Type 0

@@ -14,7 +14,7 @@ ghost use Rattle.teg_critical.specs.LeastLosses.{AreSteps, AreToldBack, IsToldBa
 ghost use Rattle.teg_critical.specs.Told.{IsSlackOfGap, IsGapWithin, CanTellSlack, AreToldMore, AreUntold};
 
 use crate::endings::{Ending, by_end, group_length};
-use crate::losses::{Loss, losses_of};
+use crate::losses::losses_of;
 use crate::searches::{NetLosses, all_steps, least_losses};
 use crate::slacks::{Slack, Slacks};
 use std::alloc::{AllocError, Global};
@@ -32,21 +32,20 @@ fn gap_by(total: u128, scale: u64) -> u64
 // What the best circuit that passes a place lacks to the greatest ratio, given the least that the
 // paths back from its end to its start lose; none where no circuit passes it.
 pub(crate) fn gap_from(
-    net: &Net,
+    known: &NetLosses,
     best: Ratio,
-    losses: &[Option<Loss>],
     back: &[Option<u128>],
     ending: Ending,
 ) -> Option<u64>
-    requires can { CanTellSlack net.now best losses.now }
-    requires ending { IsEnding net.now ending }
-    requires count { length back.now ≡ length net.now.transitions }
-    requires back { IsToldBack net.now losses.now back.now ending }
-    ensures none { IfNone result (IsOnCircuit net.now ending.place → ⊥) }
-    ensures some { IfSome result (IsGapWithin net.now best ending.place) }
+    requires can { CanTellSlack known.now.net.now best known.now.losses.now }
+    requires ending { IsEnding known.now.net.now ending }
+    requires count { length back.now ≡ length known.now.net.now.transitions }
+    requires back { IsToldBack known.now.net.now known.now.losses.now back.now ending }
+    ensures none { IfNone result (IsOnCircuit known.now.net.now ending.place → ⊥) }
+    ensures some { IfSome result (IsGapWithin known.now.net.now best ending.place) }
 {
-    let (_net, _best) = (net, best);
-    let Some(loss) = losses[ending.place.index as usize] else {
+    let _best = best;
+    let Some(loss) = known.losses[ending.place.index as usize] else {
         return None;
     };
     let Some(rest) = back[ending.start] else {
@@ -70,20 +69,14 @@ fn slack_by(gap: u64, best: Ratio) -> Slack
 }
 
 // The slack of a place, given the least that the paths back from its end to its start lose.
-fn slack_from(
-    net: &Net,
-    best: Ratio,
-    losses: &[Option<Loss>],
-    back: &[Option<u128>],
-    ending: Ending,
-) -> Slack
-    requires can { CanTellSlack net.now best losses.now }
-    requires ending { IsEnding net.now ending }
-    requires count { length back.now ≡ length net.now.transitions }
-    requires back { IsToldBack net.now losses.now back.now ending }
-    ensures { IsSlackOf net.now best ending.place result }
+fn slack_from(known: &NetLosses, best: Ratio, back: &[Option<u128>], ending: Ending) -> Slack
+    requires can { CanTellSlack known.now.net.now best known.now.losses.now }
+    requires ending { IsEnding known.now.net.now ending }
+    requires count { length back.now ≡ length known.now.net.now.transitions }
+    requires back { IsToldBack known.now.net.now known.now.losses.now back.now ending }
+    ensures { IsSlackOf known.now.net.now best ending.place result }
 {
-    match gap_from(net, best, losses, back, ending) {
+    match gap_from(known, best, back, ending) {
         None => Slack::NoCircuit,
         Some(gap) => slack_by(gap, best),
     }
@@ -103,9 +96,8 @@ fn tell_places(
     requires count { length slacks.old ≡ length known.now.net.now.places }
     ensures { AreToldMore known.now.net.now best endings.now slacks.old slacks.new }
 {
-    let NetLosses { net, losses, .. } = *known;
     for ending in endings {
-        slacks[ending.place.index as usize] = slack_from(net, best, losses, back, *ending);
+        slacks[ending.place.index as usize] = slack_from(known, best, back, *ending);
     }
 }
 

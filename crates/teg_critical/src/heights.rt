@@ -2,10 +2,10 @@
 //! what its best circuit lacks to the greatest ratio, and the height of a transition is then the
 //! greatest value of the paths that end there, found by rounds over all places (the algorithm of
 //! Bellman and Ford).
-ghost use Rattle.std.specs.Prelude.{◌≡◌, ◌≤◌, ◌<◌, length, sum_by, All, IfOk, IsTrue, false};
+ghost use Rattle.std.specs.Prelude.{◌≡◌, ◌≤◌, ◌<◌, sum_by, IfOk, IsTrue, false};
 ghost use Rattle.teg_net.specs.Limits.{greatest_hold, most_place_tokens, most_circuit_tokens, greatest_checked_ratio};
 ghost use Rattle.teg_critical.specs.Losses.{most_gap};
-ghost use Rattle.teg_critical.specs.Heights.{most_height, most_gain, gain_of_place, cost_of_place, CanRaise, AreHeights, AreFinal, IsLifted, IsKeptBy, ArePotentialsBy};
+ghost use Rattle.teg_critical.specs.Heights.{most_gain, gain_of_place, cost_of_place, CanRaise, CanPass, AreHeights, AreFinal, IsLifted, IsKeptBy, ArePotentialsBy};
 
 use std::alloc::{AllocError, Global};
 use teg_net::{Net, Place, PlaceId, Ratio};
@@ -47,13 +47,7 @@ pub(crate) fn cost_of(raised: &Raised, place: &Place) -> u64
 
 // Lifts the end of a place to what the place makes of the height of its start, where that is more.
 fn lift_end(raised: &Raised, number: usize, place: &Place, heights: &mut [u64]) -> bool
-    requires ends { (place.now.from.index < length heights.old)
-        × (place.now.to.index < length heights.old) }
-    requires ratio { (raised.now.ratio.time ≤ greatest_checked_ratio)
-        × (raised.now.ratio.tokens ≤ most_circuit_tokens) }
-    requires gap { raised.now.gap ≤ most_gap }
-    requires place { (place.now.hold ≤ greatest_hold) × (place.now.tokens ≤ most_place_tokens) }
-    requires small { All (λ h. h ≤ most_height) heights.old }
+    requires { CanPass raised.now place.now heights.old }
     ensures lifted { IsTrue result → IsLifted raised.now number place.now heights.old heights.new }
     ensures same { result ≡ false → heights.new ≡ heights.old }
     ensures kept { result ≡ false → IsKeptBy raised.now number place.now heights.old }

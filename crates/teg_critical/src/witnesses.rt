@@ -1,16 +1,14 @@
 //! What shows the slack of one place, by itself: a circuit, potentials and a circuit, or numbers.
-ghost use Rattle.std.specs.Prelude.{◌≡◌, ◌≤◌, ◌<◌, ◌↔◌, length, All, IfOk, IfNone, IfSome, IsTrue, Some};
-ghost use Rattle.teg_net.specs.Limits.{greatest_hold, most_place_tokens, most_circuit_tokens, greatest_checked_ratio};
+ghost use Rattle.std.specs.Prelude.{◌≡◌, ◌≤◌, ◌<◌, ◌↔◌, length, IfOk, IfNone, IfSome, IsTrue, Some};
 ghost use Rattle.teg_net.specs.Nets.{IsNet};
 ghost use Rattle.teg_net.specs.Circuits.{IsLive};
 ghost use Rattle.teg_net.specs.Certificates.{IsCertificate};
 ghost use Rattle.teg_certificates.specs.BestRatios.{best_ratio_of};
 ghost use Rattle.teg_certificates.specs.SlackWitnesses.{RiseAtPlace};
 ghost use Rattle.teg_critical.specs.Slacks.{IsOnCircuit};
-ghost use Rattle.teg_critical.specs.Losses.{most_gap};
 ghost use Rattle.teg_critical.specs.Told.{IsGapWithin};
 ghost use Rattle.teg_critical.specs.Hops.{reached_number};
-ghost use Rattle.teg_critical.specs.Heights.{most_height, CanRaise, AreHeights, AreFinal, IsTightBy, AreTight, LacksGap};
+ghost use Rattle.teg_critical.specs.Heights.{CanRaise, CanPass, AreHeights, AreFinal, IsTightBy, AreTight, LacksGap};
 ghost use Rattle.teg_critical.specs.SlackWitnessed.{IsSlackWitness, IsWitnessAt};
 
 use crate::each_place::gap_from;
@@ -62,13 +60,7 @@ fn numbers_from(alloc: Global, net: &Net, place: PlaceId) -> Result<Vec<u32>, Al
 
 // Whether a place makes of the height of its start just that of its end.
 fn is_tight(raised: &Raised, heights: &[u64], number: usize, place: &Place) -> bool
-    requires ends { (place.now.from.index < length heights.now)
-        × (place.now.to.index < length heights.now) }
-    requires ratio { (raised.now.ratio.time ≤ greatest_checked_ratio)
-        × (raised.now.ratio.tokens ≤ most_circuit_tokens) }
-    requires gap { raised.now.gap ≤ most_gap }
-    requires place { (place.now.hold ≤ greatest_hold) × (place.now.tokens ≤ most_place_tokens) }
-    requires small { All (λ h. h ≤ most_height) heights.now }
+    requires { CanPass raised.now place.now heights.now }
     ensures { IsTrue result ↔ IsTightBy raised.now number place.now heights.now }
 {
     let from = heights[place.from.index as usize] + gain_of(raised, number, place);
@@ -159,7 +151,7 @@ fn gap_of(
         place,
     };
     let back = least_losses(alloc, &known, ending.end, &[ending])?;
-    Ok(gap_from(net, best, &losses, &back, ending))
+    Ok(gap_from(&known, best, &back, ending))
 }
 
 // What shows the slack of a place, at the greatest ratio.

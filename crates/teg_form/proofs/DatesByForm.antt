@@ -23,8 +23,8 @@ use Rattle.teg_model.proofs.Tokens.{available_after, available_first, implicit_g
 use Rattle.teg_model.proofs.WalkSteps.{feasible_keeps_in}
 use Rattle.teg_model.proofs.GreatestWalks.{start_not_before, start_below}
 use Rattle.teg_model.proofs.DateFunctions.{Dating}
-use Rattle.teg_form.specs.declared.form.StarEntry.{StarEntry}
-use Rattle.teg_form.specs.declared.form.Entry.{Entry}
+use Rattle.teg_form.specs.declared.stars.StarEntry.{StarEntry}
+use Rattle.teg_form.specs.declared.entries.Entry.{Entry}
 use Rattle.teg_form.specs.StandardForms.{FormLists, IsTimeOfFreePath, IsTimeOfMarkedPath, IsStarEntry, IsEntry, IsStandardFormOf}
 use Rattle.teg_form.specs.FormDates.{IsNotBeforeForm, AreDatesByForm}
 use Rattle.teg_form.proofs.FreePaths.{one_place}

@@ -26,8 +26,8 @@ use Rattle.teg_model.proofs.Tokens.{available_first, implicit_gives}
 use Rattle.teg_model.proofs.WalkSteps.{Keeps, feasible_keeps_in}
 use Rattle.teg_model.proofs.TightLeast.{tight_is_least}
 use Rattle.teg_model.proofs.DateFunctions.{Dating}
-use Rattle.teg_form.specs.declared.form.StarEntry.{StarEntry}
-use Rattle.teg_form.specs.declared.form.Entry.{Entry}
+use Rattle.teg_form.specs.declared.stars.StarEntry.{StarEntry}
+use Rattle.teg_form.specs.declared.entries.Entry.{Entry}
 use Rattle.teg_form.specs.StandardForms.{FormLists, IsStarEntry, IsEntry, IsStandardFormOf}
 use Rattle.teg_form.specs.FormDates.{IsNotBeforeForm, AreDatesByForm}
 use Rattle.teg_form.proofs.PathDates.{WaitsForPlaces, path_waits}

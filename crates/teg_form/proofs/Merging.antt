@@ -10,7 +10,7 @@ use Rattle.std.proofs.lemmas.List.Quantifiers.{Any-push, all_pairs_push, any-set
 use Rattle.teg_net.specs.declared.entries.PlaceId.{PlaceId}
 use Rattle.teg_net.specs.Nets.{NetLists, IsNet}
 use Rattle.teg_net.specs.Circuits.{no_place, place_at, time_of}
-use Rattle.teg_form.specs.declared.form.Entry.{Entry}
+use Rattle.teg_form.specs.declared.entries.Entry.{Entry}
 use Rattle.teg_form.specs.declared.order.Marked.{Marked}
 use Rattle.teg_form.specs.StandardForms.{IsTimeOfMarkedPath, IsGreatestTime, IsEntryBefore, AreEntries}
 use Rattle.teg_form.specs.Times.{IsTimeFrom, IsFirstPlaceOf}

@@ -2,8 +2,8 @@
 use Rattle.std.proofs.Common.{◌≡◌, ℕ, ◌<◌, ◌⊎◌, ⊎_elim, inl, inr, List, subst, ◌∙◌, arith}
 use Rattle.std.specs.Prelude.{Contains}
 use Rattle.teg_net.specs.Nets.{NetLists}
-use Rattle.teg_form.specs.declared.form.StarEntry.{StarEntry}
-use Rattle.teg_form.specs.declared.form.Entry.{Entry}
+use Rattle.teg_form.specs.declared.stars.StarEntry.{StarEntry}
+use Rattle.teg_form.specs.declared.entries.Entry.{Entry}
 use Rattle.teg_form.specs.StandardForms.{FormLists, IsTimeOfFreePath, IsTimeOfMarkedPath, IsGreatestTime, IsStarEntry, IsStarBefore, AreStars, IsEntry, IsEntryBefore, AreEntries, IsStandardFormOf}
 use Rattle.teg_form.proofs.SortedSame.{of_contained, sorted_same}
 

@@ -19,7 +19,7 @@ use Rattle.std.proofs.lemmas.List.{get_or_read}
 use Rattle.teg_net.specs.Nets.{NetLists, IsNet}
 use Rattle.teg_net.specs.Circuits.{no_place, place_at, IsPathBetween}
 use Rattle.teg_net.specs.Limits.{greatest_circuit_time}
-use Rattle.teg_form.specs.declared.form.StarEntry.{StarEntry}
+use Rattle.teg_form.specs.declared.stars.StarEntry.{StarEntry}
 use Rattle.teg_form.specs.StandardForms.{IsTimeOfFreePath, IsGreatestTime, IsStarEntry, IsStarBefore, AreStars}
 use Rattle.teg_form.specs.Times.{cell, IsTimeBetween, AreFreeTimes, IsTimeFrom}
 use Rattle.teg_form.proofs.Cells.{cell_in, earlier_cell, one_cell}

@@ -1,7 +1,7 @@
 -- Working definitions of how an entry is added behind others: entries of one kind, those of the same ends and tokens,
 -- become one.
 use Rattle.std.specs.Prelude.{◌-◌, ◌<◌, ◌≤◌, ◌≡◌, ◌⊎◌, List, [], ◌∷◌, ◌++◌, length, slice_index_or, slice_set}
-use Rattle.teg_form.specs.declared.form.Entry.{Entry}
+use Rattle.teg_form.specs.declared.entries.Entry.{Entry}
 
 -- the two entries have the same ends and the same tokens
 abbrev pub IsOfKind : Entry → Entry → Type 0

@@ -8,7 +8,7 @@ use Rattle.teg_net.specs.declared.entries.PlaceId.{PlaceId}
 use Rattle.teg_net.specs.Nets.{NetLists}
 use Rattle.teg_net.specs.Circuits.{place_at}
 use Rattle.teg_net.specs.Limits.{greatest_circuit_time}
-use Rattle.teg_form.specs.declared.form.Entry.{Entry}
+use Rattle.teg_form.specs.declared.entries.Entry.{Entry}
 use Rattle.teg_form.specs.StandardForms.{IsTimeOfFreePath}
 
 -- the date in this row and column of a list of rows

@@ -4,12 +4,22 @@ ghost use Rattle.teg_form.specs.Adding.{IsOfKind, last_entry, IsAdded};
 ghost use Rattle.teg_form.specs.StandardForms.{AreEntries, IsGreatestTime};
 ghost use Rattle.teg_form.specs.Times.{AreFreeTimes, IsTimeFrom, IsFirstPlaceOf};
 
-use crate::form::Entry;
 use crate::order::by_source;
 use dioid::Date;
 use dioid_matrix::Matrix;
 use std::alloc::{AllocError, Global};
 use teg_net::{Net, OutOfMemory, PlaceId, TransitionId};
+
+/// The greatest time of a path whose first place has `tokens` tokens, and whose others have none.
+#[derive(Clone, Copy, Debug, Drop, PartialEq, Eq)]
+pub struct Entry {
+    pub to: TransitionId,
+    pub from: TransitionId,
+    /// At least 1.
+    pub tokens: u32,
+    /// In the user's unit: at most 400 times 1,000,000,000.
+    pub time: u64,
+}
 
 // Whether the last entry is of the same kind: of the same ends and tokens.
 fn ends_in_kind(entries: &[Entry], entry: &Entry) -> bool

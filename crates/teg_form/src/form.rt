@@ -3,33 +3,13 @@ ghost use Rattle.std.specs.Prelude.{◌≡◌, ◌↔◌, IfOk, IsTrue};
 ghost use Rattle.teg_check.specs.Ranks.{IsRanking};
 ghost use Rattle.teg_form.specs.StandardForms.{FormLists, IsStandardFormOf};
 
-use crate::entries::entries_of;
+use crate::entries::{Entry, entries_of};
 use crate::matrix::free_times;
-use crate::stars::stars_of;
+use crate::stars::{StarEntry, stars_of};
 use std::alloc::Global;
 use std::marker::Model;
 use teg_check::Live;
-use teg_net::{Net, OutOfMemory, TransitionId};
-
-/// The greatest time of a path of places without tokens, between two different transitions.
-#[derive(Clone, Copy, Debug, Drop, PartialEq, Eq)]
-pub struct StarEntry {
-    pub to: TransitionId,
-    pub from: TransitionId,
-    /// In the user's unit: at most 400 times 1,000,000,000.
-    pub time: u64,
-}
-
-/// The greatest time of a path whose first place has `tokens` tokens, and whose others have none.
-#[derive(Clone, Copy, Debug, Drop, PartialEq, Eq)]
-pub struct Entry {
-    pub to: TransitionId,
-    pub from: TransitionId,
-    /// At least 1.
-    pub tokens: u32,
-    /// In the user's unit: at most 400 times 1,000,000,000.
-    pub time: u64,
-}
+use teg_net::{Net, OutOfMemory};
 
 /// The standard form of a net (chapter 2). Contracts see its two lists.
 #[derive(Debug, Drop)]

@@ -16,5 +16,7 @@ mod matrix;
 mod order;
 mod stars;
 
-pub use form::{Entry, Form, StarEntry, is_standard_form_of, standard_form};
+pub use entries::Entry;
+pub use form::{Form, is_standard_form_of, standard_form};
 pub use laws::least_dates_are_by_form;
+pub use stars::StarEntry;

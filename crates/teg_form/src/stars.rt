@@ -3,11 +3,19 @@ ghost use Rattle.std.specs.Prelude.{ℕ, ◌≡◌, ◌≢◌, ◌<◌, length, 
 ghost use Rattle.teg_form.specs.StandardForms.{AreStars, IsStarEntry, IsTimeOfFreePath};
 ghost use Rattle.teg_form.specs.Times.{AreFreeTimes};
 
-use crate::form::StarEntry;
 use dioid::Date;
 use dioid_matrix::Matrix;
 use std::alloc::{AllocError, Global};
 use teg_net::{Net, TransitionId};
+
+/// The greatest time of a path of places without tokens, between two different transitions.
+#[derive(Clone, Copy, Debug, Drop, PartialEq, Eq)]
+pub struct StarEntry {
+    pub to: TransitionId,
+    pub from: TransitionId,
+    /// In the user's unit: at most 400 times 1,000,000,000.
+    pub time: u64,
+}
 
 // The star entry of this pair of transitions, where there is one.
 fn star_entry(net: &Net, times: &Matrix<Date>, to: usize, from: usize) -> Option<StarEntry>

@@ -15,11 +15,12 @@ use Rattle.teg_jit.specs.declared.answers.Onward.{Onward}
 use Rattle.teg_jit.specs.declared.answers.Onward.TheVariants.{Due, By}
 use Rattle.teg_jit.specs.declared.answers.LatestDate.{LatestDate}
 use Rattle.teg_jit.specs.declared.answers.LatestDate.TheVariants.{Free, At}
-use Rattle.teg_jit.specs.DueDates.{due_in}
+use Rattle.teg_due.specs.RowRules.{due_in}
 use Rattle.teg_jit.specs.Plans.{latest_in, date_or_never, dates_of_latest, HasOnward, IsOnward}
 use Rattle.teg_jit.specs.GoingBack.{lowered, ArePassedAbove}
 use Rattle.teg_jit.proofs.TableCells.{set_here, set_other, past_last}
-use Rattle.teg_jit.proofs.DueRows.{row_of_due}
+use Rattle.teg_due.proofs.DueOnce.{no_row}
+use Rattle.teg_due.proofs.DueRows.{row_of_due}
 use Rattle.teg_jit.proofs.Lowering.{IsBefore, lowered_cases, onward_of}
 use Rattle.teg_jit.proofs.Back.{both_or_not, due_is_no_place}
 
@@ -108,9 +109,6 @@ only_onward net due y t s (At d o) h =
 only_above : (b : LatestDate) (x : Date) → ((d : ℕ) (o : Onward) → b ≡ At d o → IsAtMostDate x (on_date (pos d))) → IsAtMostDate x (date_or_never b)
 only_above Free x h = never_last x
 only_above (At d o) x h = h d o refl
-
-abbrev pub no_row : DueRow
-no_row = record { row = 0; transition = record { index = 0 }; number = 0; date = 0 }
 
 pub begun_is : (net : NetLists) (rows : List DueRow) (last : ℕ) (dates : List LatestDate) (i : ℕ) → IsNet net
     → BegunTo (length net.transitions) rows last dates i → length rows ≤ i → ArePassedAbove net (due_in rows) last last dates

@@ -13,7 +13,7 @@ use Rattle.teg_due.specs.declared.rows.DueRow.{DueRow}
 use Rattle.teg_jit.specs.declared.due_numbers.Numbered.{Numbered}
 use Rattle.teg_jit.specs.DueDates.{NameFirings}
 use Rattle.teg_jit.specs.DueNumbers.{IsNumbered, AreRowsNumbered, HaveRow, IsDateOfRow, AreDatesOfRows}
-use Rattle.teg_jit.proofs.Begun.{no_row}
+use Rattle.teg_due.proofs.DueOnce.{no_row}
 
 -- ---- the rows in the order of their numbers
 

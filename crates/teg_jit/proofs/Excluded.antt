@@ -11,12 +11,11 @@ use Rattle.teg_net.specs.Nets.{NetLists}
 use Rattle.teg_dates.proofs.teg_model_proofs.OfNet.{only_least}
 use Rattle.due_laws.specs.MeetingDueDates.{KeepsDues, inputs_at_zero}
 use Rattle.teg_due.specs.declared.rows.DueRow.{DueRow}
-use Rattle.teg_due.specs.RowRules.{IsDueOf}
-use Rattle.teg_jit.specs.DueDates.{due_in}
+use Rattle.teg_due.specs.RowRules.{IsDueOf, due_in}
 use Rattle.teg_jit.specs.PlansAndLateness.{DuesAreKeptByRows, LateExcludesMeet}
 use Rattle.teg_jit.specs.LateRefusals.{KeepsRow}
-use Rattle.teg_jit.proofs.Begun.{no_row}
-use Rattle.teg_jit.proofs.DueRows.{due_of_row, row_of_due}
+use Rattle.teg_due.proofs.DueOnce.{no_row}
+use Rattle.teg_due.proofs.DueRows.{due_of_row, row_of_due}
 
 keeps_rows : (net : NetLists) (rows : List DueRow) → IsDueOf net rows → (x : ℕ → ℕ → Date) → KeepsDues net (due_in rows) x → All (KeepsRow x) rows
 keeps_rows net rows ok x keeps i q l =

@@ -20,12 +20,13 @@ use Rattle.teg_dates.specs.DateCells.{no_number, date_of_cell}
 use Rattle.teg_dates.specs.DateTables.{most_numbers}
 use Rattle.due_laws.specs.MeetingDueDates.{InputsMeet, inputs_at_zero}
 use Rattle.teg_due.specs.declared.rows.DueRow.{DueRow}
-use Rattle.teg_jit.specs.DueDates.{due_in, NameFirings}
+use Rattle.teg_due.specs.RowRules.{due_in}
+use Rattle.teg_jit.specs.DueDates.{NameFirings}
 use Rattle.teg_jit.specs.DueNumbers.{AreDatesOfRows, AreNumbersOfRows}
 use Rattle.teg_jit.specs.LateRefusals.{KeepsRow, IsFirstLateDue}
 use Rattle.teg_jit.specs.LatestCells.{most_cell_date}
-use Rattle.teg_jit.proofs.Begun.{no_row}
-use Rattle.teg_jit.proofs.DueRows.{row_of_due}
+use Rattle.teg_due.proofs.DueOnce.{no_row}
+use Rattle.teg_due.proofs.DueRows.{row_of_due}
 use Rattle.teg_jit.proofs.Tight.{ranks_of}
 use Rattle.teg_jit.proofs.LateWalks.{Reached, reached}
 

@@ -21,11 +21,12 @@ use Rattle.due_laws.specs.MeetingDueDates.{KeepsDues, InputsMeet, inputs_at_zero
 use Rattle.due_laws.specs.LatestDates.{IsDateToDue, IsTightWalk, IsLateWalk}
 use Rattle.due_laws.proofs.LatestDates.{kept_below}
 use Rattle.teg_due.specs.declared.rows.DueRow.{DueRow}
-use Rattle.teg_jit.specs.DueDates.{due_in, NamesFiring}
+use Rattle.teg_due.specs.RowRules.{due_in}
+use Rattle.teg_jit.specs.DueDates.{NamesFiring}
 use Rattle.teg_jit.specs.Plans.{dates_of_plan, PlanDates, KeepsSizes, IsPlanFor}
 use Rattle.teg_jit.specs.FirstLate.{HasDateAtStart, StartsAreKept}
-use Rattle.teg_jit.proofs.Begun.{no_row}
-use Rattle.teg_jit.proofs.DueRows.{row_of_due, due_of_row}
+use Rattle.teg_due.proofs.DueOnce.{no_row}
+use Rattle.teg_due.proofs.DueRows.{row_of_due, due_of_row}
 use Rattle.teg_dates.proofs.teg_model_proofs.LiveRanks.{rank_bound, rank_in, ranks_in}
 use Rattle.teg_jit.proofs.Walking.{in_numbers}
 

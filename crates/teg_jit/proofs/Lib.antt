@@ -2,7 +2,6 @@ mod Packing
 mod Transposing
 mod TableCells
 mod Sorting
-mod DueRows
 mod Lowering
 mod Back
 mod Passing

@@ -12,7 +12,7 @@ use Rattle.teg_jit.specs.declared.answers.LatestDate.{LatestDate}
 use Rattle.teg_jit.specs.declared.answers.LatestDate.TheVariants.{Free, At}
 use Rattle.teg_jit.specs.Plans.{date_or_never}
 use Rattle.teg_jit.specs.GoingBack.{lowered, date_there}
-use Rattle.teg_jit.proofs.DueRows.{none_is_not, date_is}
+use Rattle.teg_due.proofs.DueRows.{none_is_not, date_is}
 
 -- the date comes strictly before what is there
 pub record IsBefore (d : ℕ) (b : LatestDate) : Type 0 where

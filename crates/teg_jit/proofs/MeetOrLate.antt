@@ -17,7 +17,7 @@ use Rattle.teg_due.specs.declared.rows.DueRow.{DueRow}
 use Rattle.teg_due.specs.RowRules.{IsDueOf}
 use Rattle.teg_jit.specs.PlansAndLateness.{IsLate, MeetOrLate}
 use Rattle.teg_jit.specs.LateRefusals.{KeepsRow}
-use Rattle.teg_jit.proofs.Begun.{no_row}
+use Rattle.teg_due.proofs.DueOnce.{no_row}
 use Rattle.teg_dates.proofs.teg_model_proofs.LiveRanks.{rank_bound, rank_in, ranks_in}
 use Rattle.teg_dates.proofs.teg_model_proofs.DateFunctions.{Dating}
 use Rattle.teg_jit.proofs.LateWalks.{Reached, reached}

@@ -1,11 +1,8 @@
--- The due dates of a list, as a function of the firing.
-use Rattle.std.specs.Prelude.{ℕ, ◌<◌, ◌≤◌, ◌≡◌, ◌≢◌, ◌⊎◌, ◌==◌, ◌&&◌, List, length, All, AllPairs, Any, Option, find, option_map}
+-- The firings that the rows of a due list name.
+use Rattle.std.specs.Prelude.{ℕ, ◌<◌, ◌≤◌, ◌≡◌, ◌≢◌, List, length, All, AllPairs, Any}
 use Rattle.teg_net.specs.Nets.{NetLists}
 use Rattle.teg_due.specs.declared.rows.DueRow.{DueRow}
-
--- the date of the row that names firing k of transition t; none where no row does
-abbrev pub due_in : List DueRow → ℕ → ℕ → Option ℕ
-due_in rows t k = option_map (λ r. r.date) (find (λ r. (r.transition.index == t) && (r.number == k)) rows)
+use Rattle.teg_due.specs.RowRules.{AreApart}
 
 -- the greatest number that a row names, 0 for no rows
 pub record IsGreatestNumber (rows : List DueRow) (n : ℕ) : Type 0 where
@@ -16,10 +13,6 @@ pub record IsGreatestNumber (rows : List DueRow) (n : ℕ) : Type 0 where
 pub record NamesFiring (net : NetLists) (r : DueRow) : Type 0 where
   pub in_range : r.transition.index < length net.transitions
   pub from_one : 1 ≤ r.number
-
--- two rows name different firings
-abbrev pub AreApart : DueRow → DueRow → Type 0
-AreApart r s = (r.transition.index ≢ s.transition.index) ⊎ (r.number ≢ s.number)
 
 -- each row names a firing of the net, and no two the same
 pub record NameFirings (net : NetLists) (rows : List DueRow) : Type 0 where

@@ -6,6 +6,8 @@ use Rattle.teg_net.specs.Nets.{NetLists}
 use Rattle.teg_dates.specs.dioid.Dates.{IsAtMostDate}
 use Rattle.teg_net.specs.Circuits.{place_at}
 use Rattle.teg_net.specs.ReadyDates.{ready_date, start_date}
+use Rattle.teg_dates.specs.teg_model.Datings.{IsLeastUnder}
+use Rattle.due_laws.specs.MeetingDueDates.{inputs_at_zero}
 use Rattle.teg_due.specs.declared.rows.DueRow.{DueRow}
 use Rattle.teg_jit.specs.LatestCells.{most_cell_date}
 use Rattle.teg_jit.specs.Plans.{PlanDates, dates_of_plan}
@@ -47,6 +49,10 @@ HasDateWhenReady net plan = (q k : ℕ) × IsReadyFrom net plan q k
 -- no latest date is before the start of its firing
 abbrev pub StartsAreKept : NetLists → PlanDates → Type 0
 StartsAreKept net plan = (t k : ℕ) → t < length net.transitions → 1 ≤ k → IsAtMostDate (At (pos (start_date net t k))) (dates_of_plan plan t k)
+
+-- the row's date is that of its firing by the least dating with all inputs at 0
+abbrev pub HasLeastDate : NetLists → DueRow → Type 0
+HasLeastDate net r = (x : ℕ → ℕ → Date) × IsLeastUnder net inputs_at_zero x × (x r.transition.index r.number ≡ At (pos r.date))
 
 -- the rows before i are kept, and that at i is not: the date there, which eight bytes hold
 pub record IsFirstExceeded (y : ℕ → ℕ → Date) (rows : List DueRow) (i least : ℕ) : Type 0 where

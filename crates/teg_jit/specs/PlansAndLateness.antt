@@ -13,10 +13,9 @@ use Rattle.teg_net.specs.Walks.{Walks, walk_time}
 use Rattle.teg_dates.specs.teg_model.Datings.{IsLeastUnder}
 use Rattle.due_laws.specs.MeetingDueDates.{KeepsDues, InputsMeet, inputs_at_zero}
 use Rattle.teg_due.specs.declared.rows.DueRow.{DueRow}
-use Rattle.teg_due.specs.RowRules.{IsDueOf}
+use Rattle.teg_due.specs.RowRules.{IsDueOf, due_in}
 use Rattle.teg_jit.specs.declared.answers.JitRefusal.TheVariants.{Late}
 use Rattle.teg_jit.specs.declared.answers.LatestDate.TheVariants.{Free}
-use Rattle.teg_jit.specs.DueDates.{due_in}
 use Rattle.teg_jit.specs.Plans.{PlanDates, KeepsSizes, IsPlanFor, FollowsPlan, latest_at, dates_of_plan}
 use Rattle.teg_jit.specs.LateRefusals.{KeepsRow, IsFirstLateDue, LateIsRight}
 

@@ -1,5 +1,5 @@
 //! The least dates at the firings of a due list, taken from one row of dates after another.
-ghost use Rattle.std.specs.Prelude.{◌≡◌, ◌≤◌, ℕ, length, All, IfOk, OnOk};
+ghost use Rattle.std.specs.Prelude.{◌≡◌, ◌≤◌, ℕ, length, All, IfOk};
 ghost use Rattle.teg_dates.specs.dioid.declared.dates.Date.{Date};
 ghost use Rattle.teg_check.specs.Ranks.{IsRanking};
 ghost use Rattle.teg_dates.specs.teg_model.Datings.{IsLeastDating};
@@ -75,28 +75,22 @@ fn take_dates(asked: &AskedRows<'_>, first: &mut FirstRows, cells: &mut [u64], d
     }
 }
 
-// The same from the first row of dates on.
-fn fill_dates(
-    alloc: Global,
-    live: &Live,
-    asked: &AskedRows<'_>,
-    cells: &mut [u64],
-    dates: &mut [u64],
-) -> Result<(), OutOfMemory>
+// The dates of the rows' firings, from the first row of dates on: cells of eight bytes.
+fn asked_dates(alloc: Global, live: &Live, asked: &AskedRows<'_>) -> Result<Vec<u64>, OutOfMemory>
     requires stands { IsRanking asked.now.net.now live.now }
     requires asked { AreAsked asked.now.net.now asked.now.rows.now asked.now.order.now }
-    requires cells { length cells.old ≡ length asked.now.net.now.transitions }
-    requires dates { length dates.old ≡ length asked.now.rows.now }
-    ensures dates { OnOk result ((x : ℕ → ℕ → Date) → IsLeastDating asked.now.net.now x
-        → AreDatesOfRows x asked.now.rows.now dates.new) }
+    ensures dates { IfOk result (λ dates. (x : ℕ → ℕ → Date) → IsLeastDating asked.now.net.now x
+        → AreDatesOfRows x asked.now.rows.now dates.items) }
     ensures exists { IfOk result (λ _. (x : ℕ → ℕ → Date) × IsLeastDating asked.now.net.now x) }
 {
+    let mut cells = vec![in alloc; 0u64; asked.net.transitions().len()]?;
+    let mut dates = vec![in alloc; 0u64; asked.rows.len()]?;
     let mut first = FirstRows::new(alloc, asked.net, live)?;
-    take_dates(asked, &mut first, cells, dates);
-    Ok(())
+    take_dates(asked, &mut first, &mut cells, &mut dates);
+    Ok(dates)
 }
 
-// The dates of the rows' firings by the least dating of the net: cells of eight bytes.
+// The dates of the rows' firings by the least dating of the net.
 pub(crate) fn dates_of_rows(
     alloc: Global,
     net: &Net,
@@ -111,13 +105,10 @@ pub(crate) fn dates_of_rows(
     ensures exists { IfOk result (λ _. (x : ℕ → ℕ → Date) × IsLeastDating net.now x) }
 {
     let order = by_number(alloc, rows)?;
-    let mut cells = vec![in alloc; 0u64; net.transitions().len()]?;
-    let mut dates = vec![in alloc; 0u64; rows.len()]?;
     let asked = AskedRows {
         net,
         rows,
         order: &order,
     };
-    fill_dates(alloc, live, &asked, &mut cells, &mut dates)?;
-    Ok(dates)
+    asked_dates(alloc, live, &asked)
 }

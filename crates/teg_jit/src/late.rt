@@ -1,7 +1,6 @@
 //! Due dates that no inputs can meet.
-ghost use Rattle.std.specs.Prelude.{◌≡◌, ◌<◌, ◌≤◌, ℕ, length, IfOk, IfErr, IfNone, IfSome, All, pos};
+ghost use Rattle.std.specs.Prelude.{◌≡◌, ◌≤◌, ℕ, [], ◌∷◌, length, IfOk, IfErr, IfNone, IfSome, All};
 ghost use Rattle.teg_dates.specs.dioid.declared.dates.Date.{Date};
-ghost use Rattle.teg_dates.specs.dioid.declared.dates.Date.TheVariants.{At};
 ghost use Rattle.teg_net.specs.Nets.{IsNet};
 ghost use Rattle.teg_net.specs.ReadyDates.{start_date};
 ghost use Rattle.teg_check.specs.Ranks.{IsRanking};
@@ -9,45 +8,32 @@ ghost use Rattle.teg_dates.specs.teg_model.Datings.{IsLeastUnder};
 ghost use Rattle.teg_dates.specs.DateTables.{most_numbers};
 ghost use Rattle.due_laws.specs.MeetingDueDates.{InputsMeet, inputs_at_zero};
 ghost use Rattle.due_laws.specs.LatestDates.{IsLateWalk};
-ghost use Rattle.teg_jit.specs.DueDates.{due_in, NameFirings, NamesFiring};
+ghost use Rattle.teg_due.specs.RowRules.{due_in};
+ghost use Rattle.teg_jit.specs.DueDates.{NameFirings};
 ghost use Rattle.teg_jit.specs.DueNumbers.{AreNumbersOfRows};
+ghost use Rattle.teg_jit.specs.GoingBack.{AreListedUpTo};
 ghost use Rattle.teg_jit.specs.LateRefusals.{KeepsRow, LateIsRight};
-ghost use Rattle.teg_jit.specs.FirstLate.{IsFirstExceeded};
-ghost use Rattle.teg_jit.specs.LatestCells.{most_cell_date};
+ghost use Rattle.teg_jit.specs.FirstLate.{HasLeastDate, IsFirstExceeded};
 
 use crate::answers::JitRefusal;
 use crate::due_numbers::dates_of_rows;
-use crate::planning::plan_for;
+use crate::meeting::plan_for;
 use crate::starts::first_at_start;
 use std::alloc::Global;
 use teg_check::Live;
 use teg_due::DueRow;
 use teg_net::{Net, OutOfMemory, Walk};
 
-// A walk to the row's firing whose start plus time is the firing's date with all inputs at 0.
-fn late_walk(
-    alloc: Global,
-    net: &Net,
-    live: &Live,
-    row: DueRow,
-    least: u64,
-) -> Result<Walk, OutOfMemory>
+// A walk to the row's firing whose start plus time is the row's date, the firing's with all inputs
+// at 0.
+fn late_walk(alloc: Global, net: &Net, live: &Live, row: DueRow) -> Result<Walk, OutOfMemory>
     requires stands { IsRanking net.now live.now }
-    requires row { NamesFiring net.now row }
-    requires few { row.number ≤ most_numbers }
-    requires fits { least < most_cell_date }
-    requires least { (x : ℕ → ℕ → Date) × IsLeastUnder net.now inputs_at_zero x
-        × (x row.transition.index row.number ≡ At (pos least)) }
+    requires listed { AreListedUpTo net.now (row ∷ []) row.number }
+    requires least { HasLeastDate net.now row }
     ensures { IfOk result (λ walk. IsLateWalk net.now row.transition.index row.number
-        (start_date net.now walk.start.index walk.number) least walk) }
+        (start_date net.now walk.start.index walk.number) row.date walk) }
 {
-    let rows = [DueRow {
-        row: row.row,
-        transition: row.transition,
-        number: row.number,
-        date: least,
-    }];
-    let plan = plan_for(alloc, net, live, &rows, row.number)?;
+    let plan = plan_for(alloc, net, live, &[row], row.number)?;
     let (transition, number) = first_at_start(net, &plan).unwrap();
     plan.walk(alloc, net, transition, number)
 }
@@ -109,7 +95,7 @@ pub(crate) fn keep_dues(
         return Ok(());
     };
     let row = rows[index];
-    let walk = late_walk(alloc, net, live, row, least)?;
+    let walk = late_walk(alloc, net, live, DueRow { date: least, ..row })?;
     let start = net.start_date(walk.start, walk.number);
     Err(JitRefusal::Late {
         transition: row.transition,

@@ -37,6 +37,7 @@ mod due_numbers;
 mod late;
 mod latest_list;
 mod laws;
+mod meeting;
 mod order;
 mod passes;
 mod plan;

@@ -3,7 +3,7 @@
 ghost use Rattle.std.specs.Prelude.{◌≡◌, ◌+◌, ◌-◌, ◌*◌, ◌<◌, ◌≤◌, ℕ, List, length, IfOk, IfSome, slice_index_or, slice_set, Option};
 ghost use Rattle.teg_check.specs.Ranks.{IsRanking};
 ghost use Rattle.teg_dates.specs.DateTables.{most_numbers};
-ghost use Rattle.teg_jit.specs.DueDates.{due_in};
+ghost use Rattle.teg_due.specs.RowRules.{due_in};
 ghost use Rattle.teg_jit.specs.BackwardOrder.{IsBackOrder};
 ghost use Rattle.teg_jit.specs.declared.answers.LatestDate.TheVariants.{Free};
 ghost use Rattle.teg_jit.specs.Plans.{KeepsSizes, latest_in};

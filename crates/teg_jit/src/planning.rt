@@ -1,50 +1,23 @@
-//! The latest dates, going back from the greatest number that is due.
+//! The latest inputs of a due list.
 ghost use Rattle.std.specs.Prelude.{◌≡◌, IfOk, IfErr};
-ghost use Rattle.teg_net.specs.Nets.{IsNet};
 ghost use Rattle.teg_check.specs.Ranks.{IsRanking};
 ghost use Rattle.teg_form.specs.StandardForms.{IsStandardFormOf};
 ghost use Rattle.due_laws.specs.MeetingDueDates.{InputsMeet, AreLatestInputs, inputs_at_zero};
-ghost use Rattle.teg_due.specs.RowRules.{IsDueOf};
+ghost use Rattle.teg_due.specs.RowRules.{IsDueOf, due_in};
 ghost use Rattle.teg_jit.specs.LateRefusals.{LateIsRight};
-ghost use Rattle.teg_jit.specs.DueDates.{due_in, IsGreatestNumber};
-ghost use Rattle.teg_jit.specs.GoingBack.{AreListedUpTo};
+ghost use Rattle.teg_jit.specs.DueDates.{IsGreatestNumber};
 ghost use Rattle.teg_jit.specs.Plans.{dates_of_plan, IsPlanFor};
 
 use crate::answers::JitRefusal;
 use crate::due_dates::greatest_number;
 use crate::late::keep_dues;
-use crate::order::by_depth;
-use crate::passes::{begin, pass_all};
+use crate::meeting::plan_for;
 use crate::plan::Plan;
-use crate::transposed_list::TransposedList;
-use std::alloc::{AllocError, Global};
+use std::alloc::Global;
 use teg_check::Live;
-use teg_due::{Due, DueRow};
+use teg_due::Due;
 use teg_form::Form;
 use teg_net::Net;
-
-// The latest dates where the least dating with all inputs 0 keeps the due dates.
-pub(crate) fn plan_for(
-    alloc: Global,
-    net: &Net,
-    live: &Live,
-    rows: &[DueRow],
-    last: u32,
-) -> Result<Plan, AllocError>
-    requires stands { IsRanking net.now live.now }
-    requires due { AreListedUpTo net.now rows.now last }
-    requires kept { InputsMeet net.now (due_in rows.now) inputs_at_zero }
-    ensures rules { IfOk result (λ _. IsNet net.now) }
-    ensures numbers { IfOk result (λ plan. plan.numbers ≡ last) }
-    ensures plan { IfOk result (λ plan. IsPlanFor net.now (due_in rows.now) plan) }
-{
-    let order = by_depth(alloc, net, live)?;
-    let mut dates = begin(alloc, net, rows, last)?;
-    pass_all(net, &order, &mut dates, last);
-    let width = net.transitions().len();
-    let dates = TransposedList::new(alloc, width, last as usize, &dates)?;
-    Ok(Plan::new(width, last, dates))
-}
 
 /// The latest date of each firing up to the greatest number that is due, each with the first step
 /// of a walk by which it is attained; at the inputs these are the latest inputs that meet every due

@@ -1,7 +1,7 @@
 -- Standard forms are read back from their lines.
 use Rattle.std.proofs.Common.{◌<◌, All, refl, length, map}
-use Rattle.teg_form.specs.declared.form.Entry.{Entry}
-use Rattle.teg_form.specs.declared.form.StarEntry.{StarEntry}
+use Rattle.teg_form.specs.declared.entries.Entry.{Entry}
+use Rattle.teg_form.specs.declared.stars.StarEntry.{StarEntry}
 use Rattle.teg_form.specs.StandardForms.{FormLists}
 use Rattle.teg_net.specs.Nets.{NetLists, IsNet}
 use Rattle.teg_report.specs.FormLines.{star_in, entry_in, is_star, HasEndsIn, form_lines, star_line, entry_line, IsStarKept, IsEntryKept}

@@ -1,8 +1,8 @@
 -- A standard form: its lines, what its numbers keep, and how it is read back.
 use Rattle.std.specs.Prelude.{ℕ, ◌<◌, List, [], ◌∷◌, ◌++◌, length, map, All, codes, Bool, not, drop}
 use Rattle.std.specs.Fmt.{decimal}
-use Rattle.teg_form.specs.declared.form.Entry.{Entry}
-use Rattle.teg_form.specs.declared.form.StarEntry.{StarEntry}
+use Rattle.teg_form.specs.declared.entries.Entry.{Entry}
+use Rattle.teg_form.specs.declared.stars.StarEntry.{StarEntry}
 use Rattle.teg_form.specs.StandardForms.{FormLists}
 use Rattle.teg_net.specs.Nets.{NetLists}
 use Rattle.teg_text.specs.WordsOfNames.{name_of_transition, transition_in}

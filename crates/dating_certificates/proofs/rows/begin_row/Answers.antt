@@ -9,5 +9,5 @@ loop-index-preserved c =
     let net = c.args.net.now in
     let x = date_in_rows (length net.transitions) c.args.dates.now in
     let in' = rw c.transitions-width.ensures.value at c.loop-index-test.true in
-    begun_more net (listed_releases net) x c.args.number c.loop-index.row c.loop-index.index c.later.result in' c.loop-index.invariant
+    begun_more net (listed_releases net) x c.get-number.result c.loop-index.row c.loop-index.index c.later.result in' c.loop-index.invariant
     (rw (c.later.ensures.value, c.date_before.ensures, c.release.ensures, c.new-id.ensures) refl)

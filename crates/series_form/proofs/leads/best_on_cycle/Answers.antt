@@ -19,7 +19,7 @@ loop-periods-init c =
     let low : start < width_of f g = c.requires.start in
     let number = to_z-of_z w128 c.number_at.result (record { sfits = c.number_at.type_inv }) in
     let known : to_z w128 (of_z w128 c.args.known) ≡ c.args.known = to_z-of_z w128 c.args.known (record { sfits = c.ranges.known.sfits }) in
-    let begun = reach_first f g c.common_start.ensures.left.canonical.form c.common_start.ensures.right.canonical.form c.requires.numbers start low in
+    let begun = reach_first f g c.common_start.ensures.left.canonical.form c.common_start.ensures.right.canonical.form c.requires.gaining start low in
     let here : to_z w128 (of_z w128 c.number_at.result) ≡ integer_of_date (value_at g (later_start f g + start)) = number
     ∙ c.number_at.ensures.value ∙ ap (λ (z : ℕ). integer_of_date (value_at g (z + start))) c.common_start.ensures.value in
     let none : start + 0 * f.period ≡ start = omega arith in (
@@ -50,7 +50,7 @@ loop-periods-preserved c =
     let best : to_z w128 (of_z w128 c.better-best.result) ≡ c.better-best.result = to_z-of_z w128 c.better-best.result (record { sfits = c.better-best.type_inv }) in
     let at : (place + (m + 1) * f.period) % width_of f g ≡ start =
     ap (λ (z : ℕ). (z + (m + 1) * f.period) % width_of f g) c.step_back-reach.ensures.place ∙ cycle_kept f g m c.loop-periods.reach.place start (covers_it f g isf isg) c.loop-periods.invariant.2 in
-    let on = led_on f g start m place height (to_z w128 c.loop-periods.best-bits) (to_z w128 (of_z w128 c.better-best.result)) isf isg c.requires.numbers c.requires.gain
+    let on = led_on f g start m place height (to_z w128 c.loop-periods.best-bits) (to_z w128 (of_z w128 c.better-best.result)) isf isg c.requires.gaining
     c.loop-periods.invariant.3.no_more c.loop-periods.invariant.3.led c.step_back-reach.ensures.reach at (best ∙ c.better-best.ensures) in
     let long : m + 2 ≡ m + 1 + 1 = omega arith in (
       c.step_back-reach.ensures.reach,

@@ -16,7 +16,7 @@ loop-start-init c =
     let g = c.args.second.now in
     let first = to_z-of_z w128 c.first_lead-best.result (record { sfits = c.first_lead-best.type_inv }) ∙ c.first_lead-best.ensures.value in (
       subst (λ (z : ℤ). z ≤ℤ lead_of f g) (sym first)
-          (lead_below f g c.width-width.ensures.left.canonical.form c.width-width.ensures.right.canonical.form c.requires.numbers c.requires.gain 0),
+          (lead_below f g c.width-width.ensures.left.canonical.form c.width-width.ensures.right.canonical.form c.requires 0),
       λ s l. absurd (omega arith),
     )
 

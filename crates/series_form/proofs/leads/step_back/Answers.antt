@@ -35,7 +35,7 @@ returns-clause-reach c =
     (to_z-of_z w128 c.number_at-here.result (record { sfits = c.number_at-here.type_inv }) ∙ here)
     (sum_code height c.gain.result (wide height c.args.periods c.requires.periods c.requires.bound) c.gain.ensures.bound ∙ ap (λ (z : ℤ). height +ℤ z) c.gain.ensures.value) in
     let low = subst (λ (z : ℕ). z < width_of f g) c.before-place.ensures.value c.before-place.ensures.within in
-    let reach = reach_before f g isf isg c.requires.numbers c.args.periods place height (covers_it f g isf isg) c.requires.reach low in
+    let reach = reach_before f g isf isg c.requires.gaining c.args.periods place height (covers_it f g isf isg) c.requires.reach low in
     subst (λ (z : ℤ). IsReach f g (c.args.periods + 1) c.before-place.result z) (sym value)
     (subst (λ (z : ℕ). IsReach f g (c.args.periods + 1) z
     (int_max (integer_of_date (value_at g (later_start f g + place_before f g place))) (height +ℤ gain_from_before f g place)))

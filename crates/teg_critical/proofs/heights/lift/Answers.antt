@@ -1,44 +1,21 @@
 use Rattle.std.proofs.Common.{◌≡◌, ◌<◌, ◌≤◌, length, ap, arith}
 use Rattle.teg_net.specs.declared.entries.PlaceId.{PlaceId}
-use Rattle.teg_net.specs.Nets.{IsPlaceOf}
-use Rattle.teg_net.specs.Circuits.{no_place, place_at}
+use Rattle.teg_net.specs.Circuits.{place_at}
 use Rattle.teg_net.proofs.Reading.{read_place}
-use Rattle.teg_critical.proofs.HeightLaws.{all_low, round_begins, round_lifted, round_kept, round_over}
+use Rattle.teg_critical.proofs.HeightLaws.{can_pass, round_begins, round_lifted, round_kept, round_over}
 use Rattle.teg_critical.proofs.heights.lift.Goals as goal
 use Rattle.teg_critical.proofs.heights.lift.Goals.{then-lift_end, else-lift_end}
 
 pub loop-number-init : goal.loop-number-init
 loop-number-init c = round_begins c.args.net.now c.args.raised.now c.args.heights.now c.requires.heights
 
-pub lift_end-requires-clause-ends : goal.lift_end-requires-clause-ends
-lift_end-requires-clause-ends c =
+pub lift_end-requires : goal.lift_end-requires
+lift_end-requires c =
     let net = c.args.net.now in
     let q : PlaceId = record { index = c.loop-number.number } in
     let l : q.index < length net.places = rw c.places-place-items.ensures.value at c.loop-number-test.true in
     let item : c.place-item.result ≡ place_at net q = read_place net c.places-place-items.result.now q c.place-item.result c.places-place-items.ensures.value l c.place-item.is in
-    let rules : IsPlaceOf net (place_at net q) = c.requires.can.rules.each_place q.index no_place l in
-    let from = rules.from_in in
-    let to = rules.to_in in
-    let count = c.loop-number.invariant.are.count in
-    rw item (omega (arith, from, count), omega (arith, to, count))
-
-pub lift_end-requires-clause-ratio : goal.lift_end-requires-clause-ratio
-lift_end-requires-clause-ratio c = (c.requires.can.time, c.requires.can.tokens)
-
-pub lift_end-requires-clause-gap : goal.lift_end-requires-clause-gap
-lift_end-requires-clause-gap c = c.requires.can.low
-
-pub lift_end-requires-clause-place : goal.lift_end-requires-clause-place
-lift_end-requires-clause-place c =
-    let net = c.args.net.now in
-    let q : PlaceId = record { index = c.loop-number.number } in
-    let l : q.index < length net.places = rw c.places-place-items.ensures.value at c.loop-number-test.true in
-    let item : c.place-item.result ≡ place_at net q = read_place net c.places-place-items.result.now q c.place-item.result c.places-place-items.ensures.value l c.place-item.is in
-    let rules : IsPlaceOf net (place_at net q) = c.requires.can.rules.each_place q.index no_place l in
-    rw item (rules.hold_in, rules.tokens_in)
-
-pub lift_end-requires-clause-small : goal.lift_end-requires-clause-small
-lift_end-requires-clause-small c = all_low c.args.net.now c.args.raised.now c.requires.can c.loop-number.heights c.loop-number.invariant.are
+    rw item (can_pass net c.args.raised.now c.requires.can c.loop-number.heights c.loop-number.invariant.are q l)
 
 pub loop-number-preserved : goal.loop-number-preserved
 loop-number-preserved c =

@@ -1,8 +1,8 @@
 use Rattle.std.proofs.Common.{◌≡◌, List, IsTrue, false, true, ap, sym, ◌∙◌}
 use Rattle.std.proofs.lemmas.Slice.Eq.{slice_eq-Decides}
 use Rattle.teg_form.specs.StandardForms.{FormLists}
-use Rattle.teg_form.specs.declared.form.StarEntry.{StarEntry}
-use Rattle.teg_form.specs.declared.form.Entry.{Entry}
+use Rattle.teg_form.specs.declared.stars.StarEntry.{StarEntry}
+use Rattle.teg_form.specs.declared.entries.Entry.{Entry}
 use Rattle.teg_form.proofs.EqualEntries.{star_Decides, entry_Decides}
 use Rattle.teg_form.proofs.form.are_alike.Goals as goal
 

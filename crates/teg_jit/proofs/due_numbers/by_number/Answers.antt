@@ -3,7 +3,7 @@ use Rattle.std.proofs.lemmas.List.{get_or_default}
 use Rattle.std.proofs.lemmas.List.Sorted.{All-permutation, Contains-permutation, IsNonDecreasingBy-from_sort_by_key}
 use Rattle.teg_due.specs.declared.rows.DueRow.{DueRow}
 use Rattle.teg_jit.specs.DueNumbers.{IsNumbered}
-use Rattle.teg_jit.proofs.Begun.{no_row}
+use Rattle.teg_due.proofs.DueOnce.{no_row}
 use Rattle.teg_jit.proofs.DueNumbers.{numbered_more}
 use Rattle.teg_jit.proofs.due_numbers.by_number.Goals as goal
 

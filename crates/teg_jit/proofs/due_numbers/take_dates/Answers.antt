@@ -3,7 +3,7 @@ use Rattle.std.proofs.lemmas.List.{get_or_default}
 use Rattle.teg_due.specs.declared.rows.DueRow.{DueRow}
 use Rattle.teg_jit.specs.declared.due_numbers.Numbered.{Numbered}
 use Rattle.teg_jit.specs.DueNumbers.{IsNumbered}
-use Rattle.teg_jit.proofs.Begun.{no_row}
+use Rattle.teg_due.proofs.DueOnce.{no_row}
 use Rattle.teg_jit.proofs.DueNumbers.{no_numbered, take_more, all_taken}
 use Rattle.teg_jit.proofs.due_numbers.take_dates.Goals as goal
 

@@ -2,7 +2,7 @@ use Rattle.std.proofs.Common.{◌≡◌, get_or}
 use Rattle.std.proofs.lemmas.List.{get_or_default}
 use Rattle.teg_due.specs.declared.rows.DueRow.{DueRow}
 use Rattle.teg_jit.specs.LateRefusals.{IsFirstLateDue}
-use Rattle.teg_jit.proofs.Begun.{no_row}
+use Rattle.teg_due.proofs.DueOnce.{no_row}
 use Rattle.teg_jit.proofs.LateRows.{first_late_is}
 use Rattle.teg_jit.proofs.late.keep_dues.Goals as goal
 

@@ -2,8 +2,9 @@ use Rattle.std.proofs.Common.{◌≡◌, length, get_or}
 use Rattle.std.proofs.lemmas.List.{get_or_default}
 use Rattle.teg_due.specs.declared.rows.DueRow.{DueRow}
 use Rattle.teg_jit.specs.DueDates.{NamesFiring}
-use Rattle.teg_jit.proofs.Begun.{no_row, begun_more, begun_starts, begun_is}
-use Rattle.teg_jit.proofs.DueRows.{due_of_row}
+use Rattle.teg_due.proofs.DueOnce.{no_row}
+use Rattle.teg_jit.proofs.Begun.{begun_more, begun_starts, begun_is}
+use Rattle.teg_due.proofs.DueRows.{due_of_row}
 use Rattle.teg_jit.proofs.passes.set_dues.Goals as goal
 
 pub loop-row-init : goal.loop-row-init

@@ -7,4 +7,4 @@ pub loop-index-preserved : goal.loop-index-preserved
 loop-index-preserved c =
     let told = c.args.self.now in
     let in' : c.loop-index.index < length told.net.transitions = rw c.width-index-end.ensures.value at c.loop-index-test.true in
-    marked_on told c.loop-index.met (IsNextTight told c.args.number) c.loop-index.index c.comes_with_next.result in' c.loop-index.invariant c.comes_with_next.ensures
+    marked_on told c.loop-index.met (IsNextTight told c.args.number.now) c.loop-index.index c.comes_with_next.result in' c.loop-index.invariant c.comes_with_next.ensures

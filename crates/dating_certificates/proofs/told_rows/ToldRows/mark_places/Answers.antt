@@ -16,4 +16,4 @@ loop-index-preserved c =
     let item : q ≡ place_at net p = read_place net c.places-place-items.result.now p q c.places-place-items.ensures.value own_in c.place-item.is in
     let from_in = (c.places-place-items.ensures.rules.each_place i no_place own_in).from_in in
     let tight = rw c.new.ensures at c.is_tight.ensures in
-    rw (c.index-from.ensures, item) (places_more told c.loop-index.met c.args.number i c.is_tight.result from_in c.loop-index.invariant tight)
+    rw (c.index-from.ensures, item) (places_more told c.loop-index.met c.args.number.now i c.is_tight.result from_in c.loop-index.invariant tight)

@@ -5,7 +5,7 @@ use Rattle.dating_certificates.proofs.SolvedRows.{rows_begin, rows_more}
 use Rattle.dating_certificates.proofs.told_rows.ToldRows.mark_rows.Goals as goal
 
 pub loop-row-init : goal.loop-row-init
-loop-row-init c = rows_begin c.args.self.now c.args.rows.now c.args.met.now c.args.number c.requires.marked
+loop-row-init c = rows_begin c.args.self.now c.args.rows.now c.args.met.now c.args.number.now c.requires.marked
 
 pub loop-row-preserved : goal.loop-row-preserved
 loop-row-preserved c =
@@ -15,7 +15,7 @@ loop-row-preserved c =
     let r : DueRow = get_or rows j none in
     let rule = c.requires.due.each j none c.loop-row-test.true in
     rw c.index-to.ensures
-    (rows_more c.args.self.now rows c.loop-row.met c.args.number j r c.is_tight_row.result rule.in_range
+    (rows_more c.args.self.now rows c.loop-row.met c.args.number.now j r c.is_tight_row.result rule.in_range
     (λ d. get_or_default rows j d none c.loop-row-test.true) c.loop-row.invariant c.is_tight_row.ensures)
 
 pub returns : goal.returns

@@ -5,7 +5,7 @@ use Rattle.dioid.specs.declared.dates.Date.{Date}
 use Rattle.series_laws.specs.SeriesForms.{Form, form_with, value_at}
 use Rattle.series_laws.specs.Periodic.{Rising}
 use Rattle.series_form.specs.SeriesAnswers.{form_before, IsShortestSeries}
-use Rattle.series_form.proofs.shorten.shortest.Goals as goal
+use Rattle.series_form.proofs.forms.shortest.Goals as goal
 
 pub finish-requires-clause-list : goal.finish-requires-clause-list
 finish-requires-clause-list c = record {

@@ -1,7 +1,7 @@
 use Rattle.teg_check.proofs.Liveness.{ranking_is_live}
-use Rattle.teg_jit.specs.DueDates.{due_in}
+use Rattle.teg_due.specs.RowRules.{due_in}
 use Rattle.teg_jit.proofs.Tight.{plan_is}
-use Rattle.teg_jit.proofs.planning.plan_for.Goals as goal
+use Rattle.teg_jit.proofs.meeting.plan_for.Goals as goal
 
 pub pass_all-requires-clause-begun : goal.pass_all-requires-clause-begun
 pass_all-requires-clause-begun c =

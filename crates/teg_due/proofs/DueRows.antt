@@ -4,8 +4,7 @@ use Rattle.std.specs.Prelude.{AllPairs, ◌==◌, ◌&&◌, Bool, unwrap_or, ⊤
 use Rattle.std.proofs.lemmas.Bool.{cases_Bool}
 use Rattle.std.proofs.lemmas.Bool.Decides.{nat_tests}
 use Rattle.teg_due.specs.declared.rows.DueRow.{DueRow}
-use Rattle.teg_jit.specs.DueDates.{AreApart}
-use Rattle.teg_jit.specs.DueDates.{due_in}
+use Rattle.teg_due.specs.RowRules.{AreApart, due_in}
 
 -- whether the row names the firing
 abbrev names : ℕ → ℕ → DueRow → Bool

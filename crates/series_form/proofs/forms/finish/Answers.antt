@@ -11,7 +11,7 @@ use Rattle.series_form.specs.Shapes.{IsShape, IsTooGreat, shortened}
 use Rattle.series_form.specs.SeriesLimits.{greatest_value}
 use Rattle.series_form.proofs.DateNumbers.{small_fits}
 use Rattle.series_form.proofs.FirstPart.{shortened_series, shortened_answer, shortened_great}
-use Rattle.series_form.proofs.shorten.finish.Goals as goal
+use Rattle.series_form.proofs.forms.finish.Goals as goal
 
 -- the form of the list, of which the code has the slice and the step as a number
 listed : (l m : List Date) (n : ℕ) (x : ℤ) → m ≡ l → FitsSigned w128 x → form_with m n (to_z w128 (of_z w128 x)) ≡ form_with l n x
