@@ -159,7 +159,8 @@ module _ (t v : ℕ → Date) (n : ℕ) (x : ℤ) (pos_n : 0 < n) (step : unsign
 
 -- ---- all sums
 
-module _ (f : Form) (stride : Stride) (core list by_star : List Date) (below others : Span) (head rest : List Date) (h : IsCoreSums f stride core list by_star below others head rest) (k : ℕ) (w : k < length list) where
+module _ (f : Form) (stride : Stride) (core list by_star : List Date) (below others : Span) (head rest : List Date)
+    (h : IsCoreSums f stride core list by_star below others head rest) (k : ℕ) (w : k < length list) where
   abbrev own : ℕ → Date
   own = split_of (value_at f) (value_listed list) k
 

@@ -160,8 +160,8 @@ fn core_by(
 // are come before its stride serves.
 const PLACES_A_CORE_JUMP: usize = 16;
 
-// The core of a series by a stride that leaves few jumps, and serves from an early place on; else by
-// its period from its start on, by which the core is its list.
+// The core of a series by a stride that leaves few jumps, and serves from an early place on; else
+// by its period from its start on, by which the core is its list.
 pub(crate) fn core_of(alloc: Global, first: &Series) -> Result<Core, AllocError>
     ensures core { IfOk result (λ core. IsCore first.now core.stride core.cells) }
     ensures series { IsSeries first.now }
