@@ -11,8 +11,7 @@ use Rattle.series_ops.specs.ListFunctions.{value_listed}
 use Rattle.series_ops.specs.Pieces.{window, ArePieceSums, IsPieceBegun}
 use Rattle.series_ops.specs.Splits.{greatest_from, split_of, places_to}
 use Rattle.series_ops.proofs.FirstValues.{listed_is}
-use Rattle.series_ops.proofs.LeftSplits.{greatest_early}
-use Rattle.series_ops.proofs.SplitLaws.{greatest_same, greatest_joined}
+use Rattle.series_ops.proofs.SplitLaws.{greatest_early, greatest_same, greatest_joined}
 
 pub begun_none : (l m : List Date) (p n : ℕ) (r : List Date) → n ≡ 0 → r ≡ [] → IsPieceBegun n r l m p
 begun_none l m p n r en er = subst (λ (z : ℕ). IsPieceBegun z r l m p) (sym en) (subst (λ (z : List Date). IsPieceBegun 0 z l m p) (sym er) (record { fits = omega arith; sums = refl }))

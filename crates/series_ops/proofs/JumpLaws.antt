@@ -18,12 +18,6 @@ use Rattle.series_ops.proofs.SplitLaws.{le_greatest_from, greatest_from_le}
 
 -- ---- one more number
 
-pub stairs_kept : (j i : List ℕ) (a b : Bool) (l : List ℤ) → AreStairs j a l → AreStillListed j i → (b ≡ true → a ≡ true) → AreStairs i b l
-stairs_kept j i a b l h more still = record {
-  jumps = λ k w. ⊎_elim (λ e. inl e) (λ u. inr (more (suc k) u)) (h.jumps k w);
-  rises = λ e. h.rises (still e);
-}
-
 pub stairs_pushed : (j i : List ℕ) (a b : Bool) (l m : List ℤ) (z : ℤ) → AreStairs j a l → AreStillListed j i → IsJumpListed i l z → (b ≡ true → a ≡ true) → (b ≡ true → IsLastUpTo l z)
     → m ≡ l ++ z ∷ [] → AreStairs i b m
 stairs_pushed j i a b l m z h more next still up em = subst (λ (x : List ℤ). AreStairs i b x) (sym em) (record {

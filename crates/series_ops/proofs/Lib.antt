@@ -13,6 +13,8 @@ pub mod Scales
 pub mod ShortLaws
 pub mod SplitLaws
 pub mod StarValues
+pub mod StrideLaws
+pub mod StrideSums
 pub use Rattle.series_form.proofs.number_laws_proofs as number_laws_proofs
 pub use Rattle.dioid.proofs as dioid_proofs
 pub use Rattle.series_laws.proofs as series_laws_proofs

@@ -216,11 +216,3 @@ pieces_more l m a b r p i j ea eb er =
     let size : length a ≡ length m = ap length ea ∙ table_length (window (value_listed l) (value_listed m) p i) (length m) in
     joined_listed (window (value_listed l) (value_listed m) p i) (window (value_listed l) (value_listed m) (p + i) j) 0 (length m) (At (pos 0)) a b r er size ea eb
     ∙ table_same _ (window (value_listed l) (value_listed m) p (i + j)) (length m) (λ k w. window_joined (value_listed l) (value_listed m) p i j k)
-
--- the same of equal lists
-pub sums_same : (r q l k m : List Date) (p o n j : ℕ) → ArePieceSums r l m p n → q ≡ r → k ≡ l → o ≡ p → j ≡ n → ArePieceSums q k m o j
-sums_same r q l k m p o n j h eq ek eo ej =
-    eq ∙ h ∙ ap (λ (z : List Date). table (window (value_listed z) (value_listed m) p n) (length r)) (sym ek)
-    ∙ ap (λ (z : ℕ). table (window (value_listed k) (value_listed m) z n) (length r)) (sym eo)
-    ∙ ap (λ (z : ℕ). table (window (value_listed k) (value_listed m) o z) (length r)) (sym ej)
-    ∙ ap (λ (z : List Date). table (window (value_listed k) (value_listed m) o j) (length z)) (sym eq)

@@ -1,5 +1,5 @@
 -- Sums over the splits of a shift, some places at a time.
-use Rattle.std.proofs.Common.{◌≡◌, refl, ap, arith, ℕ, ℤ, zero, suc, ◌+◌, ◌-◌, ◌≤◌, ◌<◌, sym, ◌∙◌, subst, ⊎_elim, List, to_z, of_z}
+use Rattle.std.proofs.Common.{◌≡◌, refl, ap, arith, ℕ, ℤ, zero, suc, ◌+◌, ◌-◌, ◌≤◌, ◌<◌, sym, ◌∙◌, ⊎_elim, List, to_z, of_z}
 use Rattle.std.specs.Prelude.{min}
 use Rattle.std.specs.Int.{w128}
 use Rattle.std.specs.Int.RustNames.{unsigned_abs}
@@ -18,14 +18,14 @@ use Rattle.series_laws.proofs.FormValues.{value_in, value_repeats}
 use Rattle.series_form.specs.NumberBounds.{IsMagnitudeUpTo, IsSeries}
 use Rattle.series_form.proofs.DateNumbers.{moderate_fits}
 use Rattle.series_form.proofs.Finished.{up_to_more}
-use Rattle.series_form.proofs.PointwiseTables.{later_up_to, listed_up_to}
+use Rattle.series_form.proofs.PointwiseTables.{later_up_to}
 use Rattle.dioid.proofs.Moves.{product_is_move}
 use Rattle.series_ops.specs.ListFunctions.{value_listed, AreUpTo}
 use Rattle.series_laws.specs.Product.{product_at, greatest_of_first}
 use Rattle.series_laws.proofs.Products.{product_commutes}
-use Rattle.series_form.specs.SeriesLimits.{greatest_value, greatest_value_ahead, greatest_moderate}
+use Rattle.series_form.specs.SeriesLimits.{greatest_value}
 use Rattle.series_ops.specs.Splits.{greatest_from, split_of, product_from, places_to, tail_product, with_tail}
-use Rattle.series_ops.proofs.FirstValues.{table_same, product_same, listed_is, added_up_to, all_up_to, all_more}
+use Rattle.series_ops.proofs.FirstValues.{table_same, product_same, listed_is, all_up_to}
 
 -- ---- the greatest of some places
 
@@ -38,6 +38,11 @@ pub greatest_same : (f g : ℕ → Date) (p q m : ℕ) → ((j : ℕ) → j < m 
 greatest_same f g p q zero h = refl
 greatest_same f g p q (suc m) h =
     ap (λ (z : Date). later_of z (f (p + m))) (greatest_same f g p q m (λ j w. h j (omega arith))) ∙ ap (later_of (greatest_from g q m)) (h m (omega arith))
+
+pub greatest_early : (f : ℕ → Date) (p m : ℕ) → ((j : ℕ) → j < m → f (p + j) ≡ Early) → greatest_from f p m ≡ Early
+greatest_early f p zero h = refl
+greatest_early f p (suc m) h =
+    ap (λ (z : Date). later_of z (f (p + m))) (greatest_early f p m (λ j w. h j (omega arith))) ∙ h m (omega arith)
 
 pub greatest_moved : (f g : ℕ → Date) (p q m : ℕ) (x : ℤ) → ((j : ℕ) → j < m → f (p + j) ≡ move x (g (q + j))) → greatest_from f p m ≡ move x (greatest_from g q m)
 greatest_moved f g p q zero x h = refl
@@ -96,7 +101,7 @@ product_begun : (s t : ℕ → Date) (p n k : ℕ) → k < n → product_from s 
 product_begun s t p n k w = let e : suc k - p ≡ min n (suc k - p) = omega arith in ap (greatest_from (split_of s t k) p) e
 
 -- the splits whose first part is below p, and the rest
-product_parted : (s t : ℕ → Date) (p k : ℕ) → product_at s t k ≡ with_tail s t p (product_from s t p k) k
+pub product_parted : (s t : ℕ → Date) (p k : ℕ) → product_at s t k ≡ with_tail s t p (product_from s t p k) k
 product_parted s t p k =
     let whole : suc k ≡ min p (suc k - 0) + (suc k - p) = omega arith in
     greatest_whole (split_of s t k) k ∙ ap (greatest_from (split_of s t k) 0) whole ∙ greatest_joined (split_of s t k) 0 (min p (suc k - 0)) (suc k - p)
@@ -155,17 +160,9 @@ passed_form f l n x h en ex = ap (form_with l n) (stepped f x h ex) ∙ ap (λ (
 
 -- ---- bounds
 
-pub values_up_to : (f : Form) (l : List Date) → IsSeries f → l ≡ f.values → AreUpTo greatest_value_ahead l
-values_up_to f l h e = subst (λ (z : List Date). AreUpTo greatest_value_ahead z) (sym e) (all_more greatest_value greatest_value_ahead f.values (omega arith) h.small.values)
-
 pub splits_up_to : (s t : ℕ → Date) (p k n m : ℕ) (l : List Date) → l ≡ table (product_from s t p) k → ((i j : ℕ) → i + j < k → IsMagnitudeUpTo n (date_product (s i) (t j))) → n ≤ m → AreUpTo m l
 splits_up_to s t p k n m l e low w = all_up_to m (product_from s t p) k l e (λ i u.
     up_to_more n m (product_from s t p i) w (greatest_from_up_to (split_of s t i) p (suc i - p) n (λ j v. low (p + j) (i - (p + j)) (omega arith))))
-
--- the sums in the tail of a series
-pub tails_up_to : (f : Form) (m l : List Date) (k : ℕ) → IsSeries f → AreUpTo greatest_value_ahead m → k ≤ 20001 → l ≡ table (tail_product f (value_listed m)) k → AreUpTo greatest_moderate l
-tails_up_to f m l k h low w e = splits_up_to (value_at f) (value_listed m) (repeat_start f) k (greatest_value_ahead + greatest_value_ahead) greatest_moderate l e
-    (λ i j u. added_up_to greatest_value_ahead greatest_value_ahead (value_at f i) (value_listed m j) (listed_up_to f h i (omega arith)) (low j)) (omega arith)
 
 -- ---- the table
 

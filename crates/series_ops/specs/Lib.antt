@@ -1,4 +1,5 @@
 pub mod Cells
+pub mod CoreSums
 pub mod Gains
 pub mod LeftPlans
 pub mod ListFunctions
@@ -7,6 +8,7 @@ pub mod Proved
 pub mod ElementRefusals
 pub mod Splits
 pub mod SplitsAt
+pub mod Strides
 pub use Rattle.dioid.specs as dioid
 pub use Rattle.series_laws.specs as series_laws
 pub use Rattle.series_form.specs as series_form

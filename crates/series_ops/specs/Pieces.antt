@@ -5,7 +5,7 @@ use Rattle.dioid.specs.declared.dates.Date.{Date}
 use Rattle.dioid.specs.declared.dates.Date.TheVariants.{Early}
 use Rattle.dioid.specs.Dates.{later_of, date_product, move}
 use Rattle.series_ops.specs.declared.pieces.Piece.{Piece}
-use Rattle.series_ops.specs.declared.pieces.Span.{Span}
+use Rattle.series_ops.specs.declared.splits.Span.{Span}
 use Rattle.series_form.specs.SeriesLimits.{greatest_value_ahead}
 use Rattle.series_laws.specs.SeriesForms.{table}
 use Rattle.series_ops.specs.ListFunctions.{value_listed, AreUpTo}

@@ -5,8 +5,8 @@ ghost use Rattle.series_ops.specs.ListFunctions.{value_listed};
 ghost use Rattle.series_ops.specs.Pieces.{window, IsPieceBegun, IsSpanOf};
 
 use crate::cells::{Cells, greatest_split};
-use crate::pieces::{Span, sums_in_few_pieces};
-use crate::splits::places;
+use crate::pieces::sums_in_few_pieces;
+use crate::splits::{Span, places};
 use dioid::Date;
 use std::alloc::{AllocError, Global};
 

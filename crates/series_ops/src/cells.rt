@@ -165,8 +165,13 @@ impl Cells {
         self.numbers.len()
     }
 
+    // How many places have another number than the place before.
+    pub(crate) fn jump_count(&self) -> usize {
+        self.jumps.len()
+    }
+
     // The date at a place, Early past them.
-    fn date(&self, place: usize) -> Date
+    pub(crate) fn date(&self, place: usize) -> Date
         ensures { result ≡ value_listed self.now place }
     {
         let numbers = self.numbers.as_slice();
@@ -216,18 +221,6 @@ pub(crate) fn dates_of(alloc: Global, cells: &Cells, size: usize) -> Result<Vec<
         dates.push(cells.date(place))?;
     }
     Ok(dates)
-}
-
-// The conjugates of the dates of a list.
-pub(crate) fn conjugates(alloc: Global, dates: &[Date]) -> Result<Cells, AllocError>
-    requires { AreUpTo greatest_listed dates.now }
-    ensures { IfOk result (λ cells. map conjugate_of cells ≡ dates.now) }
-{
-    let mut cells = Cells::new(alloc);
-    for place in 0..dates.len() {
-        cells.push(conjugate(dates[place]))?;
-    }
-    Ok(cells)
 }
 
 // The conjugates of the dates of a list, the last one first.

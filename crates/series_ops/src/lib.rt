@@ -24,12 +24,14 @@
 mod anchors;
 mod beginnings;
 mod cells;
+mod core_sums;
 mod gains;
 mod pieces;
 mod products;
 mod residuals;
 mod splits;
 mod stars;
+mod strides;
 mod tables;
 
 pub use gains::Gain;

@@ -8,25 +8,16 @@ ghost use Rattle.dioid.specs.Dates.{move};
 ghost use Rattle.series_laws.specs.Periodic.{times};
 ghost use Rattle.series_laws.specs.SeriesForms.{table};
 ghost use Rattle.series_form.specs.NumberBounds.{IsMagnitudeUpTo};
-ghost use Rattle.series_form.specs.SeriesLimits.{greatest_listed, greatest_value_ahead, greatest_moderate, greatest_part_product};
+ghost use Rattle.series_form.specs.SeriesLimits.{greatest_listed, greatest_value_ahead, greatest_value_far_ahead, greatest_moderate, greatest_part_product};
 ghost use Rattle.series_ops.specs.Pieces.{carried_at, joined_at, window, ArePieceSums, IsPiece, IsSpanOf, RepeatsIn};
 ghost use Rattle.series_ops.specs.ListFunctions.{value_listed, AreUpTo};
 
 use crate::anchors::many;
 use crate::cells::{Cells, dates_of};
-use crate::splits::added;
+use crate::splits::{Span, added};
 use crate::tables::repeated;
 use dioid::Date;
 use std::alloc::{AllocError, Global};
-
-// Places of a list one after another, which may go on by equal steps from one to the place `period`
-// later.
-#[derive(Clone, Copy)]
-pub(crate) struct Span {
-    pub from: usize,
-    pub count: usize,
-    pub period: usize,
-}
 
 // Places of a list one after another: `turns` times `size` of them, each turn a step above the one
 // before.
@@ -163,8 +154,8 @@ fn step_between(first: Date, second: Date) -> i128
 }
 
 // Whether the second date is the first, moved by a step.
-fn is_moved(first: Date, second: Date, step: i128) -> bool
-    requires first { IsMagnitudeUpTo greatest_value_ahead first }
+pub(crate) fn is_moved(first: Date, second: Date, step: i128) -> bool
+    requires first { IsMagnitudeUpTo greatest_value_far_ahead first }
     requires step { unsigned_abs step ≤ 40002000000000000000000 }
     ensures { result ≡ true → second ≡ move step first }
 {

@@ -1,5 +1,5 @@
 //! The product of two series.
-ghost use Rattle.std.specs.Prelude.{◌≡◌, ◌≤◌, ◌<◌, ◌+◌, ◌-◌, ◌*◌, IfOk, length, pos, ◌<ℤ◌, ◌-ℤ◌};
+ghost use Rattle.std.specs.Prelude.{◌≡◌, ◌≤◌, ◌<◌, ◌+◌, ◌-◌, ◌*◌, IfOk, pos, ◌<ℤ◌, ◌-ℤ◌};
 ghost use Rattle.std.specs.Int.RustNames.{unsigned_abs};
 ghost use Rattle.dioid.specs.declared.dates.Date.TheVariants.{Early, Never};
 ghost use Rattle.series_laws.specs.declared.plans.Slopes.TheVariants.{First};
@@ -9,14 +9,12 @@ ghost use Rattle.series_form.specs.NumberBounds.{IsSeries};
 ghost use Rattle.series_form.specs.SeriesAnswers.{AnswersOf, AnswersForm};
 ghost use Rattle.series_laws.specs.Needs.{need_of, period_with, rise_of, fall_of, tail_of, slopes_of};
 ghost use Rattle.series_laws.specs.Product.{product_at};
-ghost use Rattle.series_ops.specs.Splits.{tail_product};
 ghost use Rattle.series_laws.specs.ProductNeeds.{lifts_of, waits_of, product_first, product_by_slopes, product_plan, form_product};
-ghost use Rattle.series_form.specs.SeriesLimits.{greatest_value_ahead, most_covering_shifts, greatest_moderate, greatest_reach, most_waits};
-ghost use Rattle.series_ops.specs.ListFunctions.{IsNumberDate, value_listed, AreUpTo};
+ghost use Rattle.series_form.specs.SeriesLimits.{most_covering_shifts, greatest_moderate, greatest_reach, most_waits};
+ghost use Rattle.series_ops.specs.ListFunctions.{IsNumberDate};
 
-use crate::cells::{Cells, collected};
-use crate::pieces::{Span, sums_in_few_pieces};
-use crate::splits::{Tail, greatest_at};
+use crate::cells::collected;
+use crate::core_sums::CoreSums;
 use crate::tables::{ended, first_values};
 use dioid::Date;
 use series_form::{
@@ -132,63 +130,8 @@ fn plan_of_product(first: &Series, second: &Series) -> NeedPlan
     }
 }
 
-// The greatest sums whose first part is in the tail of the first series, at the first shifts.
-fn tail_list(
-    alloc: Global,
-    first: &Series,
-    parts: &Cells,
-    second: &Cells,
-    count: usize,
-) -> Result<Vec<Date>, AllocError>
-    requires parts { parts.now ≡ first.now.values }
-    requires short { count ≤ 20001 }
-    requires second { count ≤ length second.now }
-    requires second_bound { AreUpTo greatest_value_ahead second.now }
-    ensures { IfOk result (λ values. values.items ≡ table
-        (tail_product first.now (value_listed second.now)) count) }
-{
-    let tail = Tail::new(parts, first.period(), first.step());
-    let known = sums_in_few_pieces(alloc, parts, second, count, tail.span())?;
-    let mut tails = Vec::new(alloc);
-    for _shift in 0..count {
-        let next = tail.next_sum(second, tails.as_slice(), known.as_slice());
-        tails.push(next)?;
-    }
-    Ok(tails)
-}
-
-// The first values of the product of a series and a list, by the sums in the tail.
-fn product_list(
-    alloc: Global,
-    first: &Series,
-    parts: &Cells,
-    second: &Cells,
-    tails: &[Date],
-) -> Result<Vec<Date>, AllocError>
-    requires parts { parts.now ≡ first.now.values }
-    requires second { length tails.now ≤ length second.now }
-    requires tails { tails.now ≡ table (tail_product first.now (value_listed second.now))
-        (length tails.now) }
-    ensures { IfOk result (λ values. values.items ≡ table
-        (product_at (value_at first.now) (value_listed second.now)) (length tails.now)) }
-{
-    let span = Span {
-        from: 0,
-        count: start(first),
-        period: first.period(),
-    };
-    let known = sums_in_few_pieces(alloc, parts, second, tails.len(), span)?;
-    let known = known.as_slice();
-    let mut values = Vec::new(alloc);
-    for shift in 0..tails.len() {
-        let head = greatest_at(known, parts, second, span, shift);
-        values.push(head.later(tails[shift]))?;
-    }
-    Ok(values)
-}
-
-// The first values of the product, by the list of the first series. The work is their number times
-// the length of that list.
+// The first values of the product, by the core of the first series. The work is their number times
+// the places of that core, or its jumps where these are few.
 fn values_by_first(
     alloc: Global,
     first: &Series,
@@ -201,9 +144,8 @@ fn values_by_first(
 {
     let values = first_values(alloc, second, count)?;
     let seconds = collected(alloc, values.as_slice())?;
-    let parts = collected(alloc, first.values())?;
-    let tails = tail_list(alloc, first, &parts, &seconds, count)?;
-    product_list(alloc, first, &parts, &seconds, tails.as_slice())
+    let sums = CoreSums::new(alloc, first, seconds)?;
+    sums.values(alloc, count)
 }
 
 // The first values of the product, by the shorter list.

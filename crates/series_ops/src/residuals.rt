@@ -1,6 +1,5 @@
 //! The residual of one series by another.
-ghost use Rattle.std.specs.Prelude.{◌≡◌, ◌≤◌, ◌<◌, ◌+◌, ◌-◌, ℕ, IfOk, length, map};
-ghost use Rattle.std.specs.Int.RustNames.{unsigned_abs};
+ghost use Rattle.std.specs.Prelude.{◌≡◌, ◌≤◌, ◌<◌, ◌+◌, ◌-◌, ℕ, IfOk, length};
 ghost use Rattle.dioid.specs.declared.dates.Date.TheVariants.{Early};
 ghost use Rattle.dioid.specs.Dates.{date_left};
 ghost use Rattle.series_laws.specs.declared.plans.Slopes.TheVariants.{First};
@@ -10,14 +9,11 @@ ghost use Rattle.series_form.specs.SeriesAnswers.{AnswersOf, AnswersForm};
 ghost use Rattle.series_laws.specs.Needs.{need_of, tail_of};
 ghost use Rattle.series_laws.specs.Residual.{IsLeftAt};
 ghost use Rattle.series_laws.specs.ProductNeeds.{offsets_of, left_over, OffsetsDecide, residual_at, long_left, short_left, left_plan, form_left};
-ghost use Rattle.series_form.specs.SeriesLimits.{greatest_value, greatest_value_far_ahead, most_covering_shifts, greatest_listed};
-ghost use Rattle.series_ops.specs.Cells.{conjugate_of, conjugates_reversed};
+ghost use Rattle.series_form.specs.SeriesLimits.{most_covering_shifts, greatest_listed};
 ghost use Rattle.series_ops.specs.LeftPlans.{divided_forms};
-ghost use Rattle.series_ops.specs.ListFunctions.{AreEarlyTo, AreUpTo, star_left_listed, IsStarLeft};
 
-use crate::cells::{Cells, collected, conjugate, conjugates, conjugates_back};
-use crate::pieces::{Span, sums_in_few_pieces};
-use crate::splits::greatest_at;
+use crate::cells::{conjugate, conjugates_back};
+use crate::core_sums::CoreSums;
 use crate::tables::{ended, first_values, repeated};
 use dioid::Date;
 use series_form::{
@@ -92,76 +88,14 @@ fn subtracted(first: Date, second: Date) -> Date
     }
 }
 
-// One more value of the residual of a list by the star of the monomial of shift `turn` and date
-// `step`, from the values there are, which begin at the end of the list.
-fn next_by_star(list: &[Date], values: &[Date], turn: usize, step: i128) -> Date
-    requires place { length values.now < length list.now }
-    requires turn { 0 < turn }
-    requires step { unsigned_abs step ≤ greatest_value }
-    requires values { AreUpTo greatest_listed values.now }
-    ensures { result ≡ star_left_listed list.now values.now turn step (length values.now) }
-{
-    let date = list[list.len() - 1 - values.len()];
-    if values.len() < turn {
-        return date;
-    }
-    date.earlier(subtracted(Date::At(step), values[values.len() - turn]))
-}
-
-// The residual of a list by the star of the monomial of shift `turn` and date `step`, in reverse.
-fn left_by_star(
-    alloc: Global,
-    list: &[Date],
-    turn: usize,
-    step: i128,
-) -> Result<Vec<Date>, AllocError>
-    requires turn { 0 < turn }
-    requires step { unsigned_abs step ≤ greatest_value }
-    requires short { length list.now ≤ 60001 }
-    requires list { AreUpTo greatest_value_far_ahead list.now }
-    ensures { IfOk result (λ values. IsStarLeft list.now values.items turn step) }
-{
-    let mut values = Vec::new(alloc);
-    for _place in 0..list.len() {
-        let next = next_by_star(list, values.as_slice(), turn, step);
-        values.push(next)?;
-    }
-    Ok(values)
-}
-
-// How many of the first `most` places of a list come before one that is not Early.
-fn places_begun(list: &[Date], most: usize) -> usize
-    requires { most ≤ length list.now }
-    ensures within { result ≤ most }
-    ensures early { AreEarlyTo result list.now }
-{
-    for place in 0..most {
-        if list[place] != Date::Early {
-            return place;
-        }
-    }
-    most
-}
-
-// The plan of a residual where the offsets decide. From its start on the first series is its last
-// period times the star of the monomial of that period and its step, and the residual by a product
-// is that by one factor of the residual by the other: so the places of its list are enough.
-//
-// A residual is the conjugate of the sum with the conjugate, so that it is found by greatest sums:
-// with the first values of the second series for the places below the start of the first, and with
-// their residual by that star for the others, both conjugated and in reverse. The places where the
-// first list is still Early bound nothing, and are passed over. Contracts see the two series.
+// The plan of a residual where the offsets decide. A residual is the conjugate of the sum with the
+// conjugate: so it is found by the greatest sums of the first series with the first values of the
+// second, conjugated and in reverse. Contracts see the two series.
 #[derive(Drop)]
 struct LeftPlan<'a> {
-    first: &'a Series,
     second: &'a Series,
-    parts: Cells,
-    list: Cells,
-    by_star: Cells,
-    below: Span,
-    others: Span,
-    head: Vec<Date>,
-    rest: Vec<Date>,
+    sums: CoreSums<'a>,
+    size: usize,
 }
 
 impl<'a> Model for LeftPlan<'a> {
@@ -169,61 +103,25 @@ impl<'a> Model for LeftPlan<'a> {
 
     ghost Value = { DividedForms };
 
-    ghost view = { λ p. divided_forms p.first.now p.second.now };
+    ghost view = { λ p. divided_forms p.sums.form p.second.now };
 
-    ghost invariant = { λ p. IsLeftPlan p.first.now p.second.now p.parts p.list p.by_star p.below
-        p.others
-        p.head.items
-        p.rest.items };
+    ghost invariant = { λ p. IsLeftPlan p.sums p.second.now p.size };
 }
 
 impl<'a> LeftPlan<'a> {
-    // The plan by the first values of the second series and their residual by the star, both
-    // conjugated and in reverse. The work grows with the product of the length of the second list
-    // and the places from the first number of the first list on.
-    fn new(
-        alloc: Global,
-        first: &'a Series,
-        second: &'a Series,
-        list: Cells,
-        by_star: Cells,
-    ) -> Result<LeftPlan<'a>, AllocError>
+    // The plan of two series. The work of a value grows with the places of the core of the first
+    // series, or with its jumps where these are few.
+    fn new(alloc: Global, first: &'a Series, second: &'a Series) -> Result<LeftPlan<'a>, AllocError>
         requires decide { OffsetsDecide first.now second.now }
         requires few { offsets_of first.now second.now ≤ 40000 }
-        requires list { conjugates_reversed list ≡ table (value_at second.now) (size_of second.now
-            + offsets_of first.now second.now) }
-        requires by_star { IsStarLeft (conjugates_reversed list) (map conjugate_of by_star)
-            first.now.period
-            first.now.step }
         ensures { IfOk result (λ plan. plan ≡ divided_forms first.now second.now) }
     {
-        let parts = collected(alloc, first.values())?;
-        let (from, period) = (start(first), first.period());
-        let begun = places_begun(first.values(), from);
-        let below = Span {
-            from: begun,
-            count: from - begun,
-            period,
-        };
-        let others = Span {
-            from,
-            count: period,
-            period,
-        };
-        let head = sums_in_few_pieces(alloc, &parts, &list, list.len(), below)?;
-        let rest = sums_in_few_pieces(alloc, &parts, &by_star, by_star.len(), others)?;
-        let _series = second.period();
-        Ok(LeftPlan {
-            first,
-            second,
-            parts,
-            list,
-            by_star,
-            below,
-            others,
-            head,
-            rest,
-        })
+        let size = second.values().len() + offsets(first, second);
+        let list = first_values(alloc, second, size)?;
+        let ends = conjugates_back(alloc, list.as_slice())?;
+        let sums = CoreSums::new(alloc, first, ends)?;
+        let _series = first.period();
+        Ok(LeftPlan { second, sums, size })
     }
 
     // The residual at a shift of the second list.
@@ -231,13 +129,7 @@ impl<'a> LeftPlan<'a> {
         requires { shift < size_of self.now.second }
         ensures { result ≡ left_over self.now.first self.now.second shift }
     {
-        let last = self.list.len() - 1 - shift;
-        let known = self.head.as_slice();
-        let head = greatest_at(known, &self.parts, &self.list, self.below, last);
-        let last = self.by_star.len() - 1 - shift;
-        let known = self.rest.as_slice();
-        let rest = greatest_at(known, &self.parts, &self.by_star, self.others, last);
-        conjugate(head.later(rest))
+        conjugate(self.sums.at(self.size - 1 - shift))
     }
 
     // One more value: past the list of the second series by its period.
@@ -282,12 +174,7 @@ fn values_by_offsets(
     requires count { count ≤ 20001 }
     ensures { IfOk result (λ values. values.items ≡ table (left_over first.now second.now) count) }
 {
-    let size = second.values().len() + offsets(first, second);
-    let list = first_values(alloc, second, size)?;
-    let by_star = left_by_star(alloc, list.as_slice(), first.period(), first.step())?;
-    let ends = conjugates_back(alloc, list.as_slice())?;
-    let ends_by_star = conjugates(alloc, by_star.as_slice())?;
-    let plan = LeftPlan::new(alloc, first, second, ends, ends_by_star)?;
+    let plan = LeftPlan::new(alloc, first, second)?;
     plan.values(alloc, count)
 }
 

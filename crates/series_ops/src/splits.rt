@@ -10,9 +10,17 @@ ghost use Rattle.series_ops.specs.Splits.{places_to, tail_product, IsTailed};
 ghost use Rattle.series_ops.specs.ListFunctions.{value_listed, AreUpTo};
 
 use crate::cells::{Cells, greatest_split};
-use crate::pieces::Span;
 use dioid::Date;
 use std::marker::Model;
+
+// Places of a list one after another, which may go on by equal steps from one to the place `period`
+// later.
+#[derive(Clone, Copy)]
+pub(crate) struct Span {
+    pub from: usize,
+    pub count: usize,
+    pub period: usize,
+}
 
 // The two dates added.
 pub(crate) fn added(first: Date, second: Date) -> Date

@@ -17,8 +17,7 @@ ghost use Rattle.series_form.specs.SeriesLimits.{greatest_value_ahead, greatest_
 use crate::anchors::plan_of_parts;
 use crate::beginnings::{greatest_begun, nothing_begun, renewed};
 use crate::cells::Cells;
-use crate::pieces::Span;
-use crate::splits::Tail;
+use crate::splits::{Span, Tail};
 use crate::tables::ended;
 use dioid::Date;
 use series_form::{

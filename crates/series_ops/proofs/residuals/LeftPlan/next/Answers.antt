@@ -9,7 +9,7 @@ use Rattle.series_ops.proofs.residuals.LeftPlan.next.Goals as goal
 pub subtracted-requires-clause-second : goal.subtracted-requires-clause-second
 subtracted-requires-clause-second c =
     let h = c.self.invariant in
-    let f = c.self.inside.first.now in
+    let f = c.self.inside.sums.form in
     let g = c.self.inside.second.now in
     let count = c.requires.count in
     let values : c.args.values.now ≡ table (left_over f g) (length c.args.values.now) = rw (← c.self.view_is) at c.requires.values in
@@ -19,7 +19,7 @@ subtracted-requires-clause-second c =
 pub returns : goal.returns
 returns c =
     let h = c.self.invariant in
-    let f = c.self.inside.first.now in
+    let f = c.self.inside.sums.form in
     let g = c.self.inside.second.now in
     let values : c.args.values.now ≡ table (left_over f g) (length c.args.values.now) = rw (← c.self.view_is) at c.requires.values in
     let second : length c.values.result.now ≡ size_of g = ap length c.values.ensures.value in
