@@ -4,7 +4,7 @@ ghost use Rattle.teg_net.specs.Circuits.{AreInRange};
 ghost use Rattle.teg_text.specs.Lines.{line_then};
 ghost use Rattle.teg_text.specs.WordsOfNames.{circuit_line, settled_words};
 ghost use Rattle.delay_laws.specs.TightCircuits.{IsTightCircuit};
-ghost use Rattle.dating_check.specs.ShownDelays.{IsShownKept, KeepsEachDelay};
+ghost use Rattle.dating_check.specs.ShownDelays.{IsShownKept, KeepsEachDelay, TellsKept};
 
 use crate::settled_reading::first_in;
 use delay_laws::{shows_kept, tight_circuits_keep_delays};
@@ -67,6 +67,23 @@ fn told(
     Ok(text)
 }
 
+// Whether the text begins with the lines of delays that this circuit keeps.
+fn tells_kept(
+    alloc: Global,
+    net: &Net,
+    text: &str,
+    after: u64,
+    turn: u64,
+    circuit: &Circuit,
+) -> Result<bool, AllocError>
+    requires { AreInRange net.now circuit.now.places.items }
+    ensures { IfOk result (λ yes. IsTrue yes
+        → TellsKept net.now text.now circuit.now.places.items) }
+{
+    let lines = told(alloc, net, after, turn, circuit)?;
+    Ok(begins_with(text, lines.as_str()))
+}
+
 /// The circuit that the text of `teg timetable` tells for delays that are kept, where it is shown
 /// to keep them under a timetable of this period, in the user's unit (chapters 2 and 3): it takes
 /// just the time that the timetable gives it. So whatever is delayed, where the timetable leaves
@@ -89,10 +106,8 @@ pub fn shown_kept(
     if !is_circuit(net, &circuit.places) || !keeps_delays(net, period, &circuit.places) {
         return Ok(None);
     }
-    let lines = told(alloc, net, after, turn, &circuit)?;
-    if begins_with(text, lines.as_str()) {
-        Ok(Some(circuit))
-    } else {
-        Ok(None)
+    if !tells_kept(alloc, net, text, after, turn, &circuit)? {
+        return Ok(None);
     }
+    Ok(Some(circuit))
 }
