@@ -1,2 +1,1 @@
 mod Bounding
-mod FormLines

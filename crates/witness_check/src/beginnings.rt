@@ -1,10 +1,10 @@
 //! How texts begin.
-ghost use Rattle.std.specs.Prelude.{IsTrue};
+ghost use Rattle.std.specs.Prelude.{◌↔◌, IsTrue};
 ghost use Rattle.witness_check.specs.Witnesses.{BeginsWith};
 
-// Whether the text begins so.
-pub(crate) fn begins_with(text: &str, first: &str) -> bool
-    ensures { IsTrue result → BeginsWith text.now first.now }
+/// Whether the text begins so. It takes no memory.
+pub fn begins_with(text: &str, first: &str) -> bool
+    ensures { IsTrue result ↔ BeginsWith text.now first.now }
 {
     text.strip_prefix(first).is_some()
 }

@@ -1,13 +1,20 @@
 //! Places and numbers by the words of a line. Nothing rests on them: what is read is checked.
+ghost use Rattle.std.specs.Prelude.{◌≡◌, IfOk, IfSome};
+ghost use Rattle.teg_net.specs.Circuits.{AreInRange};
+
 use std::alloc::{AllocError, Global};
 use teg_net::{Net, PlaceId, Ratio};
 
-// The places of these names, in order; none where one of the words names no place.
-pub(crate) fn places_named(
+/// The places of the net that the words name, in order; none where a word names no place. Which
+/// they are nothing rests on: who reads a text so looks at them, and prints their names anew.
+/// `AllocError` comes only where no memory is found.
+pub fn places_named(
     alloc: Global,
     net: &Net,
     words: &str,
-) -> Result<Option<Vec<PlaceId>>, AllocError> {
+) -> Result<Option<Vec<PlaceId>>, AllocError>
+    ensures { IfOk result (λ found. IfSome found (λ places. AreInRange net.now places.items)) }
+{
     let mut places = Vec::new(alloc);
     for word in words.split_whitespace() {
         match net.find_place(word) {

@@ -110,8 +110,12 @@ impl Reading {
     }
 }
 
-/// The answer that the text of `teg cycle` tells; none where a line is none of its lines.
-pub fn answer_in(alloc: Global, net: &Net, text: &str) -> Result<Option<CycleAnswer>, AllocError> {
+// The answer that the text of `teg cycle` tells; none where a line is none of its lines.
+pub(crate) fn answer_in(
+    alloc: Global,
+    net: &Net,
+    text: &str,
+) -> Result<Option<CycleAnswer>, AllocError> {
     let mut reading = Reading {
         part_of: vec![in alloc; 0u32; net.transitions().len()]?,
         parts: Vec::new(alloc),

@@ -1,7 +1,7 @@
 //! Delays that a timetable keeps.
+use dating_check::shown_kept;
 use std::alloc::Global;
 use teg_reader::read_net;
-use witness_check::shown_kept;
 
 const RAILWAY: &str =
     "transition = [{ name = \"North\" }, { name = \"Centre>North\" }, { name = \"Centre>South\" }, { name = \"South\" }]

@@ -1,4 +1,4 @@
-//! Examples of `witness_check`: texts of the guide that show their dates, latest dates and delays
+//! Examples of `dating_check`: texts of the guide that show their dates, latest dates and delays
 //! that stay, and the same texts with a digit changed, which show nothing. The crate has tests
 //! alone; those of the other answers stand in `library_examples`.
 #![tactic(auto)]

@@ -1,7 +1,7 @@
 //! Texts of settled dates.
+use dating_check::shown_settled;
 use std::alloc::Global;
 use teg_reader::read_net;
-use witness_check::shown_settled;
 
 const KANBAN: &str = "transition = [{ name = \"m1\" }, { name = \"m2\" }, { name = \"m3\" }]
 place = [

@@ -1,8 +1,8 @@
 //! The table of latest dates.
+use dating_check::shown_table;
 use std::alloc::Global;
 use teg_due::read_due;
 use teg_reader::read_net;
-use witness_check::shown_table;
 
 const SHOP: &str =
     "transition = [{ name = \"material\", role = \"input\" }, { name = \"saw\" }, { name = \"drill\" }, { name = \"ship\" }]

@@ -1,11 +1,9 @@
 //! The lines of an answer that claim something, each with whether the answer shows it.
+use dating_check::{shown_kept, shown_settled, shown_table};
 use std::alloc::Global;
 use teg_due::{Due, DueRow};
 use teg_net::{Net, OutOfMemory};
-use witness_check::{
-    shown_kept, shown_late, shown_latest, shown_pace, shown_settled, shown_size, shown_table,
-    shows_deadlock, shows_live,
-};
+use witness_check::{shown_late, shown_latest, shown_pace, shown_size, shows_deadlock, shows_live};
 
 /// A line of an answer, and whether the answer shows it.
 #[derive(Clone, Copy, Debug)]

@@ -1,0 +1,3 @@
+pub mod ShownForms
+pub mod ShownTables
+pub mod ShownDelays

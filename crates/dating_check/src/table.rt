@@ -1,0 +1,189 @@
+//! The witness of all lines of `teg jit`: the table of latest dates itself.
+ghost use Rattle.std.specs.Prelude.{◌≡◌, ◌+◌, ◌*◌, ◌<◌, ◌≤◌, ◌++◌, [], All, IfOk, IfSome, IsTrue, length, string_bytes};
+ghost use Rattle.teg_text.specs.Lines.{further_then, line_then, written};
+ghost use Rattle.dating_check.specs.ShownTables.{IsShownTable, IsWayIn, firing_line, firing_lines, role_told, table_told_lines, way_words};
+
+use crate::table_reading::table_in;
+use dating_certificates::check_latest;
+use dioid::Date;
+use std::alloc::{AllocError, Global};
+use teg_due::{Due, is_due_of};
+use teg_net::{Net, OutOfMemory, Role, Step};
+
+// How lines of a transition begin.
+fn role_told(role: Role) -> &'static str
+    ensures { result.now ≡ role_told role }
+{
+    match role {
+        Role::Input => "input",
+        Role::Internal | Role::Output => "latest",
+    }
+}
+
+// Whether a place that the step names is one of the net.
+fn is_way_in(net: &Net, way: Option<Step>) -> bool
+    ensures { IsTrue result → IsWayIn net.now way }
+{
+    match way {
+        None | Some(Step::Next) => true,
+        Some(Step::By(place)) => net.contains_place(place),
+    }
+}
+
+// Whether the places that the steps name are those of the net.
+fn are_ways_in(net: &Net, ways: &[Option<Step>]) -> bool
+    ensures { IsTrue result → All (IsWayIn net.now) ways.now }
+{
+    ways.iter().all(|way| is_way_in(net, *way))
+}
+
+// Whether the table has a date and a step for each number and transition.
+fn is_whole(net: &Net, numbers: u32, dates: &[Date], ways: &[Option<Step>]) -> bool
+    ensures dates { IsTrue result → numbers * length net.now.transitions ≤ length dates.now }
+    ensures ways { IsTrue result → numbers * length net.now.transitions ≤ length ways.now }
+{
+    match (numbers as usize).checked_mul(net.transitions().len()) {
+        Some(cells) => cells <= dates.len() && cells <= ways.len(),
+        None => false,
+    }
+}
+
+// Ends a line with how a latest date is attained.
+fn end_way(text: &mut String, net: &Net, way: Option<Step>) -> Result<(), AllocError>
+    requires { IsWayIn net.now way }
+    ensures { IfOk result (λ _. string_bytes text.new ≡
+        string_bytes text.old ++ further_then (way_words net.now way) []) }
+{
+    match way {
+        None => text.push_str(" due\n"),
+        Some(Step::Next) => text.push_str(" next\n"),
+        Some(Step::By(id)) => {
+            let place = net.places()[id.index as usize].name.as_str();
+            write!(text, " by {place}\n")
+        }
+    }
+}
+
+// Appends the line of a firing of the transition of this number, by its date and its step.
+fn push_firing(
+    text: &mut String,
+    net: &Net,
+    index: usize,
+    number: u32,
+    cell: (Date, Option<Step>),
+) -> Result<(), AllocError>
+    requires index { index < length net.now.transitions }
+    requires way { IsWayIn net.now cell.1 }
+    ensures { IfOk result (λ _. string_bytes text.new ≡
+        string_bytes text.old ++ line_then (firing_line net.now index number cell.0 cell.1) []) }
+{
+    let transition = &net.transitions()[index];
+    let name = transition.name.as_str();
+    let word = role_told(transition.role);
+    match cell.0 {
+        Date::Never => write!(text, "{word} {name} {number} free\n"),
+        Date::Early => {
+            write!(text, "{word} {name} {number} epsilon")?;
+            end_way(text, net, cell.1)
+        }
+        Date::At(date) => {
+            write!(text, "{word} {name} {number} {date}")?;
+            end_way(text, net, cell.1)
+        }
+    }
+}
+
+// Rows of dates and steps up to a number, each of this width.
+#[derive(Clone, Copy)]
+struct TableRows<'t> {
+    numbers: u32,
+    width: usize,
+    dates: &'t [Date],
+    ways: &'t [Option<Step>],
+}
+
+// Appends the lines of the transition of this number.
+fn push_firings(
+    text: &mut String,
+    net: &Net,
+    rows: TableRows<'_>,
+    index: usize,
+) -> Result<(), AllocError>
+    requires index { index < length net.now.transitions }
+    requires width { rows.width ≡ length net.now.transitions }
+    requires dates { rows.numbers * rows.width ≤ length rows.dates.now }
+    requires ways { rows.numbers * rows.width ≤ length rows.ways.now }
+    requires in_net { All (IsWayIn net.now) rows.ways.now }
+    ensures { IfOk result (λ _. string_bytes text.new ≡ string_bytes text.old ++ written
+        (firing_lines net.now rows.entry.width rows.entry.numbers rows.entry.dates.now
+        rows.entry.ways.now index)) }
+{
+    for before in 0..rows.numbers {
+        let at = before as usize * rows.width + index;
+        push_firing(
+            text,
+            net,
+            index,
+            before + 1,
+            (rows.dates[at], rows.ways[at]),
+        )?;
+    }
+    Ok(())
+}
+
+// The lines of the table.
+fn lines_of(alloc: Global, net: &Net, rows: TableRows<'_>) -> Result<String, AllocError>
+    requires width { rows.width ≡ length net.now.transitions }
+    requires dates { rows.numbers * rows.width ≤ length rows.dates.now }
+    requires ways { rows.numbers * rows.width ≤ length rows.ways.now }
+    requires in_net { All (IsWayIn net.now) rows.ways.now }
+    ensures { IfOk result (λ text. string_bytes text ≡ written (table_told_lines net.now
+        rows.entry.width rows.entry.numbers rows.entry.dates.now rows.entry.ways.now)) }
+{
+    let numbers = rows.numbers;
+    let mut text = format!(in alloc; "latest inputs for {numbers} firings\n")?;
+    for index in 0..net.transitions().len() {
+        push_firings(&mut text, net, rows, index)?;
+    }
+    Ok(text)
+}
+
+/// The number of firings that the text of `teg jit` tells, where its dates are shown to be the
+/// latest of a live net for these due dates (chapter 5): up to that number the date of each line is
+/// that of its firing, a firing that is `free` has none, and past it all firings are free. The
+/// whole text is looked at, but not whether a walk leads on by the step that a line names, as
+/// [`shown_latest`](witness_check::shown_latest) does. No rows that are no due list of the net show
+/// anything. It takes memory for the dates, the steps and the text, and time of their order with
+/// the places and the due dates. `OutOfMemory` comes only where no memory is found.
+pub fn shown_table(
+    alloc: Global,
+    net: &Net,
+    due: &Due,
+    text: &str,
+) -> Result<Option<u32>, OutOfMemory>
+    ensures { IfOk result (λ shown. IfSome shown
+        (IsShownTable net.now due.now.rows.items text.now)) }
+{
+    let Some(told) = table_in(alloc, net, text)? else {
+        return Ok(None);
+    };
+    let (dates, ways) = (told.dates.as_slice(), told.ways.as_slice());
+    let numbers = told.numbers;
+    if !is_whole(net, numbers, dates, ways) || !are_ways_in(net, ways) || !is_due_of(net, due) {
+        return Ok(None);
+    }
+    if !check_latest(alloc, net, due, numbers, dates)? {
+        return Ok(None);
+    }
+    let rows = TableRows {
+        numbers,
+        width: net.transitions().len(),
+        dates,
+        ways,
+    };
+    let lines = lines_of(alloc, net, rows)?;
+    if lines.as_str() != text {
+        return Ok(None);
+    }
+    Ok(Some(numbers))
+}
