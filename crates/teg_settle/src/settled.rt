@@ -88,7 +88,6 @@ fn add_dates(
 // The same of each transition.
 fn add_all(table: &mut [Vec<Date>], rows: &Rows, shown: u64, count: u64) -> Result<(), AllocError>
     requires width { length table.old ≡ rows.now.width }
-    requires small { rows.now.width ≤ most_transitions }
     requires fewer { shown ≤ count }
     requires few { count ≤ rows.now.count }
     requires shown { (t : ℕ) → t < rows.now.width
@@ -97,6 +96,8 @@ fn add_all(table: &mut [Vec<Date>], rows: &Rows, shown: u64, count: u64) -> Resu
     ensures shown { OnOk result ((t : ℕ) → t < rows.now.width
         → AreShownDates rows.now t count (slice_index_or (map (λ r. r.items) table.new) t [])) }
 {
+    // The rows keep their limits.
+    let _count = rows.count();
     for index in 0..table.len() {
         let id = TransitionId {
             index: index as u32,
