@@ -1,3 +1,5 @@
 pub mod PeriodicBounds
 pub mod Readings
 pub mod BoundTexts
+pub mod MadeRows
+pub mod ReturningRows

@@ -4,6 +4,7 @@ pub mod ShownForms
 pub mod LimitRefusals
 pub mod InitialReleases
 pub mod ComparedRows
+pub mod Asked
 pub mod Witnesses
 pub mod ShortestForms
 pub mod Copies

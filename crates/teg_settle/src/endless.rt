@@ -1,16 +1,17 @@
 //! The search for the settled form without a limit.
-ghost use Rattle.std.specs.Prelude.{◌≡◌, ◌≤◌, ℕ, IfOk};
+ghost use Rattle.std.specs.Prelude.{◌≡◌, ℕ, IfOk};
 ghost use Rattle.periodic_laws.specs.settled_laws.SettledForms.{IsSettledFormOf};
 ghost use Rattle.teg_check.specs.Ranks.{IsRanking};
+ghost use Rattle.teg_settle.specs.Asked.{IsAsked};
 ghost use Rattle.teg_settle.specs.Endless.{HasFormBy};
 ghost use Rattle.teg_settle.specs.InitialReleases.{AreWaits, wait_of};
 ghost use Rattle.teg_settle.specs.ShortestForms.{IsFound};
 ghost use Rattle.teg_settle.specs.SlopesOfNets.{HasSlopes};
 ghost use Rattle.teg_settle.specs.Spans.{AreSpans};
-ghost use Rattle.teg_settle.specs.ComparedRows.{IsReady};
 
+use crate::asked::{Asked, ready_tokens};
 use crate::releases::{Releases, Tokens};
-use crate::search::{Found, MOST_ROWS, dates_of, form_of, grow, ready_tokens, seen};
+use crate::search::{Found, MOST_ROWS, dates_of, form_of, grow, seen};
 use crate::settled::Settled;
 use crate::shown::SettledDates;
 use periodic_laws::least_datings_repeat;
@@ -21,26 +22,19 @@ use teg_net::{Net, OutOfMemory};
 
 // Rows that show the shortest form, where a form is known to be: they are doubled until they show
 // one.
-fn endless(
-    alloc: Global,
-    net: &Net,
-    live: &Live,
-    releases: &Releases,
-    most: u64,
-) -> Result<Found, OutOfMemory>
+fn endless(alloc: Global, asked: &Asked<'_>) -> Result<Found, OutOfMemory>
     ghost enough: { ℕ }
-    requires stands { IsRanking net.now live.now }
-    requires ready { IsReady net.now releases.now most }
-    requires tokens { most ≤ 1000 }
-    requires exists { HasFormBy net.now releases.now most enough }
-    ensures { IfOk result (IsFound net.now releases.now) }
+    requires asked { IsAsked asked.now.net.now asked.now.live.now asked.now.releases.now
+        asked.now.most }
+    requires exists { HasFormBy asked.now.net.now asked.now.releases.now asked.now.most enough }
+    ensures { IfOk result (IsFound asked.now.net.now asked.now.releases.now) }
 {
-    let order = PlaceOrder::new(alloc, net, live)?;
-    let mut rows = Rows::new(alloc, net);
-    let mut stage = most + 8;
+    let order = PlaceOrder::new(alloc, asked.net, asked.live)?;
+    let mut rows = Rows::new(alloc, asked.net);
+    let mut stage = asked.most + 8;
     'search: loop {
-        rows = grow(net, releases, &order, rows, stage)?;
-        match seen(net, releases, &rows, most) {
+        rows = grow(asked, &order, rows, stage)?;
+        match seen(asked, &rows) {
             Some(form) => return Ok(Found { rows, form }),
             None => {}
         }
@@ -61,7 +55,13 @@ fn found(alloc: Global, net: &Net, live: &Live, releases: &Releases) -> Result<F
 {
     least_datings_repeat();
     let most = ready_tokens(net, live, releases);
-    endless(alloc, net, live, releases, most)
+    let asked = Asked {
+        net,
+        live,
+        releases,
+        most,
+    };
+    endless(alloc, &asked)
 }
 
 /// The shortest settled form of the least dates of a live net, with its ready dates and its input

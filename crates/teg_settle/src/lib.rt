@@ -34,6 +34,8 @@
 //! ```
 #![tactic(auto)]
 
+mod asked;
+mod back;
 mod endless;
 mod laws;
 mod limited;

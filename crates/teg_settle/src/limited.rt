@@ -4,19 +4,19 @@ ghost use Rattle.periodic_laws.specs.settled_laws.SettledForms.{IsSettledFormOf,
 ghost use Rattle.teg_check.specs.Ranks.{IsRanking};
 ghost use Rattle.teg_net.specs.Nets.{IsInput};
 ghost use Rattle.teg_net.specs.Circuits.{IsLive};
+ghost use Rattle.teg_settle.specs.Asked.{IsAsked};
 ghost use Rattle.teg_settle.specs.Alone.{AloneSettlesPast, IsAloneForm};
 ghost use Rattle.teg_settle.specs.LimitRefusals.{IsRightSettleRefusal, greatest_limit};
-ghost use Rattle.teg_settle.specs.InitialReleases.{OnlyInputsWait};
 ghost use Rattle.teg_settle.specs.ShortestForms.{IsFound};
 ghost use Rattle.teg_settle.specs.SlopesOfNets.{HasSlopes};
-ghost use Rattle.teg_settle.specs.Spans.{AreSpans};
 ghost use Rattle.teg_settle.specs.Transfers.{IsTransferOf, TransferSettlesPast};
-ghost use Rattle.teg_settle.specs.ComparedRows.{IsLeastForm, IsReady, LeastSettlesPast};
+ghost use Rattle.teg_settle.specs.ComparedRows.{IsLeastForm, LeastSettlesPast};
 
+use crate::asked::{Asked, ready_tokens};
 use crate::reached::{Part, part_from};
 use crate::refusals::SettleRefusal;
 use crate::releases::Releases;
-use crate::search::{Found, dates_of, form_of, ready_tokens, search};
+use crate::search::{Found, dates_of, form_of, search};
 use crate::settled::Settled;
 use crate::shown::SettledDates;
 use std::alloc::Global;
@@ -26,26 +26,17 @@ use teg_net::{Net, OutOfMemory, TransitionId};
 // Rows that show the shortest form of the least dating of the net with these releases, if its
 // length is within the limit: rows of twice the limit and the tokens of a place show each form of
 // such a length.
-fn found_within(
-    alloc: Global,
-    net: &Net,
-    live: &Live,
-    releases: &Releases,
-    most: u64,
-    limit: u32,
-) -> Result<Found, SettleRefusal>
-    requires stands { IsRanking net.now live.now }
-    requires ready { IsReady net.now releases.now most }
-    requires tokens { most ≤ 1000 }
+fn found_within(alloc: Global, asked: &Asked<'_>, limit: u32) -> Result<Found, SettleRefusal>
+    requires asked { IsAsked asked.now.net.now asked.now.live.now asked.now.releases.now
+        asked.now.most }
     requires few { limit ≤ greatest_limit }
-    ensures found { IfOk result (IsFound net.now releases.now) }
+    ensures found { IfOk result (IsFound asked.now.net.now asked.now.releases.now) }
     ensures within { IfOk result (λ found. found.form.after + found.form.period ≤ limit) }
-    ensures too_long { IfErr result (IsRightSettleRefusal (LeastSettlesPast net.now releases.now
-        limit)
-        limit) }
+    ensures too_long { IfErr result (IsRightSettleRefusal (LeastSettlesPast asked.now.net.now
+        asked.now.releases.now limit) limit) }
 {
-    let last = 2 * u64::from(limit) + most;
-    let searched = search(alloc, net, live, releases, most, last)?;
+    let last = 2 * u64::from(limit) + asked.most;
+    let searched = search(alloc, asked, last)?;
     match searched.form {
         Some(form) => {
             if form.after + form.period > u64::from(limit) {
@@ -59,49 +50,31 @@ fn found_within(
 }
 
 // The form that they show.
-fn within(
-    alloc: Global,
-    net: &Net,
-    live: &Live,
-    releases: &Releases,
-    limit: u32,
-) -> Result<Settled, SettleRefusal>
-    requires stands { IsRanking net.now live.now }
-    requires waits { OnlyInputsWait net.now releases.now.waits.items }
-    requires spans { AreSpans net.now releases.now.spans.items }
+fn within(alloc: Global, asked: &Asked<'_>, limit: u32) -> Result<Settled, SettleRefusal>
+    requires asked { IsAsked asked.now.net.now asked.now.live.now asked.now.releases.now
+        asked.now.most }
     requires few { limit ≤ greatest_limit }
-    ensures form { IfOk result (IsLeastForm net.now releases.now) }
+    ensures form { IfOk result (IsLeastForm asked.now.net.now asked.now.releases.now) }
     ensures within { IfOk result (λ form. settled_length form ≤ limit) }
-    ensures too_long { IfErr result (IsRightSettleRefusal (LeastSettlesPast net.now releases.now
-        limit)
-        limit) }
+    ensures too_long { IfErr result (IsRightSettleRefusal (LeastSettlesPast asked.now.net.now
+        asked.now.releases.now limit) limit) }
 {
-    let most = ready_tokens(net, live, releases);
-    let found = found_within(alloc, net, live, releases, most, limit)?;
-    Ok(form_of(alloc, net, releases, &found)?)
+    let found = found_within(alloc, asked, limit)?;
+    Ok(form_of(alloc, asked.net, asked.releases, &found)?)
 }
 
 // The same form by its rows.
-fn dates_within(
-    alloc: Global,
-    net: &Net,
-    live: &Live,
-    releases: &Releases,
-    limit: u32,
-) -> Result<SettledDates, SettleRefusal>
-    requires stands { IsRanking net.now live.now }
-    requires waits { OnlyInputsWait net.now releases.now.waits.items }
-    requires spans { AreSpans net.now releases.now.spans.items }
+fn dates_within(alloc: Global, asked: &Asked<'_>, limit: u32) -> Result<SettledDates, SettleRefusal>
+    requires asked { IsAsked asked.now.net.now asked.now.live.now asked.now.releases.now
+        asked.now.most }
     requires few { limit ≤ greatest_limit }
-    ensures form { IfOk result (IsLeastForm net.now releases.now) }
+    ensures form { IfOk result (IsLeastForm asked.now.net.now asked.now.releases.now) }
     ensures within { IfOk result (λ form. settled_length form ≤ limit) }
-    ensures too_long { IfErr result (IsRightSettleRefusal (LeastSettlesPast net.now releases.now
-        limit)
-        limit) }
+    ensures too_long { IfErr result (IsRightSettleRefusal (LeastSettlesPast asked.now.net.now
+        asked.now.releases.now limit) limit) }
 {
-    let most = ready_tokens(net, live, releases);
-    let found = found_within(alloc, net, live, releases, most, limit)?;
-    Ok(dates_of(alloc, net, releases, found)?)
+    let found = found_within(alloc, asked, limit)?;
+    Ok(dates_of(alloc, asked.net, asked.releases, found)?)
 }
 
 /// The shortest settled form of the least dates of a live net, with its ready dates and its input
@@ -127,7 +100,14 @@ pub fn settle_within(
     ensures slopes { IfOk result (HasSlopes net.now) }
 {
     let releases = Releases::of_net(alloc, net)?;
-    within(alloc, net, live, &releases, limit)
+    let most = ready_tokens(net, live, &releases);
+    let asked = Asked {
+        net,
+        live,
+        releases: &releases,
+        most,
+    };
+    within(alloc, &asked, limit)
 }
 
 /// The form of [`settle_within`], for callers that ask for some of its dates: it keeps the rows of
@@ -145,7 +125,14 @@ pub fn settle_dates_within(
     ensures too_long { IfErr result (IsRightSettleRefusal (NetSettlesPast net.now limit) limit) }
 {
     let releases = Releases::of_net(alloc, net)?;
-    dates_within(alloc, net, live, &releases, limit)
+    let most = ready_tokens(net, live, &releases);
+    let asked = Asked {
+        net,
+        live,
+        releases: &releases,
+        most,
+    };
+    dates_within(alloc, &asked, limit)
 }
 
 // The same form of a live net without initial tokens in which this input alone is released.
@@ -166,7 +153,14 @@ fn settle_alone(
 {
     let live = ranks_of(alloc, net)?;
     let releases = Releases::of_input(alloc, net, input)?;
-    within(alloc, net, &live, &releases, limit)
+    let most = ready_tokens(net, &live, &releases);
+    let asked = Asked {
+        net,
+        live: &live,
+        releases: &releases,
+        most,
+    };
+    within(alloc, &asked, limit)
 }
 
 // The same form of the part of a net, by the new number of an input.

@@ -4,8 +4,9 @@ ghost use Rattle.teg_check.specs.Ranks.{IsRanking};
 ghost use Rattle.teg_net.specs.Limits.{greatest_firing_number};
 ghost use Rattle.teg_settle.specs.LeastDates.{IsLeastDate};
 
+use crate::asked::{Asked, ready_tokens};
 use crate::releases::Releases;
-use crate::search::{Found, MOST_ROWS, dates_of, ready_tokens, search};
+use crate::search::{Found, MOST_ROWS, dates_of, search};
 use dioid::Date;
 use std::alloc::Global;
 use teg_check::Live;
@@ -34,7 +35,13 @@ pub fn date_of(
 {
     let releases = Releases::of_net(alloc, net)?;
     let most = ready_tokens(net, live, &releases);
-    let searched = search(alloc, net, live, &releases, most, number.min(MOST_ROWS))?;
+    let asked = Asked {
+        net,
+        live,
+        releases: &releases,
+        most,
+    };
+    let searched = search(alloc, &asked, number.min(MOST_ROWS))?;
     let rows = searched.rows;
     match searched.form {
         Some(form) => {

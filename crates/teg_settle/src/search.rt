@@ -1,21 +1,18 @@
 //! The growing search for the shortest form: rows are made until they show one.
-ghost use Rattle.std.specs.Prelude.{◌≡◌, ◌+◌, ◌-◌, ◌<◌, ◌≤◌, All, IfOk, MatchOption, MatchResult, ℕ};
-ghost use Rattle.teg_net.specs.Nets.{IsNet};
-ghost use Rattle.teg_check.specs.Ranks.{IsRanking};
+ghost use Rattle.std.specs.Prelude.{◌≡◌, ◌+◌, ◌-◌, ◌<◌, ◌≤◌, IfOk, MatchOption, MatchResult, ℕ};
 ghost use Rattle.periodic_laws.specs.settled_laws.SettledForms.{settled_length};
 ghost use Rattle.teg_dates.specs.PlaceOrder.{OrdersPlaces};
-ghost use Rattle.teg_settle.specs.InitialReleases.{OnlyInputsWait};
+ghost use Rattle.teg_settle.specs.Asked.{IsAsked};
 ghost use Rattle.teg_settle.specs.ShortestForms.{IsFound, IsSearched};
-ghost use Rattle.teg_settle.specs.Spans.{AreSpans};
 ghost use Rattle.teg_settle.specs.ComparedRows.{AreRowsOf, IsLeastForm, IsReady, IsRefuted, IsSeen, IsSeenFrom, IsTrial, most_window};
 
+use crate::asked::Asked;
 use crate::releases::{Releases, Repetition};
 use crate::settled::Settled;
 use crate::shown::SettledDates;
 use crate::window::{FIRST_PAIRS, are_released_alike, is_rising, moved_past};
 use crate::witness::{PeriodTest, Witnesses};
 use std::alloc::Global;
-use teg_check::Live;
 use teg_dates::{PlaceOrder, Rows};
 use teg_net::{Net, OutOfMemory};
 
@@ -39,48 +36,48 @@ pub(crate) struct Searched {
 
 // The least number past which the dates go on in this period, if the rows are enough to see it.
 // What fails soonest is tested first: a few pairs of rows, then the lists, then all other pairs.
-fn seen_from(net: &Net, releases: &Releases, rows: &Rows, most: u64, period: u64) -> Option<u64>
-    requires { IsTrial net.now releases.now rows.now most period }
-    ensures { MatchOption result (IsRefuted net.now releases.now most rows.now.count period)
-        (IsSeenFrom net.now releases.now rows.now most period) }
+fn seen_from(asked: &Asked<'_>, rows: &Rows, period: u64) -> Option<u64>
+    requires { IsTrial asked.now.net.now asked.now.releases.now rows.now asked.now.most period }
+    ensures { MatchOption result (IsRefuted asked.now.net.now asked.now.releases.now asked.now.most
+        rows.now.count period) (IsSeenFrom asked.now.net.now asked.now.releases.now rows.now
+        asked.now.most period) }
 {
-    if !is_rising(net, rows, period) {
+    if !is_rising(asked.net, rows, period) {
         return None;
     }
-    let latest = rows.count() - most - period - period;
+    let latest = rows.count() - asked.most - period - period;
     let near = latest.max((rows.count() - period).saturating_sub(FIRST_PAIRS));
-    let first = moved_past(net, rows, period, near);
+    let first = moved_past(asked.net, rows, period, near);
     if first > near {
         return None;
     }
-    if !are_released_alike(net, releases, rows, period, latest) {
+    if !are_released_alike(asked.net, asked.releases, rows, period, latest) {
         return None;
     }
-    let after = moved_past(net, rows, period, 0);
+    let after = moved_past(asked.net, rows, period, 0);
     if after > latest { None } else { Some(after) }
 }
 
 // The number from which this period is seen, or the witnesses with what refutes it. Those that
 // there are come first, then another firing of their transitions, and then the tests.
 fn tried(
-    net: &Net,
-    releases: &Releases,
+    asked: &Asked<'_>,
     rows: &Rows,
-    most: u64,
     period: u64,
     witnesses: Witnesses,
 ) -> Result<u64, Witnesses>
-    requires { IsTrial net.now releases.now rows.now most period }
-    ensures { MatchResult result (IsSeenFrom net.now releases.now rows.now most period)
-        (λ _. IsRefuted net.now releases.now most rows.now.count period) }
+    requires { IsTrial asked.now.net.now asked.now.releases.now rows.now asked.now.most period }
+    ensures { MatchResult result (IsSeenFrom asked.now.net.now asked.now.releases.now rows.now
+        asked.now.most period) (λ _. IsRefuted asked.now.net.now asked.now.releases.now
+        asked.now.most rows.now.count period) }
 {
-    let latest = rows.count() - most - period - period;
-    let test = PeriodTest::new(net, releases, rows, period, latest);
+    let latest = rows.count() - asked.most - period - period;
+    let test = PeriodTest::new(asked.net, asked.releases, rows, period, latest);
     match witnesses.against(&test) {
         Some(more) => return Err(more),
         None => {}
     }
-    match seen_from(net, releases, rows, most, period) {
+    match seen_from(asked, rows, period) {
         Some(after) => Ok(after),
         None => Err(witnesses.joined(test.witness())),
     }
@@ -88,19 +85,20 @@ fn tried(
 
 // The least number and the least period by which the dates go on, if the rows are enough to see
 // them.
-pub(crate) fn seen(net: &Net, releases: &Releases, rows: &Rows, most: u64) -> Option<Repetition>
-    requires ready { IsReady net.now releases.now most }
-    requires rows { AreRowsOf net.now releases.now rows.now }
-    ensures { MatchOption result ((period : ℕ) → IsRefuted net.now releases.now most rows.now.count
-        period) (IsSeen net.now releases.now rows.now) }
+pub(crate) fn seen(asked: &Asked<'_>, rows: &Rows) -> Option<Repetition>
+    requires ready { IsReady asked.now.net.now asked.now.releases.now asked.now.most }
+    requires rows { AreRowsOf asked.now.net.now asked.now.releases.now rows.now }
+    ensures { MatchOption result ((period : ℕ) → IsRefuted asked.now.net.now asked.now.releases.now
+        asked.now.most rows.now.count period) (IsSeen asked.now.net.now asked.now.releases.now
+        rows.now) }
 {
     let count = rows.count();
-    if count < most {
+    if count < asked.most {
         return None;
     }
     let mut witnesses = Witnesses::nothing();
-    for period in 1..(count - most) / 2 + 1 {
-        match tried(net, releases, rows, most, period, witnesses) {
+    for period in 1..(count - asked.most) / 2 + 1 {
+        match tried(asked, rows, period, witnesses) {
             Ok(after) => return Some(Repetition { after, period }),
             Err(more) => {
                 witnesses = more;
@@ -112,74 +110,42 @@ pub(crate) fn seen(net: &Net, releases: &Releases, rows: &Rows, most: u64) -> Op
 
 // As many rows as asked, from fewer on.
 pub(crate) fn grow(
-    net: &Net,
-    releases: &Releases,
+    asked: &Asked<'_>,
     order: &PlaceOrder,
     rows: Rows,
     count: u64,
 ) -> Result<Rows, OutOfMemory>
-    requires rules { IsNet net.now }
-    requires order { OrdersPlaces net.now order.now }
-    requires rows { AreRowsOf net.now releases.now rows }
+    requires order { OrdersPlaces asked.now.net.now order.now }
+    requires rows { AreRowsOf asked.now.net.now asked.now.releases.now rows }
     requires more { rows.count ≤ count }
     requires few { count ≤ most_window }
-    ensures rows { IfOk result (AreRowsOf net.now releases.now) }
+    ensures rows { IfOk result (AreRowsOf asked.now.net.now asked.now.releases.now) }
     ensures count { IfOk result (λ rows. rows.count ≡ count) }
 {
+    // The net keeps its rules.
+    asked.net.rules();
     let mut rows = rows;
     for _number in rows.count()..count {
-        rows = rows.with_next_in_cells(net, order, releases)?;
+        rows = rows.with_next_in_cells(asked.net, order, asked.releases)?;
     }
     Ok(rows)
 }
 
-// The greatest number of tokens in a place, at least 1.
-fn most_tokens(net: &Net) -> u64
-    ensures some { 1 ≤ result }
-    ensures few { result ≤ 1000 }
-    ensures most { All (λ p. p.tokens ≤ result) net.now.places }
-    ensures rules { IsNet net.now }
-{
-    let mut most = 1;
-    for place in net.places() {
-        most = most.max(u64::from(place.tokens));
-    }
-    most
-}
-
-// The same number of a live net: with it the net and releases of its inputs are ready for a search.
-pub(crate) fn ready_tokens(net: &Net, _live: &Live, releases: &Releases) -> u64
-    requires stands { IsRanking net.now _live.now }
-    requires waits { OnlyInputsWait net.now releases.now.waits.items }
-    requires spans { AreSpans net.now releases.now.spans.items }
-    ensures ready { IsReady net.now releases.now result }
-    ensures few { result ≤ 1000 }
-{
-    most_tokens(net)
-}
-
 // Rows that show the shortest form, or `last` rows that show none: the rows are doubled until they
 // show one, so that it takes few more rows than the form needs.
-pub(crate) fn search(
-    alloc: Global,
-    net: &Net,
-    live: &Live,
-    releases: &Releases,
-    most: u64,
-    last: u64,
-) -> Result<Searched, OutOfMemory>
-    requires stands { IsRanking net.now live.now }
-    requires ready { IsReady net.now releases.now most }
-    requires tokens { most ≤ 1000 }
+pub(crate) fn search(alloc: Global, asked: &Asked<'_>, last: u64) -> Result<Searched, OutOfMemory>
+    requires asked { IsAsked asked.now.net.now asked.now.live.now asked.now.releases.now
+        asked.now.most }
     requires few { last ≤ most_window }
-    ensures { IfOk result (IsSearched net.now releases.now most last) }
+    ensures { IfOk result (IsSearched asked.now.net.now asked.now.releases.now asked.now.most
+        last) }
 {
-    let order = PlaceOrder::new(alloc, net, live)?;
-    let mut rows = Rows::new(alloc, net);
-    let mut stage = (most + 8).min(last);
+    let order = PlaceOrder::new(alloc, asked.net, asked.live)?;
+    let mut rows = Rows::new(alloc, asked.net);
+    let mut stage = (asked.most + 8).min(last);
     while rows.count() < last {
-        rows = grow(net, releases, &order, rows, stage)?;
-        match seen(net, releases, &rows, most) {
+        rows = grow(asked, &order, rows, stage)?;
+        match seen(asked, &rows) {
             Some(form) => {
                 let form = Some(form);
                 return Ok(Searched { rows, form });

@@ -10,9 +10,10 @@ ghost use Rattle.teg_settle.specs.Reached.{is_marked};
 ghost use Rattle.teg_settle.specs.Spread.{IsSpreadOut};
 ghost use Rattle.teg_settle.specs.ComparedRows.{IsToldBy};
 
+use crate::back::{back_from, moved};
 use crate::reached::is_marked;
 use crate::releases::Repetition;
-use crate::shown::steps_of;
+use crate::window::steps_of;
 use dioid::Date;
 use std::alloc::{AllocError, Global};
 use std::marker::Model;
@@ -44,40 +45,6 @@ impl Model for Settled {
 
     ghost invariant = { λ s. IsStored s.after s.period (map (λ r. r.items) s.rows.items)
         s.steps.items s.own.items };
-}
-
-// The number so many steps on.
-pub(crate) fn moved(number: i128, rounds: u64, step: i128) -> i128
-    requires product { FitsSigned w128 (pos rounds *ℤ step) }
-    requires sum { FitsSigned w128 (number +ℤ pos rounds *ℤ step) }
-    ensures { result ≡ number +ℤ pos rounds *ℤ step }
-{
-    let all = rounds as i128 * step;
-    number + all
-}
-
-// A number of a form's dates, and by how many periods it stands before another number.
-#[derive(Clone, Copy, Debug, Drop)]
-pub(crate) struct Back {
-    pub(crate) number: u64,
-    pub(crate) rounds: u64,
-}
-
-// The number among the last period of so many dates to which this many periods lead back.
-pub(crate) fn back_from(number: u64, settled: u64, period: u64) -> Back
-    requires some { 1 ≤ period }
-    requires long { period ≤ settled }
-    requires past { settled < number }
-    ensures rounds { result.rounds ≡ (number - settled - 1) / period + 1 }
-    ensures number { result.number ≡ number - result.rounds * period }
-    ensures first { 1 ≤ result.number }
-    ensures last { result.number ≤ settled }
-{
-    let rounds = (number - settled - 1) / period + 1;
-    Back {
-        number: number - rounds * period,
-        rounds,
-    }
 }
 
 // In how many numbers the dates of one transition after another are copied: so each part of the
@@ -121,7 +88,6 @@ fn add_dates(
 // The same of each transition.
 fn add_all(table: &mut [Vec<Date>], rows: &Rows, shown: u64, count: u64) -> Result<(), AllocError>
     requires width { length table.old ≡ rows.now.width }
-    requires small { rows.now.width ≤ most_transitions }
     requires fewer { shown ≤ count }
     requires few { count ≤ rows.now.count }
     requires shown { (t : ℕ) → t < rows.now.width
@@ -130,6 +96,8 @@ fn add_all(table: &mut [Vec<Date>], rows: &Rows, shown: u64, count: u64) -> Resu
     ensures shown { OnOk result ((t : ℕ) → t < rows.now.width
         → AreShownDates rows.now t count (slice_index_or (map (λ r. r.items) table.new) t [])) }
 {
+    // The rows keep their limits.
+    let _count = rows.count();
     for index in 0..table.len() {
         let id = TransitionId {
             index: index as u32,

@@ -7,9 +7,9 @@ ghost use Rattle.teg_settle.specs.Copies.{IsFormOf};
 ghost use Rattle.teg_settle.specs.KeptForms.{IsFormKept};
 ghost use Rattle.teg_settle.specs.ComparedRows.{IsToldBy, AreComparedRows, read_step};
 
+use crate::back::{back_from, moved};
 use crate::releases::Repetition;
-use crate::settled::{back_from, moved};
-use crate::window::step_in;
+use crate::window::steps_of;
 use dioid::Date;
 use std::alloc::{AllocError, Global};
 use std::marker::Model;
@@ -35,29 +35,6 @@ impl Model for SettledDates {
     ghost view = { λ s. shown_form s.rows s.form s.steps.items };
 
     ghost invariant = { λ s. IsShown s.rows s.form s.steps.items };
-}
-
-// The steps of the last period of the rows.
-pub(crate) fn steps_of(
-    alloc: Global,
-    net: &Net,
-    rows: &Rows,
-    period: u64,
-) -> Result<Vec<i128>, AllocError>
-    requires window { AreComparedRows net.now rows.now period }
-    ensures rules { IsNet net.now }
-    ensures count { IfOk result (λ steps. length steps.items ≡ length net.now.transitions) }
-    ensures each { IfOk result (λ steps. (t : ℕ) → t < length net.now.transitions
-        → slice_index_or steps.items t (pos 0) ≡ read_step rows.now period t) }
-{
-    let mut steps = Vec::new(alloc);
-    for index in 0..net.transitions().len() {
-        let id = TransitionId {
-            index: index as u32,
-        };
-        steps.push(step_in(net, rows, period, id))?;
-    }
-    Ok(steps)
 }
 
 impl SettledDates {

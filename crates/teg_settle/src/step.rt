@@ -6,8 +6,9 @@ ghost use Rattle.periodic_laws.specs.teg_model.Datings.{listed_releases, system_
 ghost use Rattle.teg_settle.specs.Steps.{AreOwnReleases, ShowsForm, ShowsNoForm, showing_rows};
 ghost use Rattle.teg_settle.specs.ComparedRows.{most_window};
 
+use crate::asked::{Asked, ready_tokens};
 use crate::releases::{Releases, Repetition};
-use crate::search::{ready_tokens, seen};
+use crate::search::seen;
 use periodic_laws::least_datings_repeat;
 use std::alloc::Global;
 use teg_check::Live;
@@ -42,5 +43,11 @@ pub fn shown_form(net: &Net, _live: &Live, releases: &Releases, rows: &Rows) -> 
     // The rows keep their limits.
     let _count = rows.count();
     let most = ready_tokens(net, _live, releases);
-    seen(net, releases, rows, most)
+    let asked = Asked {
+        net,
+        live: _live,
+        releases,
+        most,
+    };
+    seen(&asked, rows)
 }

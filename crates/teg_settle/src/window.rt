@@ -1,5 +1,6 @@
 //! Whether rows of dates show that the dates go on by a fixed step in each period.
-ghost use Rattle.std.specs.Prelude.{◌≡◌, ◌+◌, ◌<◌, ◌≤◌, ◌^◌, All, Decides, length};
+ghost use Rattle.std.specs.Prelude.{ℕ, ◌≡◌, ◌+◌, ◌<◌, ◌≤◌, ◌^◌, All, Decides, IfOk, length, pos, slice_index_or};
+ghost use Rattle.teg_net.specs.Nets.{IsNet};
 ghost use Rattle.dioid.specs.Dates.{move};
 ghost use Rattle.periodic_laws.specs.settled_laws.DateDifferences.{between};
 ghost use Rattle.periodic_laws.specs.teg_model.DateBounds.{IsDateWithin};
@@ -9,6 +10,7 @@ ghost use Rattle.teg_settle.specs.Spans.{AreSpans};
 
 use crate::releases::{Releases, Repetition};
 use dioid::Date;
+use std::alloc::{AllocError, Global};
 use teg_dates::Rows;
 use teg_net::{Net, Place, TransitionId};
 
@@ -52,6 +54,29 @@ pub(crate) fn step_in(net: &Net, rows: &Rows, period: u64, transition: Transitio
         rows.date(transition, last - period),
         rows.date(transition, last),
     )
+}
+
+// The steps of the last period of the rows.
+pub(crate) fn steps_of(
+    alloc: Global,
+    net: &Net,
+    rows: &Rows,
+    period: u64,
+) -> Result<Vec<i128>, AllocError>
+    requires window { AreComparedRows net.now rows.now period }
+    ensures rules { IsNet net.now }
+    ensures count { IfOk result (λ steps. length steps.items ≡ length net.now.transitions) }
+    ensures each { IfOk result (λ steps. (t : ℕ) → t < length net.now.transitions
+        → slice_index_or steps.items t (pos 0) ≡ read_step rows.now period t) }
+{
+    let mut steps = Vec::new(alloc);
+    for index in 0..net.transitions().len() {
+        let id = TransitionId {
+            index: index as u32,
+        };
+        steps.push(step_in(net, rows, period, id))?;
+    }
+    Ok(steps)
 }
 
 // Whether the step does not fall along the place, or it leads to never or from early.

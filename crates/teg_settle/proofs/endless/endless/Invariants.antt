@@ -4,8 +4,8 @@ use Rattle.teg_settle.proofs.endless.endless.Given as goal
 
 abbrev pub invariant-search : goal.invariant-search
 invariant-search g l = record {
-  rows : AreRowsOf l.net l.releases l.rows;
-  more : l.most + 8 ≤ l.stage;
+  rows : AreRowsOf l.asked.net.now l.asked.releases.now l.rows;
+  more : l.asked.most + 8 ≤ l.stage;
   fewer : l.rows.count ≤ l.stage;
   few : l.stage ≤ most_window;
 }

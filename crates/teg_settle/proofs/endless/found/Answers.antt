@@ -8,4 +8,4 @@ endless-requires c =
     let r = c.args.releases.now in
     let most = c.ready_tokens-most in
     let live = ranking_is_live net c.args.live.now c.requires.stands in
-    (c.requires.stands, (most.ensures.ready, (most.ensures.few, has_form c.least_datings_repeat.ensures net live r c.requires.tokens c.requires.waits most.result most.ensures.ready)))
+    (record { stands = c.requires.stands; ready = most.ensures.ready; few = most.ensures.few }, has_form c.least_datings_repeat.ensures net live r c.requires.tokens c.requires.waits most.result most.ensures.ready)

@@ -6,8 +6,8 @@ use Rattle.teg_settle.proofs.Limiting.{refusal_weaker}
 use Rattle.teg_settle.proofs.Transferring.{alone_here, alone_waits}
 use Rattle.teg_settle.proofs.limited.settle_alone.Goals as goal
 
-pub within-requires-clause-waits : goal.within-requires-clause-waits
-within-requires-clause-waits c = alone_waits c.args.net.now c.in_ok-releases.releases c.args.input.index c.requires.input c.in_ok-releases.ensures.waits
+pub ready_tokens-most-requires-clause-waits : goal.ready_tokens-most-requires-clause-waits
+ready_tokens-most-requires-clause-waits c = alone_waits c.args.net.now c.in_ok-releases.releases c.args.input.index c.requires.input c.in_ok-releases.ensures.waits
 
 pub returns-clause-form : goal.returns-clause-form
 returns-clause-form c =

@@ -5,5 +5,5 @@ use Rattle.teg_settle.proofs.search.grow.Given as goal
 abbrev pub invariant-loop-number : goal.invariant-loop-number
 invariant-loop-number l = record {
   count : l.rows.count ≡ l._number;
-  rows : AreRowsOf l.net l.releases l.rows;
+  rows : AreRowsOf l.asked.net.now l.asked.releases.now l.rows;
 }

@@ -6,7 +6,7 @@ returns c =
     let all = c.loop-order-test.false in
     let h = c.loop-order.invariant in
     record {
-      ready = c.requires.ready;
+      ready = c.requires.asked.ready;
       rows = h.rows;
       shown = record {
         all = omega (arith, h.within);

@@ -4,11 +4,11 @@ use Rattle.teg_settle.proofs.search.search.Given as goal
 
 abbrev pub invariant-loop-order : goal.invariant-loop-order
 invariant-loop-order l = record {
-  rows : AreRowsOf l.net l.releases l.rows;
+  rows : AreRowsOf l.asked.net.now l.asked.releases.now l.rows;
   within : l.rows.count ≤ l.last;
   stage_in : l.stage ≤ l.last;
   stage_more : l.rows.count < l.last → l.rows.count < l.stage;
-  refuted : (period : ℕ) → IsRefuted l.net l.releases l.most l.rows.count period;
+  refuted : (period : ℕ) → IsRefuted l.asked.net.now l.asked.releases.now l.asked.most l.rows.count period;
 }
 
 abbrev pub decreases-loop-order : goal.decreases-loop-order

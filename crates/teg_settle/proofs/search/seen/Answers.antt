@@ -11,14 +11,14 @@ tried-requires c =
     record {
       ready = c.requires.ready;
       made = c.requires.rows;
-      window = window_of c.args.net.now c.args.releases.now c.args.most c.requires.ready c.args.rows.now c.requires.rows c.loop-period.period (omega arith) (omega arith);
+      window = window_of c.args.asked.now.net.now c.args.asked.now.releases.now c.args.asked.now.most c.requires.ready c.args.rows.now c.requires.rows c.loop-period.period (omega arith) (omega arith);
       fits = omega arith;
     }
 
 pub returns-in-Ok : goal.returns-in-Ok
 returns-in-Ok c =
     let found = rw c.in-Ok.is at c.tried.ensures in
-    seen_is_least c.args.net.now c.args.releases.now c.args.rows.now c.args.most c.loop-period.period c.in-Ok.after (omega arith) found c.loop-period.invariant
+    seen_is_least c.args.asked.now.net.now c.args.asked.now.releases.now c.args.rows.now c.args.asked.now.most c.loop-period.period c.in-Ok.after (omega arith) found c.loop-period.invariant
 
 pub loop-period-preserved : goal.loop-period-preserved
 loop-period-preserved c = λ p o l.

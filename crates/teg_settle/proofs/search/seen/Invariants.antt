@@ -3,4 +3,4 @@ use Rattle.teg_settle.specs.ComparedRows.{IsRefuted}
 use Rattle.teg_settle.proofs.search.seen.Given as goal
 
 abbrev pub invariant-loop-period : goal.invariant-loop-period
-invariant-loop-period l = (p : ℕ) → 1 ≤ p → p < l.period → IsRefuted l.net l.releases l.most l.rows.count p
+invariant-loop-period l = (p : ℕ) → 1 ≤ p → p < l.period → IsRefuted l.asked.net.now l.asked.releases.now l.asked.most l.rows.count p

@@ -10,6 +10,3 @@ loop-shown-init c =
       width = none.width ∙ sym c.requires.width;
       rows = λ t l. shown_none c.args.rows.now t _ (none.none t (omega (arith, l, c.requires.width)));
     }
-
-pub add_all-requires-clause-small : goal.add_all-requires-clause-small
-add_all-requires-clause-small c = omega (arith, c.requires.width, c.transitions.ensures.rules.few_transitions)

@@ -1,6 +1,6 @@
 use Rattle.std.proofs.Common.{ℕ, ◌≡◌, ◌<◌, length, get_or, pos}
 use Rattle.teg_settle.specs.ComparedRows.{read_step}
-use Rattle.teg_settle.proofs.shown.steps_of.Given as goal
+use Rattle.teg_settle.proofs.window.steps_of.Given as goal
 
 abbrev pub invariant-loop-index : goal.invariant-loop-index
 invariant-loop-index l = record {

@@ -1,0 +1,108 @@
+-- When a number and a period are those of the shortest settled form of a net; and, as working definitions, how two streams of rows
+-- tell them: the last rows of the one come again in the other, all moved by one step.
+use Rattle.std.specs.Prelude.{ℕ, ℤ, ◌+◌, ◌<◌, ◌≤◌, ◌≡◌, length}
+use Rattle.dioid.specs.declared.dates.Date.{Date}
+use Rattle.dioid.specs.Dates.{move}
+use Rattle.teg_net.specs.Limits.{greatest_firing_number}
+use Rattle.teg_net.specs.Nets.{NetLists}
+use Rattle.bound_laws.specs.teg_model.Datings.{IsLeastDating}
+use Rattle.bound_laws.specs.settled_laws.SettledForms.{SettledForm, RepeatsAfter, IsSettledFormOf}
+use Rattle.bound_laws.specs.settled_laws.DateDifferences.{between}
+use Rattle.teg_dates.specs.Streams.{LastDates, date_back, rows_kept}
+use Rattle.teg_bound.specs.declared.made_rows.MadeRows.{MadeRows}
+use Rattle.teg_bound.specs.declared.two_streams.Returned.{Returned}
+use Rattle.teg_bound.specs.declared.two_streams.SettledNumbers.{SettledNumbers}
+use Rattle.teg_bound.specs.MadeRows.{AreMadeOf}
+use Rattle.teg_bound.specs.PeriodicBounds.{HasPlacesAlone, EachReachesEach, IsMostTokens}
+
+-- the number and the period are those of the shortest settled form of the net's least dating
+pub record IsShortestRepetition (net : NetLists) (found : SettledNumbers) : Type 0 where
+  pub form : SettledForm
+  pub is : IsSettledFormOf net form
+  pub after : form.after ≡ found.after
+  pub period : form.period ≡ found.period
+
+-- no input, some place, and from each transition a path to each
+pub record IsOnePart (net : NetLists) : Type 0 where
+  pub alone : HasPlacesAlone net
+  pub strong : EachReachesEach net
+
+-- two streams of rows of the net, of which the first has made a row, and the second no fewer, within the limit
+pub record AreTwoStreams (net : NetLists) (early late : MadeRows) : Type 0 where
+  pub early_is : AreMadeOf net early
+  pub late_is : AreMadeOf net late
+  pub some : 1 ≤ early.last.number
+  pub before : early.last.number ≤ late.last.number
+  pub few : late.last.number ≤ greatest_firing_number
+
+-- as many of both, and as many as the one keeps
+pub record AreAbreast (net : NetLists) (early late : MadeRows) : Type 0 where
+  pub early_is : AreMadeOf net early
+  pub late_is : AreMadeOf net late
+  pub same : late.last.number ≡ early.last.number
+  pub long : early.last.reach ≤ early.last.number
+
+-- the step from the last date of the first transition among the one dates to that among the other
+abbrev pub back_step : LastDates → LastDates → ℤ
+back_step early late = between (date_back early 0 1) (date_back late 0 1)
+
+-- the step leads from each date of the row so many back among the one dates to that among the other
+abbrev pub IsRowMoved : NetLists → LastDates → LastDates → ℤ → ℕ → Type 0
+IsRowMoved net early late step b = (t : ℕ) → t < length net.transitions → between (date_back early t b) (date_back late t b) ≡ step
+
+-- and so in all rows that are kept of the one
+abbrev pub AreRowsMoved : NetLists → LastDates → LastDates → ℤ → Type 0
+AreRowsMoved net early late step = (b : ℕ) → 1 ≤ b → b ≤ rows_kept early → IsRowMoved net early late step b
+
+-- the step of the first transition's date of the last number in the period
+abbrev pub shown_step : (ℕ → ℕ → Date) → ℕ → ℕ → ℤ
+shown_step x last period = between (x 0 last) (x 0 (last + period))
+
+-- so many rows up to the last number come again a period later, all moved by that step
+abbrev pub ComesAgain : NetLists → (ℕ → ℕ → Date) → ℕ → ℕ → ℕ → Type 0
+ComesAgain net x most last period =
+    (t k : ℕ) → t < length net.transitions → last < k + most → k ≤ last → x t (k + period) ≡ move (shown_step x last period) (x t k)
+
+-- those of the net's least dating do
+abbrev pub RowsComeAgain : NetLists → ℕ → ℕ → ℕ → Type 0
+RowsComeAgain net most last period = (x : ℕ → ℕ → Date) → IsLeastDating net x → ComesAgain net x most last period
+
+-- they do not
+abbrev pub RowsDoNot : NetLists → ℕ → ℕ → ℕ → Type 0
+RowsDoNot net most last period = (x : ℕ → ℕ → Date) → IsLeastDating net x → ComesAgain net x most last period → ⊥
+
+-- the last rows come again first after this period, by this step
+pub record IsReturn (net : NetLists) (most : ℕ) (found : Returned) : Type 0 where
+  pub tokens : IsMostTokens net most
+  pub long : most ≤ found.last
+  pub one : 1 ≤ found.period
+  pub few : found.last + found.period ≤ greatest_firing_number
+  pub again : RowsComeAgain net most found.last found.period
+  pub step : (x : ℕ → ℕ → Date) → IsLeastDating net x → found.step ≡ shown_step x found.last found.period
+  pub first : (period : ℕ) → 1 ≤ period → period < found.period → RowsDoNot net most found.last period
+
+-- the last rows come again after no period within their number
+abbrev pub NoneComeAgain : NetLists → LastDates → Type 0
+NoneComeAgain net last = (period : ℕ) → 1 ≤ period → period ≤ last.number → RowsDoNot net last.reach last.number period
+
+-- rows come again so, as many as there are kept
+abbrev pub IsReturned : NetLists → Returned → Type 0
+IsReturned net found = (most : ℕ) × IsReturn net most found
+
+-- the least dating goes on by some form within so many numbers
+pub record HasFormWithin (net : NetLists) (enough : ℕ) : Type 0 where
+  pub dating : ℕ → ℕ → Date
+  pub least : IsLeastDating net dating
+  pub after : ℕ
+  pub period : ℕ
+  pub step : ℕ → ℤ
+  pub repeats : RepeatsAfter (length net.transitions) dating after period step
+  pub fits : after + 1000 + period ≤ enough
+
+-- past the number and up to the last the dates have moved by the step a period later, and not from one number earlier on
+pub record IsMovedFrom (net : NetLists) (found : Returned) (after : ℕ) : Type 0 where
+  pub within : after ≤ found.last
+  pub moved : (x : ℕ → ℕ → Date) → IsLeastDating net x → (t k : ℕ) → t < length net.transitions → after < k → k ≤ found.last
+      → x t (k + found.period) ≡ move found.step (x t k)
+  pub first : (x : ℕ → ℕ → Date) → IsLeastDating net x → 1 ≤ after
+      → ((t : ℕ) → t < length net.transitions → x t (after + found.period) ≡ move found.step (x t after)) → ⊥

@@ -1,0 +1,199 @@
+//! The number and the period of the shortest form of a strongly connected net, by two streams of
+//! its rows: in memory that does not grow.
+ghost use Rattle.std.specs.Prelude.{ℕ, ◌≡◌, ◌+◌, ◌*◌, ◌<◌, ◌≤◌, ◌^◌, Decides, IfOk, MatchOption};
+ghost use Rattle.periodic_laws.specs.teg_model.DateBounds.{IsDateWithin};
+ghost use Rattle.periodic_laws.specs.settled_laws.DateDifferences.{between};
+ghost use Rattle.teg_check.specs.Ranks.{IsRanking};
+ghost use Rattle.teg_form.specs.StandardForms.{IsStandardFormOf};
+ghost use Rattle.teg_net.specs.Limits.{greatest_firing_number};
+ghost use Rattle.teg_dates.specs.Streams.{rows_kept};
+ghost use Rattle.teg_bound.specs.MadeRows.{AreMadeOf};
+ghost use Rattle.teg_bound.specs.PeriodicBounds.{HasPlacesAlone, EachReachesEach};
+ghost use Rattle.teg_bound.specs.ReturningRows.{AreAbreast, AreRowsMoved, AreTwoStreams, HasFormWithin, IsMovedFrom, IsOnePart, IsReturn, IsReturned, IsRowMoved, IsShortestRepetition, NoneComeAgain, back_step};
+
+use crate::made_rows::{MadeRows, make_row, make_rows, no_rows};
+use crate::readings::most_tokens;
+use dioid::Date;
+use periodic_laws::{least_datings_repeat, live_nets_settle};
+use std::alloc::Global;
+use teg_check::Live;
+use teg_form::{Form, standard_form};
+use teg_net::{Net, OutOfMemory, TransitionId};
+
+// Where so many rows have not come again, no further ones are made: a century does not make them.
+const MOST_MADE: u64 = 100_000_000_000_000_000;
+
+/// From when on the dates of a net are periodic: the number and the period of the shortest settled
+/// form of its least dating.
+#[derive(Clone, Copy, Debug, Drop)]
+pub struct SettledNumbers {
+    /// The number past which the dates go on by steps, 0 or more.
+    pub after: u64,
+    /// In how many numbers they do, at least 1.
+    pub period: u64,
+}
+
+// The last number of rows that come again first after this period, all moved by this step.
+#[derive(Clone, Copy, Debug, Drop)]
+pub(crate) struct Returned {
+    last: u64,
+    period: u64,
+    step: i128,
+}
+
+// The step from one date to the other, 0 where one of them is no number.
+fn step_between(early: Date, late: Date) -> i128
+    requires early { IsDateWithin (2 ^ 126) early }
+    requires late { IsDateWithin (2 ^ 126) late }
+    ensures { result ≡ between early late }
+{
+    match (early, late) {
+        (Date::At(early), Date::At(late)) => late - early,
+        _ => 0,
+    }
+}
+
+// The step from the last date of the first transition in the one stream to that in the other.
+fn step_to(net: &Net, early: &MadeRows, late: &MadeRows) -> i128
+    requires streams { AreTwoStreams net.now early.now late.now }
+    requires part { IsOnePart net.now }
+    ensures { result ≡ back_step early.now.last late.now.last }
+{
+    // The net keeps its rules.
+    net.rules();
+    let first = TransitionId { index: 0 };
+    step_between(early.last.back(first, 1), late.last.back(first, 1))
+}
+
+// Whether the step leads from the row so many back in the one stream to that in the other.
+fn is_row_moved(net: &Net, early: &MadeRows, late: &MadeRows, step: i128, behind: u64) -> bool
+    requires streams { AreTwoStreams net.now early.now late.now }
+    requires some { 1 ≤ behind }
+    requires kept { behind ≤ rows_kept early.now.last }
+    ensures { Decides result (IsRowMoved net.now early.now.last late.now.last step behind) }
+{
+    for index in 0..net.transitions().len() {
+        let id = TransitionId {
+            index: index as u32,
+        };
+        if step_between(early.last.back(id, behind), late.last.back(id, behind)) != step {
+            return false;
+        }
+    }
+    true
+}
+
+// Whether it does so in all rows that the one stream keeps.
+fn are_rows_moved(net: &Net, early: &MadeRows, late: &MadeRows, step: i128) -> bool
+    requires streams { AreTwoStreams net.now early.now late.now }
+    ensures { Decides result (AreRowsMoved net.now early.now.last late.now.last step) }
+{
+    for behind in 1..early.last.kept() + 1 {
+        if !is_row_moved(net, early, late, step, behind) {
+            return false;
+        }
+    }
+    true
+}
+
+// The period after which the last rows of the one stream first come again in the other, which
+// stands where it does and goes on to twice its number at most.
+fn return_in(net: &Net, form: &Form, early: &MadeRows, late: &mut MadeRows) -> Option<Returned>
+    requires form { IsStandardFormOf net.now form.now }
+    requires streams { AreAbreast net.now early.now late.old }
+    requires part { IsOnePart net.now }
+    requires few { 2 * early.now.last.number ≤ greatest_firing_number }
+    ensures found { MatchOption result (NoneComeAgain net.now early.now.last) (IsReturn net.now
+        early.now.last.reach) }
+    ensures made { AreMadeOf net.now late.new }
+    ensures few { late.new.last.number ≤ 2 * early.now.last.number }
+{
+    let last = early.last.number();
+    for period in 1..last + 1 {
+        make_row(net, form, late);
+        let step = step_to(net, early, late);
+        if are_rows_moved(net, early, late, step) {
+            return Some(Returned { last, period, step });
+        }
+    }
+    None
+}
+
+// The last number, the period and the step of rows that come again: there are some within `enough`.
+fn first_return(alloc: Global, net: &Net, live: &Live, form: &Form) -> Result<Returned, OutOfMemory>
+    ghost enough: { ℕ }
+    requires stands { IsRanking net.now live.now }
+    requires form { IsStandardFormOf net.now form.now }
+    requires part { IsOnePart net.now }
+    requires exists { HasFormWithin net.now enough }
+    ensures { IfOk result (IsReturned net.now) }
+{
+    let mut early = no_rows(alloc, net, live, form)?;
+    let mut late = no_rows(alloc, net, live, form)?;
+    let mut last = u64::from(most_tokens(net)) + 8;
+    'search: loop {
+        make_rows(net, form, &mut early, last);
+        make_rows(net, form, &mut late, last);
+        match return_in(net, form, &early, &mut late) {
+            Some(found) => return Ok(found),
+            None => {}
+        }
+        if last > MOST_MADE {
+            return Err(OutOfMemory);
+        }
+        last = 2 * last;
+    }
+}
+
+// The least number past which the dates go on so: two streams as far apart as the period tell it.
+fn moved_from(
+    alloc: Global,
+    net: &Net,
+    live: &Live,
+    form: &Form,
+    found: Returned,
+) -> Result<u64, OutOfMemory>
+    requires stands { IsRanking net.now live.now }
+    requires form { IsStandardFormOf net.now form.now }
+    requires part { IsOnePart net.now }
+    requires returned { IsReturned net.now found }
+    ensures { IfOk result (IsMovedFrom net.now found) }
+{
+    let mut early = no_rows(alloc, net, live, form)?;
+    let mut late = no_rows(alloc, net, live, form)?;
+    make_rows(net, form, &mut late, found.period);
+    let mut after = 0;
+    for number in 1..found.last + 1 {
+        make_row(net, form, &mut early);
+        make_row(net, form, &mut late);
+        if !is_row_moved(net, &early, &late, found.step, 1) {
+            after = number;
+        }
+    }
+    Ok(after)
+}
+
+/// The number and the period of the shortest settled form of a live net without inputs, in which
+/// each transition reaches each (chapter 3, cyclicity), without its dates: for nets that settle
+/// late, as it keeps no rows but the last of two streams, as many of each as a place has tokens, at
+/// most 1,000, in memory of 64 bytes for each of them and of the transitions. For a settling length
+/// l and places of at most m tokens it takes time of order `n^3 + (l + m) (n + p)` for n
+/// transitions and p places, and that of the comparisons of these rows, most of which end at the
+/// first row. `OutOfMemory` comes where no memory is found, and past 10^17 rows, which no machine
+/// makes.
+pub fn settled_numbers(alloc: Global, net: &Net, live: &Live) -> Result<SettledNumbers, OutOfMemory>
+    requires stands { IsRanking net.now live.now }
+    requires alone { HasPlacesAlone net.now }
+    requires strong { EachReachesEach net.now }
+    ensures { IfOk result (IsShortestRepetition net.now) }
+{
+    live_nets_settle();
+    least_datings_repeat();
+    // The net keeps its rules.
+    net.rules();
+    let form = standard_form(alloc, net, live)?;
+    let found = first_return(alloc, net, live, &form)?;
+    let after = moved_from(alloc, net, live, &form, found)?;
+    let period = found.period;
+    Ok(SettledNumbers { after, period })
+}
