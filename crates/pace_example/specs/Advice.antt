@@ -1,5 +1,6 @@
 -- What a planner is told of a net and of due dates, in the words of the library (chapters 2 and 5).
 use Rattle.std.specs.Prelude.{ℕ, false, if◌then◌else◌, ◌≡◌, ◌≢◌, ◌++◌, List, Option, Some, None, Ok, Err, codes, ⊤}
+use Rattle.teg_net.specs.Circuits.{IsLive}
 use Rattle.teg_net.specs.Nets.{NetLists}
 use Rattle.teg_net.specs.Ratios.{Fraction}
 use Rattle.teg_net.specs.GreatestRatios.{IsGreatestRatio, HasNoCircuit, IsAnyPlace}
@@ -65,11 +66,12 @@ abbrev pub of_jit : JitRefusal → NoAdvice
 of_jit jit_memory = OutOfMemory
 of_jit refusal = Late refusal
 
--- why there is no advice: the refusal tells its cause in the bytes, and is never want of memory, which is told as itself
+-- why there is no advice: the refusal tells its cause in the bytes, of a due file only beside a live net, and is never want of memory, which is told
+-- as itself
 abbrev pub IsWhyNot : List ℕ → List ℕ → NoAdvice → Type 0
 IsWhyNot net due (NoNet refusal) = (is_memory refusal ≡ false) × (document net ≡ Err refusal)
 IsWhyNot net due (NotLive refusal) = (lists : NetLists) × (refusal ≢ check_memory) × (document net ≡ Ok lists) × IsRightCheckRefusal lists refusal
-IsWhyNot net due (NoDue refusal) = (lists : NetLists) × (refusal ≢ due_memory) × (document net ≡ Ok lists) × (due_of lists due ≡ Err refusal)
+IsWhyNot net due (NoDue refusal) = (lists : NetLists) × (refusal ≢ due_memory) × (document net ≡ Ok lists) × IsLive lists × (due_of lists due ≡ Err refusal)
 IsWhyNot net due (Late refusal) =
-    (lists : NetLists) × (rows : List DueRow) × (refusal ≢ jit_memory) × Say net due lists rows × LateIsRight lists rows refusal
+    (lists : NetLists) × (rows : List DueRow) × (refusal ≢ jit_memory) × Say net due lists rows × IsLive lists × LateIsRight lists rows refusal
 IsWhyNot net due OutOfMemory = ⊤

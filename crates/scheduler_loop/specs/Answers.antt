@@ -68,12 +68,13 @@ abbrev pub IsHoldChanged : NetLists → List ℕ → ℕ → NetLists → Type 0
 IsHoldChanged net name hold changed =
     (p : PlaceId) × IsSomeAnd (slice_get net.places p.index) (λ place. place.name ≡ name) × (changed ≡ with_hold net p hold)
 
--- no place has the name, or the holding time is past its limit; nothing else keeps a holding time from being changed
+-- no place has the name, or one has it and the holding time is past its limit; nothing else keeps a holding time from being changed
 abbrev pub IsWhyNotChanged : NetLists → List ℕ → ℕ → NoAnswer → Type 0
 IsWhyNotChanged net name hold (NoNet refusal) = ⊥
 IsWhyNotChanged net name hold (NotLive refusal) = ⊥
 IsWhyNotChanged net name hold NoPlace = All (λ p. p.name ≢ name) net.places
-IsWhyNotChanged net name hold HoldTooLong = greatest_hold < hold
+IsWhyNotChanged net name hold HoldTooLong =
+    (greatest_hold < hold) × ((p : PlaceId) × IsSomeAnd (slice_get net.places p.index) (λ place. place.name ≡ name))
 IsWhyNotChanged net name hold (NoDue refusal) = ⊥
 IsWhyNotChanged net name hold (Late refusal) = ⊥
 IsWhyNotChanged net name hold OutOfMemory = ⊥
