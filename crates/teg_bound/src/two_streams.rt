@@ -83,17 +83,31 @@ fn is_row_moved(net: &Net, early: &MadeRows, late: &MadeRows, step: i128, behind
     true
 }
 
-// Whether it does so in all rows that the one stream keeps.
-fn are_rows_moved(net: &Net, early: &MadeRows, late: &MadeRows, step: i128) -> bool
+// The first of the rows that the one stream keeps, by how far back it stands, in which it does not;
+// none, if it does so in all.
+fn first_apart(net: &Net, early: &MadeRows, late: &MadeRows, step: i128) -> Option<u64>
     requires streams { AreTwoStreams net.now early.now late.now }
-    ensures { Decides result (AreRowsMoved net.now early.now.last late.now.last step) }
+    ensures { MatchOption result (AreRowsMoved net.now early.now.last late.now.last step)
+        (λ _. AreRowsMoved net.now early.now.last late.now.last step → ⊥) }
 {
     for behind in 1..early.last.kept() + 1 {
         if !is_row_moved(net, early, late, step, behind) {
-            return false;
+            return Some(behind);
         }
     }
-    true
+    None
+}
+
+// Such a row: the one that was apart before, if it is again, as it mostly is, or the first.
+fn apart(net: &Net, early: &MadeRows, late: &MadeRows, step: i128, before: u64) -> Option<u64>
+    requires streams { AreTwoStreams net.now early.now late.now }
+    ensures { MatchOption result (AreRowsMoved net.now early.now.last late.now.last step)
+        (λ _. AreRowsMoved net.now early.now.last late.now.last step → ⊥) }
+{
+    if before >= 1 && before <= early.last.kept() && !is_row_moved(net, early, late, step, before) {
+        return Some(before);
+    }
+    first_apart(net, early, late, step)
 }
 
 // The period after which the last rows of the one stream first come again in the other, which
@@ -109,11 +123,15 @@ fn return_in(net: &Net, form: &Form, early: &MadeRows, late: &mut MadeRows) -> O
     ensures few { late.new.last.number ≤ 2 * early.now.last.number }
 {
     let last = early.last.number();
+    let mut before = 1;
     for period in 1..last + 1 {
         make_row(net, form, late);
         let step = step_to(net, early, late);
-        if are_rows_moved(net, early, late, step) {
-            return Some(Returned { last, period, step });
+        match apart(net, early, late, step, before) {
+            Some(behind) => {
+                before = behind;
+            }
+            None => return Some(Returned { last, period, step }),
         }
     }
     None

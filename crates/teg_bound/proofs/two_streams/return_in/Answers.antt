@@ -1,14 +1,14 @@
-use Rattle.std.proofs.Common.{◌<◌, ◌≤◌, ◌≡◌, sym, subst, ◌∙◌, arith, rules, ⊎_elim, to_z, of_z}
+use Rattle.std.proofs.Common.{◌<◌, ◌≤◌, ◌≡◌, sym, subst, arith, rules, ⊎_elim, to_z, of_z}
 use Rattle.std.specs.Prelude.{FitsSigned}
 use Rattle.std.specs.Int.{w128}
 use Rattle.std.proofs.lemmas.Int.{to_z-of_z}
-use Rattle.std.proofs.lemmas.Bool.{cases_lt, false≢true}
+use Rattle.std.proofs.lemmas.Bool.{cases_lt}
 use Rattle.teg_bound.specs.ReturningRows.{AreRowsMoved, AreTwoStreams, back_step}
 use Rattle.teg_bound.proofs.TwoStreams.{do_not, found_return}
 use Rattle.teg_bound.proofs.two_streams.return_in.Goals as goal
 
-pub returns-then-are_rows_moved-clause-found : goal.returns-then-are_rows_moved-clause-found
-returns-then-are_rows_moved-clause-found c =
+pub returns-in-None-clause-found : goal.returns-in-None-clause-found
+returns-in-None-clause-found c =
     let net = c.args.net.now in
     let early = c.args.early.now in
     let late = c.make_row.new.rows in
@@ -23,7 +23,7 @@ returns-then-are_rows_moved-clause-found c =
     } in
     let fits : FitsSigned w128 c.step_to-step.result = search rules in
     found_return net early late two c.requires.part c.loop-period.period (omega (arith, c.make_row.ensures.next, inv.number)) h.long c.number-last.result _
-    c.number-last.ensures.value (simp to_z-of_z c.step_to-step.ensures) (c.are_rows_moved.ensures.0 c.if-are_rows_moved.true) (omega arith) two.few inv.refuted
+    c.number-last.ensures.value (simp to_z-of_z c.step_to-step.ensures) (rw c.in-None.is at c.apart.ensures) (omega arith) two.few inv.refuted
 
 pub loop-period-preserved : goal.loop-period-preserved
 loop-period-preserved c =
@@ -42,6 +42,7 @@ loop-period-preserved c =
     } in
     let fits : FitsSigned w128 c.step_to-step.result = search rules in
     let step_is : to_z w128 (of_z w128 c.step_to-step.result) ≡ back_step early.last late.last = simp to_z-of_z c.step_to-step.ensures in
+    let bad = rw c.in-Some.is at c.apart.ensures in
     record {
       late_is = c.make_row.ensures.made;
       number = omega (arith, c.make_row.ensures.next, inv.number);
@@ -50,7 +51,7 @@ loop-period-preserved c =
           (λ (q : n ≤ p).
           let is : p ≡ n = omega arith in
           rw is (do_not net early late two c.requires.part n (omega (arith, c.make_row.ensures.next, inv.number)) h.long
-          (λ rows. false≢true (sym c.if-are_rows_moved.false ∙ c.are_rows_moved.ensures.1 (subst (AreRowsMoved net early.last late.last) (sym step_is) rows)))))
+          (λ rows. bad (subst (AreRowsMoved net early.last late.last) (sym step_is) rows))))
           (cases_lt p n);
     }
 
