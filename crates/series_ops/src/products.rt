@@ -170,8 +170,8 @@ pub(crate) fn product_values(
 /// at i and one of the second at k - i. TooLong exactly where its need exceeds 20,000; where not,
 /// TooGreat exactly where a number of the result has a magnitude above 10^18. `OutOfMemory` comes
 /// only where no memory is found. It takes time of the order of the need times the length of the
-/// shorter list at most, and less where that list goes on by equal steps in few pieces or seldom
-/// rises.
+/// shorter list at most, and less where that list goes on by equal steps in few pieces, seldom
+/// rises, or rises by a gain in so many shifts everywhere and by more at few places.
 pub fn product(alloc: Global, first: &Series, second: &Series) -> Result<Series, SeriesRefused>
     ensures answer { AnswersOf (λ r. HasValues r (product_at (value_at first.now)
         (value_at second.now))) (need_of (product_plan first.now second.now))

@@ -220,7 +220,8 @@ fn left_values(
 /// these fall without bound. TooLong exactly where its need exceeds 20,000; where not, TooGreat
 /// exactly where a number of the result has a magnitude above 10^18. `OutOfMemory` comes only where
 /// no memory is found. It takes time of the order of the lengths of the two lists, multiplied, at
-/// most, and less where the first list goes on by equal steps in few pieces or seldom rises.
+/// most, and less where the first list goes on by equal steps in few pieces, seldom rises, or rises
+/// by a gain in so many shifts everywhere and by more at few places.
 pub fn left(alloc: Global, first: &Series, second: &Series) -> Result<Series, SeriesRefused>
     ensures answer { AnswersOf (λ r. (k : ℕ) → IsLeftAt (value_at first.now) (value_at second.now) k
         (value_at r k)) (need_of (left_plan first.now second.now))
