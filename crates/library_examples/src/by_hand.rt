@@ -1,15 +1,9 @@
-//! Answers that were worked out by hand, where no command shows them.
+//! Answers on dates and matrices that were worked out by hand, where no command shows them.
 use crate::matrices::{is, square};
-use crate::nets::{ENDED_LIST, LOOP};
 use dioid::{Date, Misfit};
 use dioid_matrix::{Matrix, MatrixRefused};
 use std::alloc::{AllocError, Global};
 use std::test::Fail;
-use teg_cycle::check_cycle;
-use teg_net::{
-    Circuit, CycleAnswer, Net, PartAnswer, PlaceId, Potential, Ratio, Role, TransitionId,
-};
-use teg_reader::read_net;
 
 // Whether a sum past the greatest date is told with both its dates.
 fn keeps_misfits() -> bool {
@@ -57,62 +51,6 @@ fn star_is_never(alloc: Global) -> bool {
     }
 }
 
-// The answer on the loop, with this potential of b.
-fn answer_of(alloc: Global, value: i128) -> Result<CycleAnswer, AllocError> {
-    let places = vec![in alloc; PlaceId { index: 0 }, PlaceId { index: 1 }]?;
-    let potentials = vec![in alloc;
-        Potential {
-            transition: TransitionId { index: 0 },
-            value: 0
-        },
-        Potential {
-            transition: TransitionId { index: 1 },
-            value
-        },
-    ]?;
-    let mut parts = Vec::new(alloc);
-    parts.push(PartAnswer::Best {
-        ratio: Ratio::of(5, 1),
-        circuit: Circuit { places },
-        potentials,
-    })?;
-    Ok(CycleAnswer {
-        part_of: Vec::from_slice(alloc, &[0, 0])?,
-        parts,
-        best: Some(0),
-    })
-}
-
-// Whether potentials that a place contradicts are no certificate.
-fn asks_for_potentials(alloc: Global) -> Result<bool, Fail> {
-    let net = read_net(alloc, LOOP)?;
-    let (right, wrong) = (answer_of(alloc, 3)?, answer_of(alloc, 0)?);
-    Ok(check_cycle(&net, &right) && !check_cycle(&net, &wrong))
-}
-
-// Whether the first transition is an input whose first three firings are at 0.
-fn begins_at_zero(net: &Net) -> bool {
-    let first = TransitionId { index: 0 };
-    match net.transitions().first() {
-        Some(transition) => match transition.role {
-            Role::Input => {
-                net.input_date(first, 1) == Some(0)
-                    && net.input_date(first, 2) == Some(0)
-                    && net.input_date(first, 3) == Some(0)
-            }
-            Role::Internal | Role::Output => false,
-        },
-        None => false,
-    }
-}
-
-// Whether a net without its input lists has its inputs at 0, and with them not.
-fn forgets_lists(alloc: Global) -> Result<bool, Fail> {
-    let net = read_net(alloc, ENDED_LIST)?;
-    let copy = net.without_inputs(alloc)?;
-    Ok(begins_at_zero(&copy) && !begins_at_zero(&net))
-}
-
 // What was worked out, and whether it is so.
 fn worked_out(alloc: Global) -> Result<Vec<(&'static str, bool)>, Fail> {
     Ok(vec![in alloc;
@@ -120,8 +58,6 @@ fn worked_out(alloc: Global) -> Result<Vec<(&'static str, bool)>, Fail> {
         ("a row by a row, and a sum", is_a_row(alloc)?),
         ("three entries for four", asks_for_four(alloc)?),
         ("the star of a circuit above 0", star_is_never(alloc)),
-        ("a certificate", asks_for_potentials(alloc)?),
-        ("input dates without lists", forgets_lists(alloc)?),
     ]?)
 }
 

@@ -1,5 +1,5 @@
 //! Calls that heads of crates show, where no chapter of the page on the library has them.
-use crate::nets::LOOP;
+use example_nets::LOOP;
 use std::test::Fail;
 use teg_check::{CheckRefusal, LiveNet};
 use teg_due::{DueRefusal, read_due};

@@ -1,7 +1,7 @@
 //! Nets that are copied, held, changed and asked again, and the checkers of what answers show.
-use crate::nets::LOOP;
 use dating_certificates::check_rows;
 use dioid::Date;
+use example_nets::LOOP;
 use scheduler_loop::Scheduler;
 use std::alloc::Global;
 use std::test::Fail;

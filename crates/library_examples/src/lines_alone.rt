@@ -1,5 +1,6 @@
 //! The texts of cycle times and of a circuit without tokens, written on `teg_lines` without the
 //! other crates of answers.
+use example_nets::LOOP;
 use std::alloc::Global;
 use std::test::Fail;
 use teg_certificates::check_cycle;
@@ -10,15 +11,7 @@ use teg_net::{Circuit, CycleAnswer, Net, OutOfMemory, is_circuit};
 use teg_parts::split;
 use teg_reader::read_net;
 
-// Two transitions that follow each other by 3 and by 2, with one token on the way back.
-const RING: &[u8] = b"transition = [{name = 'a'}, {name = 'b'}]
-place = [
-  {name = 'ab', from = 'a', to = 'b', hold = 3},
-  {name = 'ba', from = 'b', to = 'a', hold = 2, tokens = 1},
-]
-";
-
-// The same without a token.
+// Two transitions that follow each other by 3 and by 2, without a token.
 const STUCK: &[u8] = b"transition = [{name = 'a'}, {name = 'b'}]
 place = [
   {name = 'ab', from = 'a', to = 'b', hold = 3},
@@ -47,7 +40,7 @@ fn told_circuit(alloc: Global, net: &Net, circuit: &Circuit) -> Result<Vec<u8>, 
 
 #[test]
 fn cycle_times_are_told(rt: HostRuntime) -> Result<(), Fail> {
-    let held = LiveNet::new(rt.alloc(), read_net(rt.alloc(), RING)?)?;
+    let held = LiveNet::new(rt.alloc(), read_net(rt.alloc(), LOOP)?)?;
     let parts = split(rt.alloc(), held.net())?;
     let answer = cycle(rt.alloc(), held.net(), held.live(), &parts)?;
     let text = told(rt.alloc(), held.net(), &answer)?;

@@ -1,5 +1,5 @@
 //! Latest inputs by the call for those who have the standard form.
-use crate::nets::LOOP;
+use example_nets::LOOP;
 use std::alloc::Global;
 use std::test::Fail;
 use teg_check::check;

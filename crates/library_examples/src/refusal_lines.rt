@@ -1,7 +1,7 @@
 //! The lines of refusals, as a program prints them.
+use example_nets::says;
 use scheduler_loop::Scheduler;
 use std::alloc::Global;
-use std::fmt::Display;
 use std::test::Fail;
 use teg_check::LiveNet;
 use teg_due::{read_due, read_log};
@@ -10,17 +10,6 @@ use teg_reader::read_net;
 // A circuit that has no token.
 const NO_TOKEN: &[u8] =
     b"transition = [{name = 'a'}]\nplace = [{name = 'p', from = 'a', to = 'a', hold = 1}]\n";
-
-// Whether this is the line of the refusal.
-fn says<T: Drop, E: Display + Drop>(alloc: Global, answer: Result<T, E>, line: &str) -> bool {
-    match answer {
-        Ok(_) => false,
-        Err(refusal) => match format!(in alloc; "{refusal}") {
-            Ok(text) => text.as_str() == line,
-            Err(_) => false,
-        },
-    }
-}
 
 #[test]
 fn refusals_have_lines(rt: HostRuntime) -> Result<(), Fail> {

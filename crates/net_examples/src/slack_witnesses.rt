@@ -40,6 +40,15 @@ fn answer_of(alloc: Global, held: &LiveNet) -> Result<CycleAnswer, OutOfMemory> 
     cycle(alloc, held.net(), held.live(), &parts)
 }
 
+// The places of these numbers.
+fn places_of(alloc: Global, numbers: &[u32]) -> Result<Vec<PlaceId>, Fail> {
+    let mut places = Vec::new(alloc);
+    for number in numbers {
+        places.push(PlaceId::new(*number))?;
+    }
+    Ok(places)
+}
+
 // What would show that the hold of `drill_free` rises by so much, with these potentials.
 fn drill_rise(alloc: Global, by: u64, potentials: &[i128]) -> Result<RiseWitness, Fail> {
     Ok(RiseWitness {
@@ -55,40 +64,48 @@ fn drill_rise(alloc: Global, by: u64, potentials: &[i128]) -> Result<RiseWitness
 fn a_critical_place_is_shown(rt: HostRuntime) -> Result<(), Fail> {
     let (held, answer) = line(rt.alloc())?;
     assert!(rt; check_cycle(held.net(), &answer));
-    let slowest = [PlaceId::new(3), PlaceId::new(5)];
-    assert!(rt; shows_critical(held.net(), &answer, PlaceId::new(3), &slowest));
-    assert!(rt; shows_critical(held.net(), &answer, PlaceId::new(5), &slowest));
-    assert!(rt; !shows_critical(held.net(), &answer, PlaceId::new(1), &slowest));
-    let drill = [PlaceId::new(1)];
-    assert!(rt; !shows_critical(held.net(), &answer, PlaceId::new(1), &drill));
+    for (place, circuit, is_right) in [
+        (3, [3, 5].as_slice(), true),
+        (5, &[3, 5], true),
+        (1, &[3, 5], false),
+        (1, &[1], false),
+    ] {
+        let places = places_of(rt.alloc(), circuit)?;
+        let is_shown = shows_critical(held.net(), &answer, PlaceId::new(place), &places);
+        assert!(rt; is_shown == is_right, "place {place}");
+    }
     Ok(())
 }
 
 #[test]
 fn a_rise_is_shown(rt: HostRuntime) -> Result<(), Fail> {
     let (held, answer) = line(rt.alloc())?;
-    let place = PlaceId::new(1);
-    let tight = [-16, 0, 8, 9];
-    let one = drill_rise(rt.alloc(), 1, &tight)?;
-    assert!(rt; shows_rise(held.net(), &answer, place, &one));
-    assert!(rt; !shows_rise(held.net(), &answer, PlaceId::new(0), &one));
-    let none = drill_rise(rt.alloc(), 0, &tight)?;
-    assert!(rt; !shows_rise(held.net(), &answer, place, &none));
-    let two = drill_rise(rt.alloc(), 2, &tight)?;
-    assert!(rt; !shows_rise(held.net(), &answer, place, &two));
-    let lifted = drill_rise(rt.alloc(), 1, &[-16, 1, 8, 9])?;
-    assert!(rt; !shows_rise(held.net(), &answer, place, &lifted));
+    for (place, by, drill, is_right) in [
+        (1, 1, 0, true),
+        (0, 1, 0, false),
+        (1, 0, 0, false),
+        (1, 2, 0, false),
+        (1, 1, 1, false),
+    ] {
+        let rise = drill_rise(rt.alloc(), by, &[-16, drill, 8, 9])?;
+        let is_shown = shows_rise(held.net(), &answer, PlaceId::new(place), &rise);
+        assert!(rt; is_shown == is_right, "place {place} by {by}");
+    }
     Ok(())
 }
 
 #[test]
 fn that_no_circuit_passes_is_shown(rt: HostRuntime) -> Result<(), Fail> {
     let (held, answer) = line(rt.alloc())?;
-    let shipping = PlaceId::new(6);
-    assert!(rt; shows_no_circuit(held.net(), &answer.part_of, shipping));
-    assert!(rt; !shows_no_circuit(held.net(), &answer.part_of, PlaceId::new(2)));
-    assert!(rt; !shows_no_circuit(held.net(), &[0, 0, 1, 1], shipping));
-    assert!(rt; !shows_no_circuit(held.net(), &answer.part_of, PlaceId::new(7)));
+    for (numbers, place, is_right) in [
+        (answer.part_of.as_slice(), 6, true),
+        (answer.part_of.as_slice(), 2, false),
+        (&[0, 0, 1, 1], 6, false),
+        (answer.part_of.as_slice(), 7, false),
+    ] {
+        let is_shown = shows_no_circuit(held.net(), numbers, PlaceId::new(place));
+        assert!(rt; is_shown == is_right, "place {place}");
+    }
     Ok(())
 }
 

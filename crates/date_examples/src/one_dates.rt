@@ -2,8 +2,8 @@
 ghost use Rattle.std.specs.Prelude.{◌≤◌};
 ghost use Rattle.teg_net.specs.Limits.{greatest_firing_number};
 
-use crate::nets::LOOP;
 use dioid::Date;
+use example_nets::LOOP;
 use std::alloc::Global;
 use std::test::Fail;
 use teg_check::check;

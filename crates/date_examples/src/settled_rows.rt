@@ -2,19 +2,8 @@
 //! they show nothing.
 use dating_certificates::check_settled;
 use dioid::Date;
+use example_nets::KANBAN;
 use teg_reader::read_net;
-
-const KANBAN: &str = "transition = [{ name = \"m1\" }, { name = \"m2\" }, { name = \"m3\" }]
-place = [
- { name = \"s1\", from = \"m1\", to = \"m1\", hold = 4, tokens = 1 },
- { name = \"s2\", from = \"m2\", to = \"m2\", hold = 6, tokens = 1 },
- { name = \"s3\", from = \"m3\", to = \"m3\", hold = 5, tokens = 1 },
- { name = \"f12\", from = \"m1\", to = \"m2\", hold = 4 },
- { name = \"f23\", from = \"m2\", to = \"m3\", hold = 6 },
- { name = \"c21\", from = \"m2\", to = \"m1\", tokens = 2 },
- { name = \"c32\", from = \"m3\", to = \"m2\", tokens = 2 },
-]
-";
 
 const ROWS: [Date; 24] = [
     Date::At(0),
@@ -45,7 +34,7 @@ const ROWS: [Date; 24] = [
 
 #[test]
 fn settled_rows_are_checked(rt: HostRuntime) {
-    let Ok(net) = read_net(rt.alloc(), KANBAN.as_bytes()) else {
+    let Ok(net) = read_net(rt.alloc(), KANBAN) else {
         panic!(rt; "it is a net");
     };
     let answer = check_settled(rt.alloc(), &net, 4, 1, &ROWS, &[6, 6, 6]);

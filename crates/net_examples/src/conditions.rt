@@ -1,4 +1,5 @@
 //! Conditions of calls, tested before the calls are made.
+use example_nets::LOOP;
 use std::test::Fail;
 use teg_check::LiveNet;
 use teg_form::{is_standard_form_of, standard_form};
@@ -7,14 +8,7 @@ use teg_parts::{are_parts, split};
 use teg_reader::read_net;
 use teg_sizing::is_target;
 
-// Two transitions that follow each other, and the same two of which one goes before the other.
-const RING: &[u8] = b"transition = [{name = 'a'}, {name = 'b'}]
-place = [
-  {name = 'ab', from = 'a', to = 'b', hold = 3},
-  {name = 'ba', from = 'b', to = 'a', hold = 2, tokens = 1},
-]
-";
-
+// Two transitions, of which one goes before the other.
 const PATH: &[u8] = b"transition = [{name = 'a'}, {name = 'b'}]
 place = [
   {name = 'ab', from = 'a', to = 'b', hold = 3},
@@ -23,7 +17,7 @@ place = [
 
 #[test]
 fn parts_are_those_of_one_net(rt: HostRuntime) -> Result<(), Fail> {
-    let ring = read_net(rt.alloc(), RING)?;
+    let ring = read_net(rt.alloc(), LOOP)?;
     let path = read_net(rt.alloc(), PATH)?;
     let parts = split(rt.alloc(), &ring)?;
     assert!(rt; parts.count() == 1);
@@ -45,7 +39,7 @@ fn targets_keep_their_limits(rt: HostRuntime) -> Result<(), Fail> {
 #[test]
 fn a_form_is_that_of_its_net(rt: HostRuntime) -> Result<(), Fail> {
     let alloc = rt.alloc();
-    let ring = LiveNet::new(alloc, read_net(alloc, RING)?)?;
+    let ring = LiveNet::new(alloc, read_net(alloc, LOOP)?)?;
     let path = LiveNet::new(alloc, read_net(alloc, PATH)?)?;
     let form = standard_form(alloc, ring.net(), ring.live())?;
     assert!(rt; is_standard_form_of(alloc, ring.net(), ring.live(), &form)?);

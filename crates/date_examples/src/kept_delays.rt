@@ -1,7 +1,7 @@
 //! Delays that stay and the circuit that shows it, tests of timetables and of due dates without end
 //! that a program makes itself, and the lines of their refusals.
+use example_nets::says;
 use std::alloc::{AllocError, Global};
-use std::fmt::Display;
 use std::test::Fail;
 use teg_check::check;
 use teg_forever::{EndlessRow, forever, is_endless_of, read_endless};
@@ -52,12 +52,21 @@ fn kept_delays_are_shown(rt: HostRuntime) -> Result<(), Fail> {
     assert!(rt; is_shown(&net, &tight, 7) == Some(true));
     let slack = spread(alloc, &net, &live, 8, &table, None)?;
     assert!(rt; is_shown(&net, &slack, 8).is_none());
-    let there = PlaceId::new(0);
-    let back = PlaceId::new(1);
-    assert!(rt; shows_kept(&net, 7, &[back, there]));
-    assert!(rt; !shows_kept(&net, 7, &[there]));
-    assert!(rt; !shows_kept(&net, 7, &[there, back, there, back]));
-    assert!(rt; !shows_kept(&net, u64::MAX, &[there, back]));
+    Ok(())
+}
+
+#[test]
+fn circuits_show_kept_delays(rt: HostRuntime) -> Result<(), Fail> {
+    let net = read_net(rt.alloc(), SHUTTLE)?;
+    let (there, back) = (PlaceId::new(0), PlaceId::new(1));
+    for (period, places, is_shown) in [
+        (7, [back, there].as_slice(), true),
+        (7, &[there], false),
+        (7, &[there, back, there, back], false),
+        (u64::MAX, &[there, back], false),
+    ] {
+        assert!(rt; shows_kept(&net, period, places) == is_shown, "{period}");
+    }
     Ok(())
 }
 
@@ -80,27 +89,29 @@ fn table_of(alloc: Global, firsts: &[u64], delays: &[(u32, u64)]) -> Result<Time
 
 #[test]
 fn timetables_are_tested(rt: HostRuntime) -> Result<(), Fail> {
-    let alloc = rt.alloc();
-    let net = read_net(alloc, SHUTTLE)?;
-    let right = table_of(alloc, &[0, 3], &[(1, 5), (2, 5)])?;
-    assert!(rt; is_table_of(&net, &right));
-    let one_short = table_of(alloc, &[0], &[])?;
-    assert!(rt; !is_table_of(&net, &one_short));
-    let late_first = table_of(alloc, &[0, 1_000_000_001], &[])?;
-    assert!(rt; !is_table_of(&net, &late_first));
-    let twice = table_of(alloc, &[0, 3], &[(1, 5), (2, 5), (1, 6)])?;
-    assert!(rt; !is_table_of(&net, &twice));
-    let no_delay = table_of(alloc, &[0, 3], &[(1, 0)])?;
-    assert!(rt; !is_table_of(&net, &no_delay));
+    let net = read_net(rt.alloc(), SHUTTLE)?;
+    for (firsts, delays, is_right) in [
+        ([0, 3].as_slice(), [(1, 5), (2, 5)].as_slice(), true),
+        (&[0], &[], false),
+        (&[0, 1_000_000_001], &[], false),
+        (&[0, 3], &[(1, 5), (2, 5), (1, 6)], false),
+        (&[0, 3], &[(1, 0)], false),
+    ] {
+        let table = table_of(rt.alloc(), firsts, delays)?;
+        assert!(rt;
+            is_table_of(&net, &table) == is_right,
+            "{firsts:?} {delays:?}"
+        );
+    }
     Ok(())
 }
 
-// A row of this transition by these dates.
-fn row_of(alloc: Global, index: u32, every: u32, dates: &[u64]) -> Result<EndlessRow, AllocError> {
+// A row of this transition by these dates, which goes on by 4 each 2 dates.
+fn row_of(alloc: Global, index: u32, dates: &[u64]) -> Result<EndlessRow, AllocError> {
     Ok(EndlessRow {
         row: 1,
         transition: TransitionId::new(index),
-        every,
+        every: 2,
         gap: 4,
         dates: DateList::new(Vec::from_slice(alloc, dates)?),
     })
@@ -108,33 +119,26 @@ fn row_of(alloc: Global, index: u32, every: u32, dates: &[u64]) -> Result<Endles
 
 #[test]
 fn endless_dues_are_tested(rt: HostRuntime) -> Result<(), Fail> {
-    let alloc = rt.alloc();
-    let net = read_net(alloc, FEED)?;
-    let right = row_of(alloc, 1, 2, &[10, 12])?;
-    let of_input = row_of(alloc, 0, 2, &[10, 12])?;
-    let falling = row_of(alloc, 1, 2, &[12, 10])?;
-    let falls_on = row_of(alloc, 1, 2, &[10, 15])?;
-    let too_few = row_of(alloc, 1, 2, &[10])?;
-    assert!(rt; is_endless_of(&net, &[right]));
-    assert!(rt; !is_endless_of(&net, &[of_input]));
-    assert!(rt; !is_endless_of(&net, &[falling]));
-    assert!(rt; !is_endless_of(&net, &[falls_on]));
-    assert!(rt; !is_endless_of(&net, &[too_few]));
-    let first = row_of(alloc, 1, 2, &[10, 12])?;
-    let second = row_of(alloc, 1, 2, &[10, 12])?;
-    assert!(rt; !is_endless_of(&net, &[first, second]));
-    Ok(())
-}
-
-// Whether this is the line of the refusal.
-fn says<T: Drop, E: Display + Drop>(alloc: Global, answer: Result<T, E>, line: &str) -> bool {
-    match answer {
-        Ok(_) => false,
-        Err(refusal) => match format!(in alloc; "{refusal}") {
-            Ok(text) => text.as_str() == line,
-            Err(_) => false,
-        },
+    let net = read_net(rt.alloc(), FEED)?;
+    for (index, dates, is_right) in [
+        (1, [10, 12].as_slice(), true),
+        (0, &[10, 12], false),
+        (1, &[12, 10], false),
+        (1, &[10, 15], false),
+        (1, &[10], false),
+    ] {
+        let row = row_of(rt.alloc(), index, dates)?;
+        assert!(rt;
+            is_endless_of(&net, &[row]) == is_right,
+            "{index} {dates:?}"
+        );
     }
+    let twice = [
+        row_of(rt.alloc(), 1, &[10, 12])?,
+        row_of(rt.alloc(), 1, &[10, 12])?,
+    ];
+    assert!(rt; !is_endless_of(&net, &twice));
+    Ok(())
 }
 
 #[test]

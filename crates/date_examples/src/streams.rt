@@ -4,8 +4,8 @@ ghost use Rattle.teg_net.specs.Limits.{greatest_firing_number};
 ghost use Rattle.teg_form.specs.StandardForms.{IsStandardFormOf};
 ghost use Rattle.teg_dates.specs.Streams.{IsStreamOf, rows_given};
 
-use crate::nets::{LOOP, MANY_TOKENS};
 use dioid::Date;
+use example_nets::LOOP;
 use std::alloc::Global;
 use std::test::Fail;
 use teg_check::check;
@@ -13,6 +13,10 @@ use teg_dates::Stream;
 use teg_form::{Form, standard_form};
 use teg_net::Net;
 use teg_reader::read_net;
+
+// The loop, with a place from b to itself that has as many tokens as a place may have.
+const MANY_TOKENS: &[u8] =
+    b"transition = [{name = 'a'}, {name = 'b'}]\nplace = [{name = 'ab', from = 'a', to = 'b', hold = 3}, {name = 'ba', from = 'b', to = 'a', hold = 2, tokens = 1}, {name = 'bb', from = 'b', to = 'b', hold = 9, tokens = 1000}]\n";
 
 // The row that comes next, of two transitions.
 fn next_of(stream: &mut Stream, net: &Net, form: &Form) -> (Date, Date)

@@ -5,7 +5,7 @@ ghost use Rattle.teg_dates.specs.PlaceOrder.{OrdersPlaces};
 ghost use Rattle.teg_dates.specs.KeptRows.{AreLeastRows};
 ghost use Rattle.teg_dates.specs.teg_model.Datings.{listed_releases, system_of};
 
-use crate::nets::LOOP;
+use example_nets::LOOP;
 use std::alloc::Global;
 use std::test::Fail;
 use teg_check::check;
