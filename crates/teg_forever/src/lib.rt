@@ -26,6 +26,7 @@ mod divisions;
 mod dues;
 mod gains;
 mod inputs;
+mod lagged;
 mod late;
 mod leads;
 mod numbers;
@@ -38,7 +39,6 @@ mod rows;
 mod rules;
 mod settled_row;
 mod texts;
-mod twins;
 
 pub use answers::forever;
 pub use forever_laws::EndlessRow;

@@ -1,6 +1,6 @@
 use Rattle.std.proofs.Common.{◌≡◌, ◌≤◌, length}
 use Rattle.teg_forever.specs.LatestReleases.{inputs_below}
-use Rattle.teg_forever.proofs.twins.twin_before.Given as goal
+use Rattle.teg_forever.proofs.lagged.input_before.Given as goal
 
 abbrev pub invariant-loop-index : goal.invariant-loop-index
 invariant-loop-index l = record {
