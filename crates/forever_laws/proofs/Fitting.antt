@@ -60,7 +60,7 @@ between : (t x : ℤ) → IsDateWithin greatest_value (At t) → IsDateWithin gr
 between t x h k = omega (arith, ints, h.0, h.1, k.0, k.1)
 
 -- a canonical form whose values are small as far as one past its list has small numbers
-small_numbers : (h : Form) → IsCanonical h → ((k : ℕ) → k ≤ size_of h → IsDateWithin greatest_value (value_at h k)) → HasSmallNumbers h
+pub small_numbers : (h : Form) → IsCanonical h → ((k : ℕ) → k ≤ size_of h → IsDateWithin greatest_value (value_at h k)) → HasSmallNumbers h
 small_numbers h is within = record { values = values; step = step (value_at h (repeat_start h)) refl } where
   values : (k : ℕ) → IsSmallDate (get_or h.values k Early)
   values k = ⊎_elim
@@ -90,7 +90,7 @@ series_of l n x h some fits short up is same within =
 
 -- ---- due dates
 
-due_low : (net : NetLists) (r : EndlessRow) → IsEndlessRow net r → (k : ℕ) → k ≤ 20001 → due_number r k ≤ greatest_value
+pub due_low : (net : NetLists) (r : EndlessRow) → IsEndlessRow net r → (k : ℕ) → k ≤ 40001 → due_number r k ≤ greatest_value
 due_low net r row k few =
     let some = row.goes_on.some in
     let every = row.goes_on.every_in in
@@ -98,7 +98,7 @@ due_low net r row k few =
     let slow = due_slow net r row k in
     let one : 1 * due_number r k ≤ r.every * due_number r k = product_most 1 (due_number r k) r.every (due_number r k) some (omega arith) in
     let two : r.every * greatest_input_date ≤ 1000 * greatest_input_date = product_most r.every greatest_input_date 1000 greatest_input_date every (omega arith) in
-    let three : r.gap * (k + r.every) ≤ greatest_input_date * 21001 = product_most r.gap (k + r.every) greatest_input_date 21001 gap (omega arith) in
+    let three : r.gap * (k + r.every) ≤ greatest_input_date * 41001 = product_most r.gap (k + r.every) greatest_input_date 41001 gap (omega arith) in
     omega arith
 
 pub due_series_fit : DueSeriesFit

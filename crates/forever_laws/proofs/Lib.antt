@@ -12,6 +12,8 @@ pub mod Residuals
 pub mod FirstRows
 pub mod OneColumn
 pub mod Fitting
+pub mod MovedForms
+pub mod MovedColumns
 pub use Rattle.teg_settle.proofs.number_laws_proofs as number_laws_proofs
 pub use Rattle.teg_settle.proofs.dioid_proofs as dioid_proofs
 pub use Rattle.teg_settle.proofs.dioid_matrix_proofs as dioid_matrix_proofs

@@ -69,12 +69,12 @@ left_attained f g k = by_tail f g k (tail_of f)
 
 -- ---- the meet over the rows
 
-record IsMeet (n k : ℕ) (walks dues : ℕ → Gain) (g : Gain) : Type 0 where
-  canonical : IsCanonical g.series
-  below : (i : ℕ) → i < n → Le (value_at g.series k) (residual_at (walks i).series (dues i).series k)
-  index : ℕ
-  within : index < n
-  is : value_at g.series k ≡ residual_at (walks index).series (dues index).series k
+pub record IsMeet (n k : ℕ) (walks dues : ℕ → Gain) (g : Gain) : Type 0 where
+  pub canonical : IsCanonical g.series
+  pub below : (i : ℕ) → i < n → Le (value_at g.series k) (residual_at (walks i).series (dues i).series k)
+  pub index : ℕ
+  pub within : index < n
+  pub is : value_at g.series k ≡ residual_at (walks index).series (dues index).series k
 
 first_meet : (k : ℕ) (walks dues : ℕ → Gain) → IsForm (walks 0).series → IsForm (dues 0).series → IsMeet 1 k walks dues (residual_over 1 walks dues)
 first_meet k walks dues w d =
@@ -87,7 +87,7 @@ first_meet k walks dues w d =
       is = is;
     }
 
-meets : (k : ℕ) (walks dues : ℕ → Gain) (n : ℕ) → ((i : ℕ) → i < suc n → IsForm (walks i).series × IsForm (dues i).series) → IsMeet (suc n) k walks dues (residual_over (suc n) walks dues)
+pub meets : (k : ℕ) (walks dues : ℕ → Gain) (n : ℕ) → ((i : ℕ) → i < suc n → IsForm (walks i).series × IsForm (dues i).series) → IsMeet (suc n) k walks dues (residual_over (suc n) walks dues)
 meets k walks dues zero h = let one = h 0 (omega arith) in first_meet k walks dues one.0 one.1
 meets k walks dues (suc n) h =
     let old : IsMeet (suc n) k walks dues (residual_over (suc n) walks dues) = meets k walks dues n (λ i l. h i (omega arith)) in
@@ -190,7 +190,7 @@ module _ (net : NetLists) (ok : IsNet net) (rows : List EndlessRow) (each : IsEn
       time.reached
 
   -- a residual is from 0 on
-  left_late : (i : ℕ) → i < length rows → IsAtMostDate (At (pos 0)) (residual_at (walks i).series (dues i).series k)
+  pub left_late : (i : ℕ) → i < length rows → IsAtMostDate (At (pos 0)) (residual_at (walks i).series (dues i).series k)
   left_late i l =
       let g : GotRow rows i = got_row rows i l in
       let f : Form = (walks i).series in

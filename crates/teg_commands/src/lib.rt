@@ -28,7 +28,6 @@ mod dates;
 mod forever;
 mod form;
 mod jit;
-mod lags;
 mod laws;
 mod migrate;
 mod numbers;

@@ -2,7 +2,8 @@
 ghost use Rattle.std.specs.Prelude.{◌≡◌, ◌≤◌, ◌<◌, ◌++◌, ◌∷◌, [], Some, All, IfErr, IfOk, IfSome, OnOk, length, map};
 ghost use Rattle.teg_commands.specs.CommandOutcomes.{Tells, outcome_of};
 ghost use Rattle.teg_commands.specs.CommandDates.{SaysTooLong};
-ghost use Rattle.teg_commands.specs.Lags.{AreLeaving, AreMovedFrom, AreMovedFromOne, line_moved, times_moved};
+ghost use Rattle.teg_lags.specs.Lags.{AreLeaving};
+ghost use Rattle.teg_commands.specs.Lags.{AreMovedFrom, AreMovedFromOne, line_moved, times_moved};
 ghost use Rattle.teg_commands.specs.Transfer.{AreTimesFrom, IsTimesFrom, SaysTransfer, TimesSettlePast, has_transition_role, those_of_role, times_in};
 ghost use Rattle.teg_net.specs.declared.entries.Role.TheVariants.{Output};
 ghost use Rattle.teg_net.specs.Nets.{IsInput};
@@ -10,12 +11,12 @@ ghost use Rattle.teg_report.specs.dioid.Dates.{move};
 ghost use Rattle.teg_report.specs.AnswerMeanings.{times_from, times_to};
 ghost use Rattle.teg_settle.specs.LimitRefusals.{IsRightSettleRefusal, greatest_limit};
 
-use crate::lags::lag_between;
 use crate::numbers::Limit;
 use crate::outcome::{CommandOutcome, Verdict};
 use dioid::Date;
 use std::alloc::{AllocError, Global};
 use teg_check::LiveNet;
+use teg_lags::lag_between;
 use teg_net::{Net, OutOfMemory, PlaceEnd, PlacesOf, Role, TransitionId};
 use teg_report::{Answer, TransferFrom, TransferLine, report};
 use teg_settle::{SettleRefusal, Settled, transfer, walk_times_settle};

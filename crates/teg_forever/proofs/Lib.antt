@@ -12,6 +12,6 @@ pub mod ReadBack
 pub mod Repeated
 pub mod Residues
 pub mod RowRules
-pub mod SameWalks
+pub mod LaggedReleases
 pub mod Series
 pub mod Written

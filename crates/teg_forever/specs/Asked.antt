@@ -2,10 +2,12 @@
 use Rattle.std.specs.Prelude.{ℕ, ◌≡◌, ◌≤◌, List}
 use Rattle.teg_check.specs.Ranks.{IsRanking}
 use Rattle.teg_net.specs.Circuits.{IsLive}
+use Rattle.teg_net.specs.declared.entries.PlaceId.{PlaceId}
 use Rattle.teg_net.specs.declared.entries.TransitionId.{TransitionId}
 use Rattle.teg_net.specs.Nets.{NetLists, IsNet, IsInput, without_inputs}
 use Rattle.teg_form.specs.StandardForms.{FormLists, IsStandardFormOf}
 use Rattle.forever_laws.specs.settled_laws.SettledForms.{SettledForm, settled_length}
+use Rattle.teg_lags.specs.Lags.{AreLeaving}
 use Rattle.teg_settle.specs.Transfers.{IsTransferOf}
 use Rattle.forever_laws.specs.due_laws.MeetingDueDates.{InputsMeet, inputs_at_zero}
 use Rattle.forever_laws.specs.declared.rows.EndlessRow.{EndlessRow}
@@ -18,6 +20,11 @@ pub record AreRanked (net : NetLists) (ranks : List ℕ) (rows : List EndlessRow
   pub stands : IsRanking net ranks
   pub is_live : IsLive net
   pub ends : IsEndlessOf net rows
+
+-- with the places that leave each transition
+pub record AreDue (net : NetLists) (ranks : List ℕ) (rows : List EndlessRow) (leaving : List (List PlaceId)) : Type 0 where
+  pub ranked : AreRanked net ranks rows
+  pub lists : AreLeaving net leaving
 
 -- an input of a live net with endless due dates, and the settled form of its walk times, which is not too long
 pub record IsAsked (net : NetLists) (f : SettledForm) (u : ℕ) (rows : List EndlessRow) : Type 0 where

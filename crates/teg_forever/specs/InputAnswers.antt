@@ -56,3 +56,8 @@ pub record AreReleasesBelow (net : NetLists) (rows : List EndlessRow) (n : ℕ) 
 abbrev pub IsReleaseBy : Form → Release → Type 0
 IsReleaseBy latest Free = value_at latest 0 ≡ Never
 IsReleaseBy latest (Latest series) = (value_at latest 0 ≢ Never) × (series ≡ latest) × IsSeries latest
+
+-- the input is fine, and this is its release
+pub record IsFineRelease (net : NetLists) (rows : List EndlessRow) (u : ℕ) (release : Release) : Type 0 where
+  pub fine : IsFine net rows u
+  pub right : IsReleaseOf net rows u release

@@ -16,7 +16,7 @@ use Rattle.forever_laws.specs.Late.{IsLateAt, IsLeastLate, NoneLate, NoneLateTo}
 use Rattle.forever_laws.specs.LateSearches.{IsCommonPeriodOf}
 use Rattle.forever_laws.specs.EndlessDues.{late_date_bound, late_number_bound}
 use Rattle.teg_forever.specs.declared.late.Soonest.{Soonest}
-use Rattle.teg_forever.specs.declared.late.Cycle.{Cycle}
+use Rattle.teg_forever.specs.declared.settled_row.Cycle.{Cycle}
 use Rattle.teg_forever.specs.declared.late.CommonPeriod.{CommonPeriod}
 use Rattle.teg_forever.specs.declared.alone.Told.{Told}
 use Rattle.teg_forever.specs.declared.alone.Told.TheVariants.{Late as ToldLate, None as ToldNone, Nothing}

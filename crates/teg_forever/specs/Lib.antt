@@ -7,5 +7,5 @@ pub mod Divisions
 pub mod LateFirings
 pub mod EndlessTexts
 pub mod Paces
-pub mod Twins
+pub mod Lagged
 pub use Rattle.forever_laws.specs as forever_laws

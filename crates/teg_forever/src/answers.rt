@@ -21,7 +21,7 @@ use forever_laws::{
 use std::alloc::Global;
 use teg_check::{Live, ranked_nets_are_live};
 use teg_form::standard_form;
-use teg_net::{Net, OutOfMemory};
+use teg_net::{Net, OutOfMemory, PlaceEnd, PlacesOf};
 use teg_settle::{SettleRefusal, SettledDates, settle_dates, settle_dates_within};
 
 // The longest settled form that is looked for before rows alone are asked.
@@ -176,9 +176,10 @@ fn keep_dues(alloc: Global, due: &DueRows<'_>) -> Result<(), ForeverRefusal>
 /// walk arrives yet. Rows that ask the same dates take one residual for all inputs that reach their
 /// transitions alike, as long as the series that are kept for that have fewer than three million
 /// values, which take some 100 MB; then a row takes time of the order of its series. An input whose
-/// places have the ends, the holding times and the tokens of those of an input before it, in any
-/// order, takes no more than a copy of that one's release; inputs are compared for that in time of
-/// order `i p^2` at most for i inputs, mostly of order `i^2 p`.
+/// places have the ends and the tokens of those of an input before it, in any order, and are all
+/// held longer by one difference, or shorter, or as long, takes no more than that one's release
+/// with each date moved, in time of order k, as long as its numbers fit; inputs are compared for
+/// that in time of order `p^2` at most for all of them, mostly of order `i p` for i inputs.
 pub fn forever(
     alloc: Global,
     net: &Net,
@@ -194,7 +195,8 @@ pub fn forever(
     net.transitions();
     ranked_nets_are_live();
     latest_at_inputs_are_latest();
-    let due = DueRows::new(net, live, rows);
+    let leaving = PlacesOf::new(alloc, net, PlaceEnd::From)?;
+    let due = DueRows::new(net, live, rows, &leaving);
     keep_dues(alloc, &due)?;
     releases_of(alloc, &due)
 }

@@ -1,12 +1,13 @@
 //! Endless due dates of a live net, and an input of which they are asked.
 ghost use Rattle.std.specs.Prelude.{◌≡◌, ◌<◌, Some, length, slice_get};
-ghost use Rattle.teg_forever.specs.Asked.{AreRanked, AreRankedRows, IsAsked, IsAskedWith, input_asked, ranked_rows};
+ghost use Rattle.teg_lags.specs.Lags.{AreLeaving};
+ghost use Rattle.teg_forever.specs.Asked.{AreDue, AreRankedRows, IsAsked, IsAskedWith, input_asked, ranked_rows};
 ghost use Rattle.forever_laws.specs.EndlessRows.{IsEndlessRow};
 
 use forever_laws::EndlessRow;
 use std::marker::Model;
 use teg_check::Live;
-use teg_net::{Net, TransitionId};
+use teg_net::{Net, PlacesOf, TransitionId};
 use teg_settle::Settled;
 
 // Endless due dates of a live net. Contracts see the ranks with them.
@@ -15,25 +16,36 @@ pub(crate) struct DueRows<'a> {
     net: &'a Net,
     live: &'a Live,
     rows: &'a [EndlessRow],
+    leaving: &'a PlacesOf,
 }
 
 impl<'a> Model for DueRows<'a> {
-    ghost use Rattle.teg_forever.specs.Asked.{AreRanked, RankedRows, ranked_rows};
+    ghost use Rattle.teg_forever.specs.Asked.{AreDue, RankedRows, ranked_rows};
 
     ghost Value = { RankedRows };
 
     ghost view = { λ a. ranked_rows a.net.now a.live.now a.rows.now };
 
-    ghost invariant = { λ a. AreRanked a.net.now a.live.now a.rows.now };
+    ghost invariant = { λ a. AreDue a.net.now a.live.now a.rows.now a.leaving.now };
 }
 
 impl<'a> DueRows<'a> {
-    // These rows of the net.
-    pub(crate) fn new(net: &'a Net, live: &'a Live, rows: &'a [EndlessRow]) -> DueRows<'a>
-        requires { AreRanked net.now live.now rows.now }
+    // These rows of the net, of which the places that leave each transition are listed.
+    pub(crate) fn new(
+        net: &'a Net,
+        live: &'a Live,
+        rows: &'a [EndlessRow],
+        leaving: &'a PlacesOf,
+    ) -> DueRows<'a>
+        requires { AreDue net.now live.now rows.now leaving.now }
         ensures { result ≡ ranked_rows net.now live.now rows.now }
     {
-        DueRows { net, live, rows }
+        DueRows {
+            net,
+            live,
+            rows,
+            leaving,
+        }
     }
 
     // The net.
@@ -58,6 +70,13 @@ impl<'a> DueRows<'a> {
         ensures given { AreRankedRows self.now }
     {
         self.rows
+    }
+
+    // Of each transition the places that leave it.
+    pub(crate) fn leaving(&self) -> &PlacesOf
+        ensures { AreLeaving self.now.net result.now }
+    {
+        self.leaving
     }
 }
 

@@ -1,22 +1,22 @@
 //! The latest releases of the inputs, one by one.
-ghost use Rattle.std.specs.Prelude.{◌≡◌, ◌<◌, ◌≤◌, ◌+◌, Some, length, slice_get, IfOk, IfErr, OnOk};
+ghost use Rattle.std.specs.Prelude.{◌≡◌, ◌<◌, ◌≤◌, ◌+◌, length, IfOk, IfErr, IfSome, OnOk};
 ghost use Rattle.forever_laws.specs.due_laws.MeetingDueDates.{InputsMeet, inputs_at_zero};
 ghost use Rattle.teg_net.specs.Nets.{IsInput};
 ghost use Rattle.forever_laws.specs.EndlessRows.{due_on};
 ghost use Rattle.teg_forever.specs.Asked.{AreMetAtZero};
-ghost use Rattle.teg_forever.specs.InputAnswers.{AreReleasesBelow, IsReleaseBy, IsStopped};
+ghost use Rattle.teg_forever.specs.InputAnswers.{AreReleasesBelow, IsFineRelease, IsReleaseBy, IsStopped};
 ghost use Rattle.teg_forever.specs.Divisions.{AreDivisions};
 ghost use Rattle.teg_forever.specs.LatestReleases.{ForeverRefused, IsFine, IsReleaseOf};
 
 use crate::asked::{DueRows, InputRows};
 use crate::divisions::Divisions;
+use crate::lagged::{earlier_release, input_before};
 use crate::releases::{ForeverRefusal, Release};
 use crate::residuals::meet_of;
-use crate::twins::twin_before;
 use dioid::Date;
 use forever_laws::{columns_exist, residuals_are_latest_dates};
 use series_form::Series;
-use std::alloc::{AllocError, Global};
+use std::alloc::Global;
 use teg_due::is_input;
 use teg_net::TransitionId;
 use teg_settle::{SettleRefusal, transfer, walk_times_settle};
@@ -88,30 +88,29 @@ fn release_of(
     )
 }
 
-// The same release once more.
-fn release_copy(alloc: Global, release: &Release) -> Result<Release, AllocError>
-    ensures { IfOk result (λ copy. copy ≡ release.now) }
+// The release of the next input by that of one before it whose places lead on alike but for a lag,
+// if there is one and its series fits.
+fn release_by_another(
+    alloc: Global,
+    due: &DueRows<'_>,
+    input: TransitionId,
+    releases: &[Release],
+) -> Result<Option<Release>, ForeverRefusal>
+    requires meet { AreMetAtZero due.now }
+    requires input { IsInput due.now.net input.index }
+    requires releases { AreReleasesBelow due.now.net due.now.rows input.index releases.now }
+    ensures release { IfOk result (λ found. IfSome found (IsFineRelease due.now.net due.now.rows
+        input.index)) }
+    ensures memory { IfErr result (λ e. e ≡ ForeverRefusal.OutOfMemory) }
 {
-    match release {
-        Release::Free => Ok(Release::Free),
-        Release::Latest { series } => {
-            let series = series.duplicate(alloc)?;
-            Ok(Release::Latest { series })
-        }
+    walk_times_settle();
+    match input_before(due.net(), due.leaving(), input) {
+        Some(before) => earlier_release(alloc, &releases[before.place], before.lag),
+        None => Ok(None),
     }
 }
 
-// The release that stands at this place, once more.
-fn release_at(alloc: Global, releases: &[Release], place: usize) -> Result<Release, ForeverRefusal>
-    requires { place < length releases.now }
-    ensures copy { IfOk result (λ copy. slice_get releases.now place ≡ Some copy) }
-    ensures memory { IfErr result (λ e. e ≡ ForeverRefusal.OutOfMemory) }
-{
-    let copy = release_copy(alloc, &releases[place])?;
-    Ok(copy)
-}
-
-// The release of the next input: that of one before it whose places lead on alike, if there is one.
+// The release of the next input: that of one before it, moved, if there is such a one.
 fn next_release(
     alloc: Global,
     due: &DueRows<'_>,
@@ -128,10 +127,10 @@ fn next_release(
     ensures release { IfOk result (IsReleaseOf due.now.net due.now.rows input.index) }
     ensures stopped { IfErr result (IsStopped due.now.net due.now.rows input) }
 {
-    walk_times_settle();
-    match twin_before(due.net(), input) {
-        Some(place) => release_at(alloc, releases, place),
-        None => release_of(alloc, due, input, divisions),
+    match release_by_another(alloc, due, input, releases) {
+        Ok(Some(release)) => Ok(release),
+        Ok(None) => release_of(alloc, due, input, divisions),
+        Err(_) => Err(ForeverRefusal::OutOfMemory),
     }
 }
 

@@ -10,7 +10,7 @@ ghost use Rattle.forever_laws.specs.LateSearches.{IsSoonest, IsCommonPeriodOf, t
 ghost use Rattle.teg_forever.specs.LateFirings.{GainsByTurns, IsCycleOf, IsLateAfter, IsSoonLate, GoesOnPast, RisesIn};
 
 use crate::leads::none_late_past;
-use crate::settled_row::SettledRow;
+use crate::settled_row::{Cycle, SettledRow};
 use forever_laws::{late_is_soon, turns_tell_late};
 use teg_net::{GREATEST_FIRING_NUMBER, OutOfMemory};
 
@@ -20,13 +20,6 @@ pub(crate) struct LateFiring {
     pub number: u128,
     pub due: u128,
     pub least: u128,
-}
-
-// So many firings on, the least dates of a transition have risen by so much.
-#[derive(Clone, Copy)]
-pub(crate) struct Cycle {
-    pub firings: u64,
-    pub rise: u128,
 }
 
 // Past number `past` each turn of firings adds `rise` to the least dates and `fall` to the due

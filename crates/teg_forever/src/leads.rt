@@ -14,8 +14,7 @@ ghost use Rattle.forever_laws.specs.settled_laws.SettledForms.{settled_date};
 ghost use Rattle.teg_forever.specs.LateFirings.{AreDatesUnder, AreDuesOver, IsCycleOf, IsGoingRow, NoneLatePast, GoesOnPast, greatest_row_number, most_cycle};
 
 use crate::dues::due_at;
-use crate::late::Cycle;
-use crate::settled_row::SettledRow;
+use crate::settled_row::{Cycle, SettledRow};
 use forever_laws::EndlessRow;
 
 // The longest cycle that is looked at, so that all products are small.

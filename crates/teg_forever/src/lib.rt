@@ -7,10 +7,10 @@
 //! [`forever_refusal_text`] and [`endless_refusal_text`] are the texts of the answers, and
 //! different answers have different texts. The crate stands on `forever_laws` and `due_laws` for
 //! what endless due dates are and what holds of them, on `teg_settle` and `settled_laws` for
-//! settled forms of dates and of walk times, on `series_laws`, `series_form`, `series_ops`,
-//! `periodic_laws` and `dioid_matrix` for residuals of series, on `teg_due` and `csv_records` for
-//! rows, on `teg_text` for texts, on `teg_model` for datings, on `teg_net` and `teg_check` for
-//! nets, and on `dioid` for dates.
+//! settled forms of dates and of walk times, on `teg_lags` for inputs that lead on alike, on
+//! `series_laws`, `series_form`, `series_ops`, `periodic_laws` and `dioid_matrix` for residuals of
+//! series, on `teg_due` and `csv_records` for rows, on `teg_text` for texts, on `teg_model` for
+//! datings, on `teg_net` and `teg_check` for nets, and on `dioid` for dates.
 //! Its examples stand in `worked_examples`.
 //!
 //! A refusal is told by its first cause: the first row that is late; then, of the first input that
@@ -26,6 +26,7 @@ mod divisions;
 mod dues;
 mod gains;
 mod inputs;
+mod lagged;
 mod late;
 mod leads;
 mod numbers;
@@ -38,7 +39,6 @@ mod rows;
 mod rules;
 mod settled_row;
 mod texts;
-mod twins;
 
 pub use answers::forever;
 pub use forever_laws::EndlessRow;

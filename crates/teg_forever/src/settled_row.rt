@@ -14,6 +14,13 @@ use std::marker::Model;
 use teg_net::TransitionId;
 use teg_settle::SettledDates;
 
+// So many firings on, the least dates of a transition have risen by so much.
+#[derive(Clone, Copy)]
+pub(crate) struct Cycle {
+    pub firings: u64,
+    pub rise: u128,
+}
+
 // The least date of a firing.
 fn least_at(settled: &SettledDates, transition: TransitionId, number: u64) -> u128
     requires climbing { IsClimbing settled.now transition.index }

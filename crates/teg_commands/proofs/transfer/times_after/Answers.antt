@@ -3,7 +3,7 @@ use Rattle.std.specs.Int.{w128}
 use Rattle.std.proofs.lemmas.Int.{to_z-of_z}
 use mir.Val.{SFits}
 use Rattle.teg_report.specs.AnswerMeanings.{times_from}
-use Rattle.teg_commands.specs.Lags.{AreLagged}
+use Rattle.teg_lags.specs.Lags.{AreLagged}
 use Rattle.teg_commands.proofs.Lagged.{moved_so}
 use Rattle.teg_commands.proofs.transfer.times_after.Goals as goal
 
@@ -13,4 +13,4 @@ returns-in-Some c =
     let fits : SFits w128 lag = search rules in
     let known : to_z w128 (of_z w128 lag) ≡ lag = to_z-of_z w128 lag fits in
     moved_so c.args.net.now c.args.input (times_from c.args.before.now) (to_z w128 (of_z w128 lag)) c.moved_times.result
-    (subst (AreLagged c.args.net.now c.args.before.now.from.index c.args.input.index) (sym known) c.in-Some.ensures) c.moved_times.ensures
+    (subst (AreLagged c.args.net.now c.args.before.now.from.index c.args.input.index) (sym known) c.in-Some.ensures.lagged) c.moved_times.ensures

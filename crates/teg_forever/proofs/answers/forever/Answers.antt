@@ -4,10 +4,13 @@ use Rattle.teg_forever.proofs.answers.forever.Goals as goal
 
 pub new-due-requires : goal.new-due-requires
 new-due-requires c = record {
-  rules = c.transitions.ensures.rules;
-  stands = c.requires.stands;
-  is_live = c.ranked_nets_are_live.ensures c.args.net.now c.args.live.now c.requires.stands;
-  ends = c.requires.rows;
+  ranked = record {
+    rules = c.transitions.ensures.rules;
+    stands = c.requires.stands;
+    is_live = c.ranked_nets_are_live.ensures c.args.net.now c.args.live.now c.requires.stands;
+    ends = c.requires.rows;
+  };
+  lists = c.in_ok-leaving.ensures;
 }
 
 pub returns-clause-releases : goal.returns-clause-releases
