@@ -1,5 +1,6 @@
 -- Forms with all values moved by a number: their residuals and minima are moved, too, and repeat from where they did.
-use Rattle.std.proofs.Common.{ℕ, ℤ, pos, zero, suc, ◌+◌, ◌-◌, ◌*◌, ◌/◌, ◌%◌, ◌<◌, ◌≤◌, ◌≡◌, ◌-ℤ◌, ◌⊎◌, inl, inr, List, [], ◌∷◌, true, false, cond, ltb, length, map, get_or, refl, sym, ap, subst, ◌∙◌, arith, ⊎_elim}
+use Rattle.std.proofs.Common.{ℕ, ℤ, pos, zero, suc, ◌+◌, ◌-◌, ◌*◌, ◌/◌, ◌%◌, ◌<◌, ◌≤◌, ◌≡◌, ◌-ℤ◌, ◌⊎◌, inl, inr, List, [], ◌∷◌, true, false, cond, ltb, length, map}
+use Rattle.std.proofs.Common.{get_or, refl, sym, ap, subst, ◌∙◌, arith, ⊎_elim}
 use Rattle.std.specs.Prelude.{max}
 use Rattle.std.proofs.lemmas.Bool.{cases_Bool, cases_lt}
 use Rattle.std.proofs.lemmas.Int.{ints}
@@ -16,7 +17,8 @@ use Rattle.teg_settle.specs.series_laws.Residual.{IsLeftAt}
 use Rattle.teg_settle.specs.series_laws.declared.plans.NeedPlan.{NeedPlan}
 use Rattle.teg_settle.specs.series_laws.declared.plans.Slopes.{Slopes}
 use Rattle.teg_settle.specs.series_laws.declared.plans.Slopes.TheVariants.{Equal, First, Second}
-use Rattle.teg_settle.specs.series_laws.Needs.{tail_of, slopes_by, slopes_of, rise_of, fall_of, period_with, greatest_int, later_start, lead_of, periods_behind, ceiling, crossing, crossing_by, least_plan, least_plan_by, form_least, plan}
+use Rattle.teg_settle.specs.series_laws.Needs.{tail_of, slopes_by, slopes_of, rise_of, fall_of, period_with, greatest_int, later_start, lead_of, periods_behind}
+use Rattle.teg_settle.specs.series_laws.Needs.{ceiling, crossing, crossing_by, least_plan, least_plan_by, form_least, plan}
 use Rattle.teg_settle.specs.series_laws.ProductNeeds.{left_plan, left_plan_by, left_plan_by_slopes, long_left, offsets_of, short_left, residual_at, form_left}
 use Rattle.teg_settle.proofs.series_laws_proofs.Canonical.{one_canonical}
 use Rattle.teg_settle.proofs.series_laws_proofs.Lefts.{left_is, form_left_is, form_left_values}

@@ -109,10 +109,12 @@ module _ (net : NetLists) (ok : IsNet net) (u v : ℕ) (lag : ℤ) (first : IsIn
       due_series = columns.due_series;
     }
 
-    lagged_short : (walks dues : ℕ → Gain) → IsLive net → WalkTimesSettleSoon net u → AreSeriesColumns net u rows walks dues → (i : ℕ) → i < length rows → size_of (moved_form lag (walks i).series) ≤ 20000
+    lagged_short : (walks dues : ℕ → Gain) → IsLive net → WalkTimesSettleSoon net u → AreSeriesColumns net u rows walks dues → (i : ℕ) → i < length rows
+        → size_of (moved_form lag (walks i).series) ≤ 20000
     lagged_short walks dues live soon columns i l =
         let g : GotRow rows i = got_row rows i l in
-        let is : IsSeries (walks i).series = walk_series_fit net ok live u first soon.0 soon.1 soon.2 g.row.transition.index (row_rules i g.row g.got).in_range (walks i).series (columns.walk_series i g.row g.got) in
+        let is : IsSeries (walks i).series =
+        walk_series_fit net ok live u first soon.0 soon.1 soon.2 g.row.transition.index (row_rules i g.row g.got).in_range (walks i).series (columns.walk_series i g.row g.got) in
         let short : size_of (walks i).series ≤ 20000 = is.short in
         omega (arith, short, moved_size lag (walks i).series)
 
@@ -142,7 +144,15 @@ module _ (net : NetLists) (ok : IsNet net) (u v : ℕ) (lag : ℤ) (first : IsIn
     date_on : (k : ℕ) (d : Date) → IsDateToDue net (due_on rows) u k d → IsDateToDue net (due_on rows) v k (move (pos 0 -ℤ lag) d)
     date_on k d h =
         let o : LeadsSo net v k h.to h.number lag h.steps = lagged_walk net ok u v lag first second lagged h.steps k h.to h.number (due_apart h.to h.number h.due_date h.is_due) h.walk in
-        record { to = h.to; number = h.number; due_date = h.due_date; steps = o.own; walk = o.walk; is_due = h.is_due; is = still_due (walk_time net h.steps) (walk_time net o.own) h.due_date d o.time h.is }
+        record {
+          to = h.to;
+          number = h.number;
+          due_date = h.due_date;
+          steps = o.own;
+          walk = o.walk;
+          is_due = h.is_due;
+          is = still_due (walk_time net h.steps) (walk_time net o.own) h.due_date d o.time h.is;
+        }
 
 module _ (net : NetLists) (ok : IsNet net) (u v : ℕ) (lag : ℤ) (first : IsInput net u) (second : IsInput net v) (lagged : AreLagged net u v lag)
     (rows : List EndlessRow) (ends : IsEndlessOf net rows) where

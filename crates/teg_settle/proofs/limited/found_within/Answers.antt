@@ -12,5 +12,8 @@ returns-then-form-from-clause-too_long c =
 
 pub returns-in-None-clause-too_long : goal.returns-in-None-clause-too_long
 returns-in-None-clause-too_long c =
-    let unseen = rw c.in-None.is at c.in_ok-searched.ensures.shown in
-    (refl, past_unseen c.args.asked.now.net.now c.args.asked.now.releases.now c.args.asked.now.most c.args.limit (2 * c.from.result + c.args.asked.now.most) c.requires.asked.ready (omega (arith, c.from.ensures)) unseen.refuted)
+    let unseen = rw c.in-None.is at c.in_ok-searched.ensures.shown in (
+      refl,
+      past_unseen c.args.asked.now.net.now c.args.asked.now.releases.now c.args.asked.now.most c.args.limit (2 * c.from.result + c.args.asked.now.most) c.requires.asked.ready
+          (omega (arith, c.from.ensures)) unseen.refuted,
+    )

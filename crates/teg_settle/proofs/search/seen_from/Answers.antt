@@ -33,10 +33,11 @@ returns-else-after-latest c =
     let after = c.moved_past-after.result in
     let says = rw c.count.ensures.value at c.are_released_alike.ensures in
     let early : after ≤ c.args.rows.now.count - c.args.asked.now.most - c.args.period - c.args.period = omega (arith, c.count.ensures.value, c.if-after-latest.false) in
-    let tests : AreTested c.args.asked.now.net.now c.args.asked.now.releases.now c.args.rows.now c.args.period (c.args.rows.now.count - c.args.asked.now.most - c.args.period - c.args.period) = record {
+    let tests : AreTested c.args.asked.now.net.now c.args.asked.now.releases.now c.args.rows.now c.args.period
+    (c.args.rows.now.count - c.args.asked.now.most - c.args.period - c.args.period) = record {
       rising = c.is_rising.ensures.0 c.if-not-is_rising.false;
       moved = λ k l m. c.moved_past-after.ensures.moved k (omega arith) m;
       alike = says.0 c.if-not-are_released_alike.false;
     } in
-    seen_from c.args.asked.now.net.now c.args.asked.now.releases.now c.args.asked.now.most c.requires.ready c.args.rows.now c.requires.made c.args.period after c.requires.window.some c.requires.fits early tests
-    c.moved_past-after.ensures.moved c.moved_past-after.ensures.first
+    seen_from c.args.asked.now.net.now c.args.asked.now.releases.now c.args.asked.now.most c.requires.ready c.args.rows.now c.requires.made c.args.period after
+    c.requires.window.some c.requires.fits early tests c.moved_past-after.ensures.moved c.moved_past-after.ensures.first
