@@ -1,9 +1,9 @@
 -- Inputs whose places lead on alike, but that from one all places are held so much longer than from the other: walks from it take so much
 -- longer, and so in their settled forms each date outside the inputs comes so much later.
 use Rattle.std.proofs.Common.{ℕ, ℤ, pos, ◌+◌, ◌-◌, ◌<◌, ◌≤◌, ◌≡◌, ◌≢◌, ◌==◌, ◌⊎◌, ◌+ℤ◌, ◌-ℤ◌, inl, inr, List, [], ◌∷◌, ◌++◌, All, length, map, take, get_or, refl, sym, subst, ap, ◌∙◌, arith, ⊎_elim}
-use Rattle.std.specs.Prelude.{◌≤ℤ◌, Contains, if◌then◌else◌}
+use Rattle.std.specs.Prelude.{◌≤ℤ◌, Contains, if◌then◌else◌, min}
 use Rattle.std.specs.Int.RustNames.{unsigned_abs}
-use Rattle.std.proofs.lemmas.Bool.{cases_Bool}
+use Rattle.std.proofs.lemmas.Bool.{cases_Bool, cases_lt}
 use Rattle.std.proofs.lemmas.Bool.Decides.{nat_tests}
 use Rattle.std.proofs.lemmas.Int.{ints}
 use Rattle.std.proofs.lemmas.List.{get_or_default, get_or-map, length-map, same_lists}
@@ -28,7 +28,7 @@ use Rattle.teg_net.specs.PlaceLists.{ArePlacesOf}
 use Rattle.teg_net.specs.Walks.{Walks, step_time, walk_time}
 use Rattle.teg_settle.specs.settled_laws.SettledForms.{RepeatsAfter, IsTail, SettledForm, settled_length, row_of, step_of_form, IsShortestForm}
 use Rattle.teg_settle.proofs.settled_laws_proofs.Deciding.{same_date}
-use Rattle.teg_lags.specs.Lags.{AreLagged, HasHeldLonger, IsHeldLonger, LaggedTimesAreMoved, LeadsLonger}
+use Rattle.teg_lags.specs.Lags.{AreLagged, HasHeldLonger, HasHold, IsHeldLonger, LaggedTimesAreMoved, LeadsLonger}
 use Rattle.teg_settle.specs.Transfers.{AreWalkTimes, IsGreatestWalkTime}
 use Rattle.teg_settle.proofs.Transferring.{input_within}
 
@@ -351,3 +351,108 @@ one_place_more net lag others firsts i d l here h =
     let Has : PlaceId → Type 0 = λ p. HasHeldLonger net lag others (place_at net p) in
     let taken : take (i + 1) firsts ≡ take i firsts ++ get_or firsts i d ∷ [] = simp unary_clauses (take-suc firsts i d l) in
     subst (All Has) (sym taken) (All-push Has (take i firsts) (get_or firsts i d) h here)
+
+-- ---- no other lag
+
+-- the places that leave two transitions that lead on alike
+listed : (net : NetLists) (lists : List (List PlaceId)) (u v : ℕ) (lag : ℤ) → ArePlacesOf net From lists → u < length net.transitions → v < length net.transitions
+    → LeadsLonger net u v lag → All (λ p. HasHeldLonger net lag (get_or lists v []) (place_at net p)) (get_or lists u [])
+listed net lists u v lag are u_in v_in h = λ i d l.
+    let own = h (get_or (get_or lists u []) i d) ((are.each u u_in).known i d l) ((are.each u u_in).right i d l) in
+    (own.0, (are.each v v_in).all own.0 own.1 own.2, own.3)
+
+-- where there is a place, some place has the least hold
+some_least : (net : NetLists) → IsNet net → (places : List PlaceId) (a : ℕ) → All (λ p. p.index < length net.places) places → All (λ p. a ≤ (place_at net p).hold) places
+    → (a ≡ greatest_hold) ⊎ HasHold net places a → (p : PlaceId) → Contains places p → HasHold net places a
+some_least net ok places a known low at p there =
+    ⊎_elim
+    (λ (e : a ≡ greatest_hold).
+    let within : p.index < length net.places = All-contains (λ q. q.index < length net.places) places p known there in
+    let high : (place_at net p).hold ≤ greatest_hold = (ok.each_place p.index no_place within).hold_in in
+    let lower : a ≤ (place_at net p).hold = All-contains (λ q. a ≤ (place_at net q).hold) places p low there in
+    (p, there, omega (arith, e, high, lower)))
+    (λ (h : HasHold net places a). h)
+    at
+
+least_longer : (net : NetLists) (firsts others : List PlaceId) (lag : ℤ) (a b : ℕ) → HasHold net firsts a → All (λ q. b ≤ (place_at net q).hold) others
+    → All (λ p. HasHeldLonger net lag others (place_at net p)) firsts → pos b ≤ℤ (pos a +ℤ lag)
+least_longer net firsts others lag a b at low h =
+    let own : HasHeldLonger net lag others (place_at net at.0) = All-contains (λ p. HasHeldLonger net lag others (place_at net p)) firsts at.0 h at.1 in
+    let least : b ≤ (place_at net own.0).hold = All-contains (λ q. b ≤ (place_at net q).hold) others own.0 low own.1 in
+    let longer : pos (place_at net own.0).hold ≡ pos (place_at net at.0).hold +ℤ lag = own.2.hold in
+    let held : (place_at net at.0).hold ≡ a = at.2 in
+    omega (arith, ints, least, longer, held)
+
+one_lag : (a b : ℕ) (lag z : ℤ) → pos b ≤ℤ (pos a +ℤ lag) → pos a ≤ℤ (pos b +ℤ (pos 0 -ℤ lag)) → pos b ≡ pos a +ℤ z → lag ≡ z
+one_lag a b lag z h k e = omega (arith, ints, h, k, e)
+
+-- the lag by which lists lead on alike is that of their least holds
+module _ (net : NetLists) (ok : IsNet net) (firsts others : List PlaceId) (a b : ℕ) (lag z : ℤ)
+    (firsts_known : All (λ p. p.index < length net.places) firsts) (others_known : All (λ p. p.index < length net.places) others)
+    (a_low : All (λ p. a ≤ (place_at net p).hold) firsts) (b_low : All (λ p. b ≤ (place_at net p).hold) others)
+    (a_at : (a ≡ greatest_hold) ⊎ HasHold net firsts a) (b_at : (b ≡ greatest_hold) ⊎ HasHold net others b) (longer : pos b ≡ pos a +ℤ z)
+    (on : All (λ p. HasHeldLonger net lag others (place_at net p)) firsts) (back : All (λ p. HasHeldLonger net (pos 0 -ℤ lag) firsts (place_at net p)) others) where
+  same_lag : (p q : PlaceId) → Contains firsts p → Contains others q → lag ≡ z
+  same_lag p q p_there q_there =
+      let a_of : HasHold net firsts a = some_least net ok firsts a firsts_known a_low a_at p p_there in
+      let b_of : HasHold net others b = some_least net ok others b others_known b_low b_at q q_there in
+      one_lag a b lag z (least_longer net firsts others lag a b a_of b_low on) (least_longer net others firsts (pos 0 -ℤ lag) b a b_of a_low back) longer
+
+  on_by_least : All (λ p. HasHeldLonger net z others (place_at net p)) firsts
+  on_by_least = λ i d l.
+      let h : HasHeldLonger net lag others (place_at net (get_or firsts i d)) = on i d l in
+      subst (λ (y : ℤ). HasHeldLonger net y others (place_at net (get_or firsts i d))) (same_lag (get_or firsts i d) h.0 (Contains-get_or firsts i d l) h.1) h
+
+  back_by_least : All (λ p. HasHeldLonger net (pos 0 -ℤ z) firsts (place_at net p)) others
+  back_by_least = λ i d l.
+      let h : HasHeldLonger net (pos 0 -ℤ lag) firsts (place_at net (get_or others i d)) = back i d l in
+      subst (λ (y : ℤ). HasHeldLonger net (pos 0 -ℤ y) firsts (place_at net (get_or others i d))) (same_lag h.0 (get_or others i d) h.1 (Contains-get_or others i d l)) h
+
+-- so places that lead on alike do by the lag of their least holds
+pub led_by_least : (net : NetLists) → IsNet net → (lists : List (List PlaceId)) (u v : ℕ) (lag z : ℤ) (firsts others : List PlaceId) (a b : ℕ)
+    → ArePlacesOf net From lists → u < length net.transitions → v < length net.transitions → firsts ≡ get_or lists u [] → others ≡ get_or lists v []
+    → All (λ p. a ≤ (place_at net p).hold) firsts → All (λ p. b ≤ (place_at net p).hold) others
+    → (a ≡ greatest_hold) ⊎ HasHold net firsts a → (b ≡ greatest_hold) ⊎ HasHold net others b → pos b ≡ pos a +ℤ z → AreLagged net u v lag
+    → All (λ p. HasHeldLonger net z others (place_at net p)) firsts × All (λ p. HasHeldLonger net (pos 0 -ℤ z) firsts (place_at net p)) others
+led_by_least net ok lists u v lag z firsts others a b are u_in v_in is_first is_other a_low b_low a_at b_at longer lagged =
+    let firsts_known : All (λ p. p.index < length net.places) firsts = known_places net lists u firsts are u_in is_first in
+    let others_known : All (λ p. p.index < length net.places) others = known_places net lists v others are v_in is_other in
+    let on : All (λ p. HasHeldLonger net lag others (place_at net p)) firsts = rw (is_first, is_other) (listed net lists u v lag are u_in v_in lagged.0) in
+    let back : All (λ p. HasHeldLonger net (pos 0 -ℤ lag) firsts (place_at net p)) others = rw (is_first, is_other) (listed net lists v u (pos 0 -ℤ lag) are v_in u_in lagged.1) in (
+      on_by_least net ok firsts others a b lag z firsts_known others_known a_low b_low a_at b_at longer on back,
+      back_by_least net ok firsts others a b lag z firsts_known others_known a_low b_low a_at b_at longer on back,
+    )
+
+-- no place so far, and none here
+pub none_more_longer : (net : NetLists) (lag : ℤ) (others : List PlaceId) (i : ℕ) (d : PlaceId) (p place : Place) → i < length others
+    → place ≡ place_at net (get_or others i d) → (IsHeldLonger lag p place → ⊥)
+    → All (λ q. IsHeldLonger lag p (place_at net q) → ⊥) (take i others) → All (λ q. IsHeldLonger lag p (place_at net q) → ⊥) (take (i + 1) others)
+none_more_longer net lag others i d p place l there unlike h =
+    let Not : PlaceId → Type 0 = λ q. IsHeldLonger lag p (place_at net q) → ⊥ in
+    let taken : take (i + 1) others ≡ take i others ++ get_or others i d ∷ [] = simp unary_clauses (take-suc others i d l) in
+    subst (All Not) (sym taken) (All-push Not (take i others) (get_or others i d) h (subst (λ (x : Place). IsHeldLonger lag p x → ⊥) there unlike))
+
+pub none_longer : (net : NetLists) (lag : ℤ) (others : List PlaceId) (p : Place) → All (λ q. IsHeldLonger lag p (place_at net q) → ⊥) others → HasHeldLonger net lag others p → ⊥
+none_longer net lag others p none h = All-contains (λ q. IsHeldLonger lag p (place_at net q) → ⊥) others h.0 none h.1 h.2
+
+one_of : (a b m : ℕ) → m ≡ min a b → (m ≡ a) ⊎ (m ≡ b)
+one_of a b m is = ⊎_elim (λ (l : a < b). inl (omega (arith, is, l))) (λ (l : b ≤ a). inr (omega (arith, is, l))) (cases_lt a b)
+
+-- the least of one place more
+pub least_more : (net : NetLists) (places : List PlaceId) (i : ℕ) (d : PlaceId) (old new : ℕ) (place : Place) → i < length places
+    → place ≡ place_at net (get_or places i d) → new ≡ min old place.hold
+    → (old ≤ greatest_hold) × All (λ p. old ≤ (place_at net p).hold) (take i places) × ((old ≡ greatest_hold) ⊎ HasHold net places old)
+    → (new ≤ greatest_hold) × All (λ p. new ≤ (place_at net p).hold) (take (i + 1) places) × ((new ≡ greatest_hold) ⊎ HasHold net places new)
+least_more net places i d old new place l there is h =
+    let Low : PlaceId → Type 0 = λ p. new ≤ (place_at net p).hold in
+    let here : (place_at net (get_or places i d)).hold ≡ place.hold = ap (λ (p : Place). p.hold) (sym there) in
+    let taken : take (i + 1) places ≡ take i places ++ get_or places i d ∷ [] = simp unary_clauses (take-suc places i d l) in
+    let lower : All Low (take i places) = λ j e m. omega (arith, is, h.1 j e m) in
+    let own : Low (get_or places i d) = omega (arith, is, here) in (
+      omega (arith, is, h.0),
+      subst (All Low) (sym taken) (All-push Low (take i places) (get_or places i d) lower own),
+      ⊎_elim
+          (λ (e : new ≡ old). subst (λ (n : ℕ). (n ≡ greatest_hold) ⊎ HasHold net places n) (sym e) h.2)
+          (λ (e : new ≡ place.hold). inr (get_or places i d, Contains-get_or places i d l, here ∙ sym e))
+          (one_of old place.hold new is),
+    )

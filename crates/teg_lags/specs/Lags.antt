@@ -20,6 +20,10 @@ pub record IsHeldLonger (lag : ℤ) (p q : Place) : Type 0 where
 abbrev pub HasHeldLonger : NetLists → ℤ → List PlaceId → Place → Type 0
 HasHeldLonger net lag others p = (q : PlaceId) × Contains others q × IsHeldLonger lag p (place_at net q)
 
+-- one of these places has this holding time
+abbrev pub HasHold : NetLists → List PlaceId → ℕ → Type 0
+HasHold net places hold = (p : PlaceId) × Contains places p × ((place_at net p).hold ≡ hold)
+
 -- to each place that leaves transition u there is one that leaves v, of the same end and tokens, and held so much longer
 abbrev pub LeadsLonger : NetLists → ℕ → ℕ → ℤ → Type 0
 LeadsLonger net u v lag =

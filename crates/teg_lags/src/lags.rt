@@ -1,11 +1,11 @@
 //! Transitions whose places lead on alike, but that from one all places are held so much longer
 //! than from the other: then walks take so much longer, too.
-ghost use Rattle.std.specs.Prelude.{◌≡◌, ◌<◌, ◌≤◌, ◌+ℤ◌, ◌-ℤ◌, pos, All, FitsSigned, IfSome, IsTrue, length};
+ghost use Rattle.std.specs.Prelude.{ℤ, ◌≡◌, ◌<◌, ◌≤◌, ◌↔◌, ◌⊎◌, ◌+ℤ◌, ◌-ℤ◌, pos, All, FitsSigned, IfSome, IsTrue, None, length};
 ghost use Rattle.std.specs.Int.{w128};
 ghost use Rattle.std.specs.Int.RustNames.{unsigned_abs};
 ghost use Rattle.teg_net.specs.Circuits.{place_at};
 ghost use Rattle.teg_net.specs.Limits.{greatest_hold};
-ghost use Rattle.teg_lags.specs.Lags.{AreLagged, AreLeaving, HasHeldLonger, IsHeldLonger};
+ghost use Rattle.teg_lags.specs.Lags.{AreLagged, AreLeaving, HasHeldLonger, HasHold, IsHeldLonger};
 
 use teg_net::{GREATEST_HOLD, Net, Place, PlaceId, PlacesOf, TransitionId};
 
@@ -19,7 +19,7 @@ fn longer_by(first: u64, other: u64) -> i128
 
 // Whether the second place has the end and the tokens of the first, and is held so much longer.
 fn is_held_longer(first: &Place, other: &Place, lag: i128) -> bool
-    ensures { IsTrue result → IsHeldLonger lag first.now other.now }
+    ensures { IsTrue result ↔ IsHeldLonger lag first.now other.now }
 {
     other.to.index == first.to.index
         && other.tokens == first.tokens
@@ -37,7 +37,7 @@ fn place_of(net: &Net, place: PlaceId) -> &Place
 // Whether one of these places has the end and the tokens of this one, and is held so much longer.
 fn has_held_longer(net: &Net, place: &Place, others: &[PlaceId], lag: i128) -> bool
     requires { All (λ q. q.index < length net.now.places) others.now }
-    ensures { IsTrue result → HasHeldLonger net.now lag others.now place.now }
+    ensures { IsTrue result ↔ HasHeldLonger net.now lag others.now place.now }
 {
     for other in others {
         if is_held_longer(place, place_of(net, *other), lag) {
@@ -52,7 +52,7 @@ fn lead_longer(net: &Net, firsts: &[PlaceId], others: &[PlaceId], lag: i128) -> 
     requires firsts { All (λ p. p.index < length net.now.places) firsts.now }
     requires others { All (λ q. q.index < length net.now.places) others.now }
     ensures { IsTrue result
-        → All (λ p. HasHeldLonger net.now lag others.now (place_at net.now p)) firsts.now }
+        ↔ All (λ p. HasHeldLonger net.now lag others.now (place_at net.now p)) firsts.now }
 {
     for first in firsts {
         if !has_held_longer(net, place_of(net, *first), others, lag) {
@@ -65,7 +65,9 @@ fn lead_longer(net: &Net, firsts: &[PlaceId], others: &[PlaceId], lag: i128) -> 
 // The least holding time of these places; the greatest of any net where there are none.
 fn least_hold(net: &Net, places: &[PlaceId]) -> u64
     requires { All (λ p. p.index < length net.now.places) places.now }
-    ensures { result ≤ greatest_hold }
+    ensures small { result ≤ greatest_hold }
+    ensures least { All (λ p. result ≤ (place_at net.now p).hold) places.now }
+    ensures attained { (result ≡ greatest_hold) ⊎ HasHold net.now places.now result }
 {
     let mut least = GREATEST_HOLD;
     for place in places {
@@ -79,7 +81,8 @@ fn least_hold(net: &Net, places: &[PlaceId]) -> u64
 /// one there is one that leaves the other, to the same transition and with the same tokens, and
 /// held so much longer, or shorter the other way round. Then walks from an input take so much
 /// longer than the walks from another ([`lagged_times_are_moved`](crate::lagged_times_are_moved);
-/// chapter 5). `None` tells nothing.
+/// chapter 5). None exactly where they lead on alike by no lag; where no place leaves either, they
+/// do by every one.
 ///
 /// `leaving` lists the places that leave each transition. It takes no memory, and time of order `p
 /// q` for p places that leave the one and q that leave the other.
@@ -95,7 +98,10 @@ pub fn lag_between(
     requires other { other.index < length net.now.transitions }
     ensures lagged { IfSome result (AreLagged net.now first.index other.index) }
     ensures small { IfSome result (λ lag. unsigned_abs lag ≤ greatest_hold) }
+    ensures none { (result ≡ None)
+        ↔ ((lag : ℤ) → AreLagged net.now first.index other.index lag → ⊥) }
 {
+    net.rules();
     let firsts = leaving.of(first);
     let others = leaving.of(other);
     let lag = longer_by(least_hold(net, firsts), least_hold(net, others));
