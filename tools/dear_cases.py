@@ -134,6 +134,21 @@ def long_chain(inputs, ends, apart=0):
     return Net(inputs + [f"c{k}" for k in range(19)] + ends, places, inputs, ends)
 
 
+def two_rates(slow, room, ahead):
+    """A transition that does a firing in `slow`, and one behind it that takes 1 longer and begins `ahead` later: the
+    first waits for the second once that is so far behind that the tokens of a place between them, `room`, are used up."""
+    return Net(["a", "b"], [("aa", "a", "a", slow, 1), ("ab", "a", "b", ahead, 0), ("bb", "b", "b", slow + 1, 1), ("ba", "b", "a", 0, room)])
+
+
+def hub(inputs, ends, tokens):
+    """Inputs, each held 1 longer than the one before, whose tokens come to a transition with own places of cycle time 1,
+    of so many tokens; and transitions behind it."""
+    inputs, ends = [f"u{k}" for k in range(inputs)], [f"d{k}" for k in range(ends)]
+    places = [(f"{name}h", name, "h", k, 0) for k, name in enumerate(inputs)]
+    places += [(f"o{own}", "h", "h", own, own) for own in tokens] + [(f"h{name}", "h", name, 0, 0) for name in ends]
+    return Net(inputs + ["h"] + ends, places, inputs, ends)
+
+
 def braid(count, last):
     """A ring of `count` places of hold 1, the last with one token, and beside each nine of hold 0; so many tokens are
     in those beside the last one."""
@@ -260,6 +275,38 @@ def overtaken_times(inputs, lead, later):
     return f"transfer of {inputs} inputs to 1 outputs\n" + "".join(
         f"from u{k} settled after {lead} period 1\nto c {row(time + later * k for time in times)} step 11\n"
         for k in range(inputs))
+
+
+def bound_text(net, time, tokens, after, period):
+    """The text of `bound` for a net of this greatest ratio that settles so."""
+    count, hold, most = len(net.names), max(place[3] for place in net.places), max([1] + [place[4] for place in net.places])
+    ways, all_ways = (count - 1) * most, count * most
+    number = ways + all_ways * (tokens * (count - 1) * hold + time * (ways + all_ways)) + 1
+    return f"bound {number}\nsettled after {after} period {period}\n"
+
+
+def late_overtaken(inputs, lead, later, due):
+    """`forever` where c is due 12 apart from `due` on: the way through a, which is slow to begin, tells each date."""
+    return (f"forever: {inputs} inputs overtaken after {lead:,}, each {later} later", ["forever", "net", "rows"],
+            {"net": overtaken(inputs, lead, later=later).text(), "rows": f"c,1,12,{due}\n"}, DONE,
+            "latest inputs forever\n" + "".join(f"input u{k} {due - lead - later * k} period 1 step 12\n" for k in range(inputs)))
+
+
+def hub_rows(ends, dates=10_000):
+    """Due rows behind a hub, 1 apart and each a date later than the row before it; the last date is 7 later still."""
+    return "".join(f"d{j},1,1,{','.join(str(20_000 + j + k + 7 * (k == dates - 1)) for k in range(dates))}\n" for j in range(ends))
+
+
+def hub_inputs(inputs, ends):
+    """`forever` behind a hub: each firing is due by itself in the first row, as no walk takes longer than its tokens are later."""
+    dates = [20_000 + k + 7 * (k == 9_999) for k in range(10_000)]
+    return (f"forever: {inputs} inputs and {ends} rows of 10,000 dates behind a hub of period 19,043", ["forever", "net", "rows"],
+            {"net": hub(inputs, ends, (137, 139)).text(), "rows": hub_rows(ends)}, DONE,
+            partial(hub_text, inputs, dates))
+
+
+def hub_text(inputs, dates):
+    return "latest inputs forever\n" + "".join(f"input u{k} {row(date - k for date in dates)} period 1 step 1\n" for k in range(inputs))
 
 
 def steady_text(net, jump):
@@ -414,6 +461,10 @@ def settled_cases():
     for tokens, bound in ([101, 103], 6_207_001), ([991, 997], 7_995_001):
         yield (f"bound: own places of {tokens[0]} and {tokens[1]} tokens", ["bound", "net"], {"net": joined_own_places(tokens).text()},
                DONE, f"bound {bound}\nsettled after 0 period {tokens[0] * tokens[1]}\n")
+    slow, room, ahead = 3_600, 1_000, 5
+    late = two_rates(slow, room, ahead)
+    after = (slow + 1) * room - ahead
+    yield f"bound: settled after {after:,}", ["bound", "net"], {"net": late.text()}, DONE, bound_text(late, slow + 1, 1, after, 1)
 
 
 def late_ring(count, limited=True):
@@ -466,6 +517,10 @@ def rows_cases():
            {"net": long_chain(1, 10).text(), "rows": chain_rows(10)}, DONE, partial(chain_text, 1))
     yield ("forever: 100 inputs with equal places and 209 rows of 10,000 dates behind a long chain", ["forever", "net", "rows"],
            {"net": long_chain(100, 209).text(), "rows": chain_rows(209)}, DONE, partial(chain_text, 100))
+    yield late_overtaken(25, 9_900, 7, 20_000)
+    yield late_overtaken(380, 9_900, 7, 20_000)
+    yield hub_inputs(10, 10)
+    yield hub_inputs(20, 20)
     yield wide_replay(100_000)
 
 
@@ -498,4 +553,5 @@ def dear_cases():
     yield from dear_series()
     yield ("forever: 100 inputs with other holds each and 135 rows of 10,000 dates behind a long chain", ["forever", "net", "rows"],
            {"net": long_chain(100, 135, 1).text(), "rows": chain_rows(135, 99)}, DONE, partial(chain_text, 100, 99, 1))
+    yield hub_inputs(329, 68)
     yield wide_replay(1_048_576)
