@@ -73,8 +73,9 @@ fn push_cards(alloc: Global, places: &mut Vec<Place>, count: u32) -> Result<(), 
 ///
 /// Machine `mi` works `10 + (37 i mod 23)` units on each piece, one piece at a time (`si`), and
 /// hands it on to the next (`fi`); it may be ahead of the next by `2 + (i mod 2)` pieces (`ci`).
-/// All are internal, and all tokens are ready at 0. `OutOfMemory` comes only where no memory is
-/// found. It takes time of the order of the machines.
+/// All are internal, and all tokens are ready at 0. The lists are tested to be a net, as those of
+/// each line are. `OutOfMemory` comes only where no memory is found. It takes time of the order of
+/// the square of the machines, as the names of a net are compared.
 pub fn make_trial(alloc: Global, machines: u32) -> Result<Net, OutOfMemory>
     requires some { 1 ≤ machines }
     requires few { machines ≤ 400 }
@@ -85,5 +86,9 @@ pub fn make_trial(alloc: Global, machines: u32) -> Result<Net, OutOfMemory>
     push_own(alloc, &mut places, machines)?;
     push_feeds(alloc, &mut places, machines - 1)?;
     push_cards(alloc, &mut places, machines - 1)?;
-    Ok(Net::new(line, places, Vec::new(alloc)))
+    match Net::checked(line, places, Vec::new(alloc)) {
+        Ok(net) => Ok(net),
+        // No line breaks a rule of nets; a fault, if there were one, would be told so.
+        Err(_) => Err(OutOfMemory),
+    }
 }
