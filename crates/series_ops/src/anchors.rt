@@ -71,60 +71,104 @@ fn next_anchor(anchor: Anchor, shift: usize, date: Date) -> Anchor
     }
 }
 
-// The anchor among the shifts of the list from 1 on.
-fn best_anchor(values: &[Date], period: usize, step: i128) -> Anchor
-    requires some { 0 < length values.now }
-    requires short { length values.now ≤ 20000 }
-    requires period { period ≤ length values.now }
-    requires step { unsigned_abs step ≤ greatest_part_value }
-    requires values { AreUpTo greatest_part_value values.now }
-    ensures value { result ≡ anchor_of (form_with values.now period step) }
-    ensures modest { IsModest result }
-{
-    let mut anchor = Anchor {
-        found: false,
-        shift: period,
-        value: step,
-    };
-    for place in 0..values.len() - 1 {
-        anchor = next_anchor(anchor, place + 1, values[place + 1]);
-    }
-    anchor
+// The parts of a star: a list of which the last `period` values go on by `step`, in moderate
+// numbers.
+#[derive(Drop)]
+pub(crate) struct Parts<'a> {
+    pub(crate) values: &'a [Date],
+    pub(crate) period: usize,
+    pub(crate) step: i128,
+    ghost positive: { 0 < period },
+    ghost short: { length values.now ≤ 20000 },
+    ghost fits: { period ≤ length values.now },
+    ghost small_step: { unsigned_abs step ≤ greatest_part_value },
 }
 
-// What a part of the list loses against steps.
-fn loss(values: &[Date], period: usize, step: i128, place: usize) -> i128
-    requires place { place < length values.now }
-    requires short { length values.now ≤ 20000 }
-    requires period { period ≤ length values.now }
-    requires step { unsigned_abs step ≤ greatest_part_value }
-    requires values { AreUpTo greatest_part_value values.now }
-    ensures value { result ≡ loss_of_part (form_with values.now period step) place }
-    ensures bound { unsigned_abs result ≤ greatest_part_loss }
-{
-    match values[place] {
-        Date::At(value) => many(place, step) - many(period, value),
-        _ => 0,
+impl<'a> Parts<'a> {
+    // The anchor among the shifts of the list from 1 on.
+    fn anchor(&self) -> Anchor
+        requires { AreUpTo greatest_part_value self.now.values.now }
+        ensures value { result ≡ anchor_of (form_with self.now.values.now self.now.period self.now.step) }
+        ensures modest { IsModest result }
+    {
+        let mut anchor = Anchor {
+            found: false,
+            shift: self.period,
+            value: self.step,
+        };
+        for place in 0..self.values.len() - 1 {
+            anchor = next_anchor(anchor, place + 1, self.values[place + 1]);
+        }
+        anchor
     }
-}
 
-// The greatest loss of one part that stands in the tail.
-fn greatest_loss(values: &[Date], period: usize, step: i128) -> i128
-    requires positive { 0 < period }
-    requires short { length values.now ≤ 20000 }
-    requires period { period ≤ length values.now }
-    requires step { unsigned_abs step ≤ greatest_part_value }
-    requires values { AreUpTo greatest_part_value values.now }
-    ensures value { result ≡ greatest_int (λ i. loss_of_part (form_with values.now period step)
-        (repeat_start (form_with values.now period step) + i)) (period - 1) }
-    ensures bound { unsigned_abs result ≤ greatest_part_loss }
-{
-    let start = values.len() - period;
-    let mut worst = loss(values, period, step, start);
-    for place in 0..period - 1 {
-        worst = worst.max(loss(values, period, step, start + (place + 1)));
+    // What a part of the list loses against steps.
+    fn loss(&self, place: usize) -> i128
+        requires place { place < length self.now.values.now }
+        requires small { AreUpTo greatest_part_value self.now.values.now }
+        ensures value { result ≡ loss_of_part (form_with self.now.values.now self.now.period self.now.step) place }
+        ensures bound { unsigned_abs result ≤ greatest_part_loss }
+    {
+        match self.values[place] {
+            Date::At(value) => many(place, self.step) - many(self.period, value),
+            _ => 0,
+        }
     }
-    worst
+
+    // The greatest loss of one part that stands in the tail.
+    fn greatest_loss(&self) -> i128
+        requires { AreUpTo greatest_part_value self.now.values.now }
+        ensures value { result ≡ greatest_int (λ i. loss_of_part (form_with self.now.values.now self.now.period self.now.step) (repeat_start (form_with self.now.values.now self.now.period self.now.step)
+            + i)) (self.now.period - 1) }
+        ensures bound { unsigned_abs result ≤ greatest_part_loss }
+    {
+        let start = self.values.len() - self.period;
+        let mut worst = self.loss(start);
+        for place in 0..self.period - 1 {
+            worst = worst.max(self.loss(start + (place + 1)));
+        }
+        worst
+    }
+
+    // From where the star repeats where the tail is a number: by the anchor if there is one, else
+    // past the greatest loss by the period.
+    fn plan_of_number(&self) -> NeedPlan
+        requires { AreUpTo greatest_part_value self.now.values.now }
+        ensures value { result ≡ anchored_plan (anchor_of (form_with self.now.values.now self.now.period self.now.step)) (form_with self.now.values.now self.now.period self.now.step) }
+        ensures bound { result.from ≤ greatest_star_need }
+    {
+        let size = self.values.len();
+        let anchor = self.anchor();
+        if anchor.found {
+            return NeedPlan {
+                from: (anchor.shift * size + 1) as u128,
+                turn: anchor.shift,
+            };
+        }
+        let worst = at_least_zero(self.greatest_loss());
+        let more = self.period as u128 + 1;
+        let turns = if more < worst { worst } else { more };
+        NeedPlan {
+            from: size as u128 * turns + 1,
+            turn: self.period,
+        }
+    }
+
+    // From where the star of the form repeats, the form at least 0 from shift 1 on.
+    pub(crate) fn plan(&self) -> NeedPlan
+        requires { AreUpTo greatest_part_value self.now.values.now }
+        ensures value { result ≡ own_plan (form_with self.now.values.now self.now.period self.now.step) }
+        ensures bound { result.from ≤ greatest_star_need }
+    {
+        match self.values[self.values.len() - self.period] {
+            Date::Early => NeedPlan { from: 0, turn: 1 },
+            Date::At(_) => self.plan_of_number(),
+            Date::Never => NeedPlan {
+                from: self.values.len() as u128,
+                turn: 1,
+            },
+        }
+    }
 }
 
 // A number, 0 where it is below.
@@ -134,52 +178,4 @@ fn at_least_zero(number: i128) -> u128
     ensures bound { result ≤ greatest_part_loss }
 {
     if number < 0 { 0 } else { number as u128 }
-}
-
-// From where the star repeats where the tail is a number: by the anchor if there is one, else
-// past the greatest loss by the period.
-fn plan_of_number(values: &[Date], period: usize, step: i128) -> NeedPlan
-    requires positive { 0 < period }
-    requires short { length values.now ≤ 20000 }
-    requires period { period ≤ length values.now }
-    requires step { unsigned_abs step ≤ greatest_part_value }
-    requires values { AreUpTo greatest_part_value values.now }
-    ensures value { result ≡ anchored_plan (anchor_of (form_with values.now period step))
-        (form_with values.now period step) }
-    ensures bound { result.from ≤ greatest_star_need }
-{
-    let anchor = best_anchor(values, period, step);
-    if anchor.found {
-        return NeedPlan {
-            from: (anchor.shift * values.len() + 1) as u128,
-            turn: anchor.shift,
-        };
-    }
-    let worst = at_least_zero(greatest_loss(values, period, step));
-    let more = period as u128 + 1;
-    let turns = if more < worst { worst } else { more };
-    NeedPlan {
-        from: values.len() as u128 * turns + 1,
-        turn: period,
-    }
-}
-
-// From where the star of a form repeats, the form at least 0 from shift 1 on.
-pub(crate) fn plan_of_parts(values: &[Date], period: usize, step: i128) -> NeedPlan
-    requires positive { 0 < period }
-    requires short { length values.now ≤ 20000 }
-    requires period { period ≤ length values.now }
-    requires step { unsigned_abs step ≤ greatest_part_value }
-    requires values { AreUpTo greatest_part_value values.now }
-    ensures value { result ≡ own_plan (form_with values.now period step) }
-    ensures bound { result.from ≤ greatest_star_need }
-{
-    match values[values.len() - period] {
-        Date::Early => NeedPlan { from: 0, turn: 1 },
-        Date::At(_) => plan_of_number(values, period, step),
-        Date::Never => NeedPlan {
-            from: values.len() as u128,
-            turn: 1,
-        },
-    }
 }

@@ -2,7 +2,6 @@
 //! series that rises often is passed over but for few places.
 ghost use Rattle.std.specs.Prelude.{◌≡◌, ◌≤◌, ◌<◌, ◌+◌, IfOk, length};
 ghost use Rattle.std.specs.Int.RustNames.{unsigned_abs};
-ghost use Rattle.dioid.specs.Dates.{later_of, move};
 ghost use Rattle.series_laws.specs.SeriesForms.{value_at, table};
 ghost use Rattle.series_laws.specs.Product.{product_at};
 ghost use Rattle.series_form.specs.NumberBounds.{IsMagnitudeUpTo};

@@ -14,7 +14,7 @@ ghost use Rattle.series_ops.specs.ListFunctions.{AreUpTo, later_part};
 ghost use Rattle.series_laws.specs.StarOf.{parts_star, above_zero, IsStarOf};
 ghost use Rattle.series_form.specs.SeriesLimits.{greatest_value_ahead, greatest_star_need};
 
-use crate::anchors::plan_of_parts;
+use crate::anchors::Parts;
 use crate::beginnings::{greatest_begun, nothing_begun, renewed};
 use crate::cells::Cells;
 use crate::splits::{Span, Tail};
@@ -50,10 +50,12 @@ fn plan_by_sum(mut values: Vec<Date>, turn: usize, next: Date, need: usize) -> N
 {
     let shape = canonical_part(values.as_slice(), turn, next);
     values.truncate(shape.size);
-    raised(
-        need,
-        plan_of_parts(values.as_slice(), shape.period, shape.step),
-    )
+    let parts = Parts {
+        values: values.as_slice(),
+        period: shape.period,
+        step: shape.step,
+    };
+    raised(need, parts.plan())
 }
 
 // The values of a series from shift 1 on.

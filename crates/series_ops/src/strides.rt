@@ -8,7 +8,7 @@ ghost use Rattle.dioid.specs.DateOrder.{Le};
 ghost use Rattle.series_laws.specs.SeriesForms.{size_of, repeat_start, value_at, table};
 ghost use Rattle.series_form.specs.NumberBounds.{IsMagnitudeUpTo, IsSeries};
 ghost use Rattle.series_form.specs.SeriesLimits.{greatest_value, greatest_value_far_ahead};
-ghost use Rattle.series_ops.specs.Strides.{AreRaised, IsCoreAt, IsStride, AreCore, IsCore};
+ghost use Rattle.series_ops.specs.Strides.{AreRaised, IsCoreAt, IsStride, IsCore};
 ghost use Rattle.series_ops.specs.ListFunctions.{value_listed, AreUpTo};
 
 use crate::anchors::many;

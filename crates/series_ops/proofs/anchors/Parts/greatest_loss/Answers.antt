@@ -8,7 +8,7 @@ use Rattle.series_form.proofs.DateNumbers.{within_fits}
 use Rattle.series_form.proofs.PointwiseTables.{max_up_to}
 use Rattle.series_laws.specs.ProductNeeds.{loss_of_part}
 use Rattle.series_form.specs.SeriesLimits.{greatest_part_loss}
-use Rattle.series_ops.proofs.anchors.greatest_loss.Goals as goal
+use Rattle.series_ops.proofs.anchors.Parts.greatest_loss.Goals as goal
 
 begun : (b v : ℤ) → b ≡ v → unsigned_abs b ≤ greatest_part_loss → (to_z w128 (of_z w128 b) ≡ v) × (unsigned_abs (to_z w128 (of_z w128 b)) ≤ greatest_part_loss)
 begun b v e h =
@@ -28,19 +28,19 @@ further F m b n r eb hb en hn er =
 
 pub loop-place-init : goal.loop-place-init
 loop-place-init c =
-    let none : (length c.args.values.now - c.args.period) + 0 ≡ length c.args.values.now - c.args.period = omega arith in
-    begun c.loss-worst.result _ (c.loss-worst.ensures.value ∙ ap (loss_of_part (form_with c.args.values.now c.args.period (to_z w128 (of_z w128 c.args.step)))) (sym none)) c.loss-worst.ensures.bound
+    let none : (length c.args.self.now.values.now - c.args.self.now.period) + 0 ≡ length c.args.self.now.values.now - c.args.self.now.period = omega arith in
+    begun c.loss-worst.result _ (c.loss-worst.ensures.value
+    ∙ ap (loss_of_part (form_with c.args.self.now.values.now c.args.self.now.period c.args.self.now.step)) (sym none)) c.loss-worst.ensures.bound
 
 pub loop-place-preserved : goal.loop-place-preserved
 loop-place-preserved c =
-    further (λ (i : ℕ). loss_of_part (form_with c.args.values.now c.args.period (to_z w128 (of_z w128 c.args.step)))
-    ((length c.args.values.now - c.args.period) + i)) c.loop-place.place _ c.loss.result c.max-worst.result
+    further (λ (i : ℕ). loss_of_part (form_with c.args.self.now.values.now c.args.self.now.period c.args.self.now.step)
+    ((length c.args.self.now.values.now - c.args.self.now.period) + i)) c.loop-place.place _ c.loss.result c.max-worst.result
     c.loop-place.invariant.0 c.loop-place.invariant.1 c.loss.ensures.value c.loss.ensures.bound c.max-worst.ensures.value
 
 pub returns-clause-value : goal.returns-clause-value
 returns-clause-value c =
-    let whole : c.loop-place.place ≡ c.args.period - 1 = omega arith in
+    let whole : c.loop-place.place ≡ c.args.self.now.period - 1 = omega arith in
     c.loop-place.invariant.0
-    ∙ ap (greatest_int (λ (i : ℕ). loss_of_part (form_with c.args.values.now c.args.period (to_z w128 (of_z w128 c.args.step))) ((length c.args.values.now - c.args.period) + i))) whole
-    ∙ ap (λ (z : ℤ). greatest_int (λ (i : ℕ). loss_of_part (form_with c.args.values.now c.args.period z)
-    ((length c.args.values.now - c.args.period) + i)) (c.args.period - 1)) (to_z-of_z w128 c.args.step c.ranges.step)
+    ∙ ap (greatest_int (λ (i : ℕ). loss_of_part (form_with c.args.self.now.values.now c.args.self.now.period c.args.self.now.step)
+    ((length c.args.self.now.values.now - c.args.self.now.period) + i))) whole

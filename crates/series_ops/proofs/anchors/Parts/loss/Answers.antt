@@ -12,7 +12,7 @@ use Rattle.series_form.proofs.DateNumbers.{abs_difference, moderate_fits, within
 use Rattle.series_laws.specs.SeriesStars.{scaled}
 use Rattle.series_laws.specs.ProductNeeds.{loss_of_part}
 use Rattle.series_form.specs.SeriesLimits.{greatest_part_value, greatest_part_product}
-use Rattle.series_ops.proofs.anchors.loss.Goals as goal
+use Rattle.series_ops.proofs.anchors.Parts.loss.Goals as goal
 
 code : (a b : ℤ) → unsigned_abs a ≤ greatest_part_product → unsigned_abs b ≤ greatest_part_product → to_z w128 (of_z w128 (to_z w128 (of_z w128 a) -ℤ to_z w128 (of_z w128 b))) ≡ a -ℤ b
 code a b h k =
@@ -26,9 +26,10 @@ lost f place v w e = sym (ap (λ (z : Date). gap (scaled f.period z) (At (times 
 
 pub returns-in-At-clause-value : goal.returns-in-At-clause-value
 returns-in-At-clause-value c =
-    let low : unsigned_abs c.in-At.value ≤ greatest_part_value = subst (λ (z : Date). IsMagnitudeUpTo greatest_part_value z) c.in-At.is (c.requires.values c.args.place) in
-    let a : c.many.result ≡ times c.args.place c.args.step = c.many.ensures.value ∙ ap (times c.args.place) (to_z-of_z w128 c.args.step c.ranges.step) in
-    let b : c.many-in-At.result ≡ times c.args.period c.in-At.value = c.many-in-At.ensures.value
-    ∙ ap (times c.args.period) (to_z-of_z w128 c.in-At.value (moderate_fits c.in-At.value (omega arith))) in
-    code c.many.result c.many-in-At.result c.many.ensures.bound c.many-in-At.ensures.bound ∙ ap (λ (z : ℤ). z -ℤ c.many-in-At.result) a ∙ ap (λ (z : ℤ). times c.args.place c.args.step -ℤ z) b
-    ∙ lost (form_with c.args.values.now c.args.period c.args.step) c.args.place c.in-At.value c.requires.place c.in-At.is
+    let low : unsigned_abs c.in-At.value ≤ greatest_part_value = subst (λ (z : Date). IsMagnitudeUpTo greatest_part_value z) c.in-At.is (c.requires.small c.args.place) in
+    let a : c.many.result ≡ times c.args.place c.args.self.now.step = c.many.ensures.value
+    ∙ ap (times c.args.place) (to_z-of_z w128 c.args.self.now.step (moderate_fits c.args.self.now.step (omega (arith, c.args.self.now.small_step)))) in
+    let b : c.many-in-At.result ≡ times c.args.self.now.period c.in-At.value = c.many-in-At.ensures.value
+    ∙ ap (times c.args.self.now.period) (to_z-of_z w128 c.in-At.value (moderate_fits c.in-At.value (omega arith))) in
+    code c.many.result c.many-in-At.result c.many.ensures.bound c.many-in-At.ensures.bound ∙ ap (λ (z : ℤ). z -ℤ c.many-in-At.result) a ∙ ap (λ (z : ℤ). times c.args.place c.args.self.now.step -ℤ z) b
+    ∙ lost (form_with c.args.self.now.values.now c.args.self.now.period c.args.self.now.step) c.args.place c.in-At.value c.requires.place c.in-At.is
