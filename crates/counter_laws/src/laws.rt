@@ -3,9 +3,9 @@
 ghost use Rattle.counter_laws.specs.CountedRuns.{CountersCountFirings};
 ghost use Rattle.counter_laws.specs.CounterEquations.{CountersAreGreatest, CountersAreLeastOfTokens, CountersAreOne, CountersExist};
 
-/// The min-plus equations: of a live net whose initial tokens are ready at 0, under any releases,
-/// the count of firings up to a date is the least of the tokens that each place into the transition
-/// has had up to then, its initial ones and the firings before it up to a hold earlier, and of the
+/// The min-plus equations: of a live net whose places have no ready dates, under any releases, the
+/// count of firings up to a date is the least of the tokens that each place into the transition has
+/// had up to then, its initial ones and the firings before it up to a hold earlier, and of the
 /// releases of an input; and no counts within that least are greater (chapter 5). The equations
 /// alone do not tell the counters: around a circuit without tokens and without hold each count
 /// solves them, so liveness is asked for. And they count each initial token from 0 on: behind a

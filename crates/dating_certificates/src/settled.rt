@@ -26,9 +26,9 @@ const MOST_NUMBERS: u64 = 100_000_000_000_000_000;
 /// In a live net, where it says yes, the dates are the first rows of the least dating, and the form
 /// that they tell with the period and the steps stands for it: the date of each transition at each
 /// number is that of the form (`settled`). That no shorter period and no less number would do, it
-/// does not tell. It says no of rows that go past number 10^17, which no memory holds. It takes
-/// memory for one row, and time of order `n + p` a row for n transitions and p places, and of the
-/// length of the input lists.
+/// does not tell; and that it says yes wherever all this is so, no clause says. It says no of rows
+/// that go past number 10^17, which no memory holds. It takes memory for one row, and time of order
+/// `n + p` a row for n transitions and p places, and of the length of the input lists.
 pub fn check_settled(
     alloc: Global,
     net: &Net,

@@ -9,7 +9,7 @@
 //! Each call reads a text without a promise, as those of `witness_check` do, lets a checker look at
 //! what was read, prints the text anew, of a timetable its first lines, and compares. So what it
 //! tells rests on the checker, on its law and on the words of the lines, and neither on the parser
-//! nor on whatever found the answer.
+//! nor on whatever found the answer. Where it tells nothing, its clause says nothing.
 //!
 //! The crate stands on `dating_certificates` for checkers of dates, on `delay_laws` for that of
 //! delays, on `witness_check` for beginnings of texts and names, on `settled_laws` for settled

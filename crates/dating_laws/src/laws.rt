@@ -11,8 +11,9 @@ pub fn later_releases_lead_to_later_dates()
 {}
 
 /// Releases superpose: the least dating under the later of two releases is the later of the least
-/// datings under each, so a net is a max-plus linear system (chapter 2). The later is taken date by
-/// date; the law needs no liveness, as it says where both are there what the third is.
+/// datings under each (chapter 2). The later is taken date by date; the law needs no liveness, as
+/// it says where both are there what the third is. Releases that all come so much later do not move
+/// each date by as much, since what waits for no input stays: [`no_shift_grows`] says what holds.
 pub fn releases_are_superposed()
     ensures { LeastDatingsJoin }
 {}

@@ -2,9 +2,9 @@
 //! is the law.
 ghost use Rattle.policy_laws.specs.RoundCounts.{RoundsAreFew, RoundsOfOneRatioAreFew};
 
-/// Rounds are few: a policy run of a part of a live net has at most as many rounds of one ratio as
-/// the net has transitions `n`, and as its ratio never falls, at most `n (n h (n m)^2 + 1)` rounds,
-/// where no place holds for more than `h` or has more than `m` tokens (chapter 3).
+/// Rounds of one ratio are few: a policy run of a part of a live net has at most as many of them as
+/// the net has transitions `n`; and as its ratio never falls, it has at most `n (n h (n m)^2 + 1)`
+/// rounds in all, where no place holds for more than `h` or has more than `m` tokens (chapter 3).
 ///
 /// As long as the circuit stays, the potentials of each round are at least what the places offered
 /// in the round before, so after as many rounds as there are transitions no path without a loop has

@@ -185,9 +185,9 @@ fn witness_at(
 ///
 /// `NoCircuit` comes with numbers for `shows_no_circuit`, `Critical` with a circuit for
 /// `shows_critical`, and `Rise` with potentials and a circuit for `shows_rise`. That the place has
-/// that slack, which `critical` tells, is the law `witnesses_tell_slacks`. Each circuit begins with
-/// the place. `OutOfMemory` comes only where no memory is found. It takes time of order n p for n
-/// transitions and p places.
+/// that slack, which `critical` tells, is the law `witnesses_tell_slacks`. With which of its places
+/// a circuit begins, no clause says. `OutOfMemory` comes only where no memory is found. It takes
+/// time of order n p for n transitions and p places.
 pub fn slack_witness(
     alloc: Global,
     net: &Net,

@@ -6,8 +6,8 @@ ghost use Rattle.teg_form.specs.FormDates.{LeastDatesAreByForm, DatesByFormAreLe
 /// start, of the firing before it, and of what the form's stars and entries lead to: a star's time
 /// after the firing of the same number, an entry's time after the firing as many numbers before as
 /// it has tokens (chapter 2, the explicit form). The start is the latest of 0, the ready dates of
-/// the initial tokens that the firing takes and, for an input, its release. So the form says the
-/// whole of the net.
+/// the initial tokens that the firing takes and, for an input, its release. So beside these starts
+/// the form says all of the places that dates rest on.
 pub fn least_dates_are_by_form()
     ensures by_form { LeastDatesAreByForm }
     ensures least { DatesByFormAreLeast }

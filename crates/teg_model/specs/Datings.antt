@@ -38,7 +38,8 @@ as_date (Some d) = At (pos d)
 abbrev pub listed_releases : NetLists → ℕ → ℕ → Date
 listed_releases net t k = as_date (input_date net t k)
 
--- no firing comes before the tokens that it takes are available, nor an input before its release
+-- no firing comes before the tokens that it takes are available, that of its implicit place among them, nor an input before its release:
+-- so no date is before 0, and none before that of the firing before
 pub record IsFeasibleUnder (net : NetLists) (u : ℕ → ℕ → Date) (x : ℕ → ℕ → Date) : Type 0 where
   pub places : (k : ℕ) → 1 ≤ k → All (λ p. IsAtMostDate (available_at x p k) (x p.to.index k)) (extended_places net)
   pub inputs : (t k : ℕ) → 1 ≤ k → IsInput net t → IsAtMostDate (u t k) (x t k)

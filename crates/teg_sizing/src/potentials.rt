@@ -104,9 +104,9 @@ fn potentials_of(
 /// `check_enough` of `teg_certificates` reads them: one for each transition, in the user's unit
 /// times the tokens of the target (chapters 2 and 3).
 ///
-/// They are the greatest values of paths, those over the place with its extra tokens among them.
-/// `OutOfMemory` comes only where no memory is found. It takes time of order n p for n transitions
-/// and p places.
+/// They are made of the greatest values of paths, those over the place with its extra tokens among
+/// them; the clause says of them what `check_enough` asks, and no more. `OutOfMemory` comes only
+/// where no memory is found. It takes time of order n p for n transitions and p places.
 pub fn enough_potentials(
     alloc: Global,
     net: &Net,

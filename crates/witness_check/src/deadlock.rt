@@ -21,8 +21,9 @@ fn told(alloc: Global, net: &Net, circuit: &Circuit) -> Result<String, AllocErro
     Ok(text)
 }
 
-/// Whether the text is that of `teg check` for a circuit of the net without tokens, which shows
-/// that the net is not live (chapter 2). `OutOfMemory` comes only where no memory is found.
+/// Whether the text is seen to be that of `teg check` for a circuit of the net without tokens,
+/// which shows that the net is not live (chapter 2). A no says nothing. `OutOfMemory` comes only
+/// where no memory is found.
 pub fn shows_deadlock(alloc: Global, net: &Net, text: &str) -> Result<bool, OutOfMemory>
     ensures told { IfOk result (λ yes. IsTrue yes → TellsDeadlock net.now text.now) }
     ensures not_live { IfOk result (λ yes. IsTrue yes → IsLive net.now → ⊥) }

@@ -21,7 +21,7 @@ pub struct ShownLate {
     pub number: u64,
     /// The due date, in the user's unit.
     pub due: u64,
-    /// What the walk comes to, in the user's unit.
+    /// What the walk comes to, in the user's unit; the clause of [`shown_late`] does not speak of it.
     pub least: u64,
 }
 

@@ -11,7 +11,8 @@
 //!
 //! Each call reads a text without a promise, lets a checker look at what was read, prints the line
 //! anew and compares. So what it tells rests on the checker, on its law and on the words of the
-//! line, and neither on the parser nor on whatever found the answer. Texts that tell dates for
+//! line, and neither on the parser nor on whatever found the answer. Clauses say what is so where
+//! it says yes or tells something; where it does not, they say nothing. Texts that tell dates for
 //! ever, all latest dates, or delays that stay, are those of `dating_check`.
 //!
 //! The crate stands on `teg_net` for nets and walks, on `teg_text` for words, on `teg_due` for rows

@@ -41,9 +41,10 @@ fn told(alloc: Global, transitions: usize, places: usize) -> Result<String, Allo
     format!(in alloc; "live\ntransitions {transitions}\nplaces {places}\n")
 }
 
-/// Whether the text is that of `teg check` for a live net with so many transitions and places, and
-/// the net is live (chapter 2): ranks are found that rise along each place without tokens. It takes
-/// time of the order transitions times places. `OutOfMemory` comes only where no memory is found.
+/// Whether the text is seen to be that of `teg check` for a live net with so many transitions and
+/// places, and the net to be live (chapter 2): ranks are found that rise along each place without
+/// tokens. A no says nothing. It takes time of the order transitions times places. `OutOfMemory`
+/// comes only where no memory is found.
 pub fn shows_live(alloc: Global, net: &Net, text: &str) -> Result<bool, OutOfMemory>
     ensures told { IfOk result (λ yes. IsTrue yes → TellsLive net.now text.now) }
     ensures live { IfOk result (λ yes. IsTrue yes → IsLive net.now) }

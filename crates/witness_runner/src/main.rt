@@ -2,13 +2,16 @@
 //!
 //! `witness_runner NET ANSWER [DUE | PERIOD]` reads a net file, a file with all that `teg check`,
 //! `cycle`, `dates`, `size`, `jit` or `timetable` printed of it, for `jit` the due file, and for
-//! `timetable`, where delays are kept, its period. It prints each line that claims something behind
-//! `shown` or `not shown`, and ends with status 0 where all are shown, with 1 where one is not, or
+//! `timetable`, where delays are kept, its period. It prints the first line of the answer, of a
+//! timetable the second, and of a table of latest dates also each line that tells a date, behind
+//! `shown` or `not shown`; and ends with status 0 where all are shown, with 1 where one is not, or
 //! where a file is not read, and with 2 where the words are others. What is shown is right by the
-//! contracts of `witness_check` and `dating_check`, whatever printed it, in a live net: of `dates`,
-//! that its form tells all dates; of the first line of latest dates, that the table has the latest
-//! dates, and of each other one, that its firing may come no later; of `kept`, that the circuit
-//! keeps each delay. A line `free` tells no date and is passed over.
+//! contracts of `witness_check` and `dating_check`, whatever printed it, in a live net: of `check`
+//! and `size`, what the line tells; of `cycle`, the pace of the net; of `late`, that no inputs meet
+//! what is due; of `dates`, that its form tells all dates; of the first line of latest dates, that
+//! the table has the latest dates, and of each other one, that its firing may come no later; of
+//! `kept`, that the circuit keeps each delay. Of ratios of parts, and of the other lines, it tells
+//! nothing.
 //!
 //! It stands on `witness_check` and `dating_check` for what answers show, on `teg_reader` and
 //! `teg_due` for files, and on `teg_net` for nets.
