@@ -18,6 +18,7 @@ use Rattle.teg_due.specs.declared.rows.DueRefusal.TheVariants.{OutOfMemory as du
 use Rattle.teg_due.specs.DueFileRows.{due_of}
 use Rattle.teg_jit.specs.due_laws.MeetingDueDates.{AreLatestInputs}
 use Rattle.teg_due.specs.RowRules.{due_in}
+use Rattle.teg_jit.specs.DueDates.{IsGreatestNumber}
 use Rattle.teg_jit.specs.Plans.{PlanDates, dates_of_plan, IsPlanFor}
 use Rattle.teg_jit.specs.declared.answers.JitRefusal.{JitRefusal}
 use Rattle.teg_jit.specs.declared.answers.JitRefusal.TheVariants.{OutOfMemory as jit_memory}
@@ -79,10 +80,11 @@ IsWhyNotChanged net name hold (NoDue refusal) = ⊥
 IsWhyNotChanged net name hold (Late refusal) = ⊥
 IsWhyNotChanged net name hold OutOfMemory = ⊥
 
--- the plan is one for the due dates that the bytes say of the net, and has at the inputs the latest dates that meet them
+-- the plan is one for the due dates that the bytes say of the net, up to the greatest number that is due, and has at the inputs the latest dates that meet them
 abbrev pub IsLatestPlan : NetLists → List ℕ → PlanDates → Type 0
 IsLatestPlan net bytes plan =
-    (rows : List DueRow) × (due_of net bytes ≡ Ok rows) × IsPlanFor net (due_in rows) plan × AreLatestInputs net (due_in rows) (dates_of_plan plan)
+    (rows : List DueRow) × (due_of net bytes ≡ Ok rows)
+    × IsGreatestNumber rows plan.numbers × IsPlanFor net (due_in rows) plan × AreLatestInputs net (due_in rows) (dates_of_plan plan)
 
 -- the bytes say no due dates of the net, or a row of theirs comes late, or there is no memory; nothing else keeps a plan from being told
 abbrev pub IsWhyNoPlan : NetLists → List ℕ → NoAnswer → Type 0
