@@ -35,8 +35,8 @@ fn is_less(offered: u128, told: Option<u128>) -> bool
     }
 }
 
-// What a place offers the transition at which it ends, from this loss on; none where it has no
-// loss, or that transition is told no more.
+// What a place offers the transition at which it ends, from this loss on, with that transition;
+// none where the place has no loss, or offers no less than is told.
 fn lesser_offer(
     known: &NetLosses,
     base: u128,
