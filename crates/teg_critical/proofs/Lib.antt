@@ -9,7 +9,6 @@ pub mod Rounds
 pub mod Searching
 pub mod Settling
 pub mod Queueing
-pub mod Stepping
 pub mod Listed
 pub mod LossFacts
 pub mod Ending

@@ -1,5 +1,5 @@
 -- The queue of the search: what is told waits in it, and its first entry of an unsettled transition is the nearest.
-use Rattle.std.proofs.Common.{ℕ, zero, suc, ◌+◌, ◌*◌, ◌<◌, ◌≤◌, ◌≡◌, ◌≢◌, Bool, true, false, List, [], ◌∷◌, length, get_or, set, replicate, Option}
+use Rattle.std.proofs.Common.{ℕ, zero, suc, ◌+◌, ◌*◌, ◌<◌, ◌≤◌, ◌≡◌, ◌≢◌, Bool, true, false, List, [], ◌∷◌, length, get_or, set, take, replicate, Option}
 use Rattle.std.proofs.Common.{Some, None, refl, sym, ap, subst, ◌∙◌, arith, ⊎_elim, ◌⊎◌, inl, inr}
 use Rattle.std.specs.Prelude.{Contains, IsPermutation, sum_by, if◌then◌else◌}
 use Rattle.std.specs.BinaryHeap.{IsHeap, IsUpperBound}
@@ -8,20 +8,21 @@ use Rattle.std.specs.declared.cmp.Ordering.{Ordering}
 use Rattle.std.specs.declared.cmp.Ordering.TheVariants.{Less, Equal, Greater}
 use Rattle.std.specs.declared.cmp.Reverse.{Reverse}
 use Rattle.std.proofs.lemmas.Bool.{cases_eq, cases_lt}
-use Rattle.std.proofs.lemmas.List.{length-set, get_or-set_same, get_or-set_other, get_or_default, get_or_past, get_or-replicate, length-replicate}
+use Rattle.std.proofs.lemmas.List.{length-set, get_or-set_same, get_or-set_other, get_or_past, get_or-replicate, length-replicate}
+use Rattle.std.proofs.lemmas.List.Elements.{All-more, All-weaker}
 use Rattle.std.proofs.lemmas.List.Sums.{get_or-le-sum_by, sum_by-le}
 use Rattle.std.proofs.Math.Nat.{mul-le-mul_right}
 use Rattle.std.proofs.lemmas.List.Sorted.{Contains-permutation, IsPermutation-sym}
 use Rattle.std.proofs.lemmas.Map.Keys.{ge_from_not_lt}
+use Rattle.teg_net.specs.declared.entries.PlaceId.{PlaceId}
 use Rattle.teg_net.specs.Nets.{NetLists}
 use Rattle.teg_net.specs.Circuits.{from_of}
+use Rattle.teg_net.specs.Parts.{to_of}
 use Rattle.teg_critical.specs.declared.losses.Loss.{Loss}
-use Rattle.teg_critical.specs.declared.searches.LossStep.{LossStep}
-use Rattle.teg_critical.specs.Losses.{most_loss}
-use Rattle.teg_critical.specs.LeastLosses.{told_at, IsToldWithin, is_settled, IsRelaxed, entry, nearest_first, AreQueued}
+use Rattle.teg_critical.specs.Losses.{most_loss, loss_at}
+use Rattle.teg_critical.specs.LeastLosses.{amount_in, told_at, IsToldWithin, is_settled, Offers, IsTaken, IsRelaxed, entry, nearest_first, AreQueued}
 use Rattle.teg_critical.proofs.Searching.{within_more, within_some, IsTold, within_told}
 use Rattle.teg_critical.proofs.Settling.{true_false}
-use Rattle.teg_critical.proofs.Stepping.{RelaxedUpTo}
 use Rattle.teg_critical.proofs.SearchStates.{unsettled, IsSearching, IsNearest, IsOver, IsQueueing}
 
 abbrev Entry : Type 0
@@ -56,7 +57,7 @@ first_is_least x (y ∷ ys) h e c =
     (λ (q : Contains ys e). first_is_least x ys h.1 e q)
     (contains_cases ys y e c)
 
--- ---- steps taken
+-- ---- places taken
 
 -- no loss that is told rises
 lower :
@@ -100,45 +101,39 @@ one_queued old mid before items after to offered h in' less moved heap =
       heap = λ was. heap (h.heap was);
     }
 
--- the step at k offers no less than is told
-pub step_past :
-    (steps : List LossStep) (base k : ℕ) (old mid : List (Option ℕ)) (s : LossStep) → RelaxedUpTo steps base k old mid → k < length steps → s ≡ get_or steps k s
-    → IsToldWithin (told_at mid s.to) (base + s.loss) → RelaxedUpTo steps base (k + 1) old mid
-step_past steps base k old mid s h l is here = record {
-  count = h.count;
-  offered = λ i d m n. ⊎_elim
-      (λ (q : i ≡ k).
-      let read : s ≡ get_or steps i d = is ∙ (get_or_default steps k s d l ∙ ap (λ z. get_or steps z d) (sym q)) in
-      subst (λ z. IsToldWithin (told_at mid z.to) (base + z.loss)) read here)
-      (λ (q : i ≢ k). h.offered i d (omega arith) n)
-      (cases_eq i k);
-  lowered = h.lowered;
-  by_step = h.by_step;
-}
+module _ {net : NetLists} {losses : List (Option Loss)} {a base : ℕ} (places : List PlaceId) (k : ℕ) {old mid : List (Option ℕ)} (p : PlaceId)
+    (h : IsRelaxed net losses a base (take k places) old mid) (l : k < length places) (is : p ≡ get_or places k p) where
+  -- the place at k has no loss, or offers no less than is told
+  pub place_past : IsTaken net losses base mid p → IsRelaxed net losses a base (take (k + 1) places) old mid
+  place_past here = record {
+    count = h.count;
+    taken = All-more (IsTaken net losses base mid) places k p l h.taken (subst (IsTaken net losses base mid) is here);
+    lowered = h.lowered;
+    by_place = h.by_place;
+  }
 
--- or less, which is told
-pub step_taken :
-    (steps : List LossStep) (base k : ℕ) (old mid : List (Option ℕ)) (s : LossStep) → RelaxedUpTo steps base k old mid → k < length steps → s ≡ get_or steps k s → s.to < length mid
-    → ((d : ℕ) → told_at mid s.to ≡ Some d → base + s.loss ≤ d) → RelaxedUpTo steps base (k + 1) old (set mid s.to (Some (base + s.loss)))
-step_taken steps base k old mid s h l is in' less =
-    let new : List (Option ℕ) = set mid s.to (Some (base + s.loss)) in
-    let same : told_at new s.to ≡ Some (base + s.loss) = get_or-set_same mid s.to (Some (base + s.loss)) None in' in
-    record {
-      count = length-set mid s.to (Some (base + s.loss)) ∙ h.count;
-      offered = λ i d m n. ⊎_elim
-          (λ (q : i ≡ k).
-          let read : s ≡ get_or steps i d = is ∙ (get_or_default steps k s d l ∙ ap (λ z. get_or steps z d) (sym q)) in
-          subst (λ z. IsToldWithin (told_at new z.to) (base + z.loss)) read (within_some (told_at new s.to) (base + s.loss) same))
-          (λ (q : i ≢ k). lower mid s.to (base + s.loss) (get_or steps i d).to (base + (get_or steps i d).loss) in' less (h.offered i d (omega arith) n))
-          (cases_eq i k);
-      lowered = λ t x w. lower mid s.to (base + s.loss) t x in' less (h.lowered t x w);
-      by_step = λ t d e. ⊎_elim
-          (λ (q : t ≡ s.to).
-          let d_is : base + s.loss ≡ d = (let there : told_at new s.to ≡ Some d = ap (told_at new) (sym q) ∙ e in cc) in
-          inr (k, s, l, sym is, (sym q, d_is)))
-          (λ (q : t ≢ s.to). h.by_step t d (sym (get_or-set_other mid s.to t (Some (base + s.loss)) None q) ∙ e))
-          (cases_eq t s.to);
-    }
+  -- or it offers less, which is told
+  pub place_taken : (to offered : ℕ) → Offers net losses a base p to offered → to < length mid → ((d : ℕ) → told_at mid to ≡ Some d → offered ≤ d)
+      → IsRelaxed net losses a base (take (k + 1) places) old (set mid to (Some offered))
+  place_taken to offered offer in' less =
+      let new : List (Option ℕ) = set mid to (Some offered) in
+      let same : told_at new to ≡ Some offered = get_or-set_same mid to (Some offered) None in' in
+      let Taken : PlaceId → Type 0 = IsTaken net losses base new in
+      let sum = offer.sum in
+      let here : Taken p = λ some. subst (λ z. IsToldWithin (told_at new z) (base + amount_in (loss_at losses p))) (sym offer.to)
+      (within_more (told_at new to) offered (base + amount_in (loss_at losses p)) (within_some (told_at new to) offered same) (omega arith)) in
+      let lowers : (q : PlaceId) → IsTaken net losses base mid q → Taken q = λ q w some. lower mid to offered (to_of net q) (base + amount_in (loss_at losses q)) in' less (w some) in
+      record {
+        count = length-set mid to (Some offered) ∙ h.count;
+        taken = All-more Taken places k p l (All-weaker (IsTaken net losses base mid) Taken lowers (take k places) h.taken) (subst Taken is here);
+        lowered = λ t x w. lower mid to offered t x in' less (h.lowered t x w);
+        by_place = λ t d e. ⊎_elim
+            (λ (q : t ≡ to).
+            let d_is : offered ≡ d = (let there : told_at new to ≡ Some d = ap (told_at new) (sym q) ∙ e in cc) in
+            inr (p, subst (λ z. Offers net losses a base p z d) (sym q) (subst (Offers net losses a base p to) d_is offer)))
+            (λ (q : t ≢ to). h.by_place t d (sym (get_or-set_other mid to t (Some offered) None q) ∙ e))
+            (cases_eq t to);
+      }
 
 -- ---- the search
 
@@ -273,9 +268,9 @@ module _ {net : NetLists} {losses : List (Option Loss)} {start : ℕ} {least : L
         no_nearer = no_nearer top;
       }
 
-  -- it is settled, and its steps are taken
+  -- it is settled, and the places that leave it are taken
   pub goes_on :
-      {steps : List LossStep} {new : List (Option ℕ)} {after : List Entry} → first.0.1 < length settled → IsRelaxed steps first.0.0 least new → AreQueued least new rest after
+      {a : ℕ} {places : List PlaceId} {new : List (Option ℕ)} {after : List Entry} → first.0.1 < length settled → IsRelaxed net losses a first.0.0 places least new → AreQueued least new rest after
       → IsHeap nearest_first rest → IsSearching net losses start new (set settled first.0.1 true) → IsQueueing net losses start new (set settled first.0.1 true) after
   goes_on in' relaxed queued heap searching =
       let at : ℕ = first.0.1 in
@@ -304,17 +299,16 @@ queue_over {net} {losses} {start} {least} {settled} h u opened = by_told (told_a
   by_told (Some d) e = absurd (contains_none (entry d u) (h.waits u d opened e))
 
 -- how much is left: the queue, and what unsettled transitions may add to it
-abbrev pub left : List Bool → List (List LossStep) → ℕ → ℕ
-left settled steps queued = unsettled settled * (sum_by length steps + 1) + queued
+abbrev pub left : List Bool → List (List PlaceId) → ℕ → ℕ
+left settled lists queued = unsettled settled * (sum_by length lists + 1) + queued
 
 pub less_left :
-    (settled marks : List Bool) (steps : List (List LossStep)) (own : List LossStep) (at queued rest after : ℕ) → at < length steps → own ≡ get_or steps at [] → unsettled marks + 1 ≡ unsettled settled
-    → rest + 1 ≡ queued → after ≤ rest + length own → left marks steps after < left settled steps queued
-less_left settled marks steps own at queued rest after l is fewer popped few =
-    let most : length (get_or steps at []) ≤ sum_by length steps = get_or-le-sum_by length steps at [] l in
-    let long : length own ≡ length (get_or steps at []) = ap length is in
-    let product : unsettled settled * (sum_by length steps + 1) ≡ unsettled marks * (sum_by length steps + 1) + (sum_by length steps + 1) =
-    ap (λ z. z * (sum_by length steps + 1)) (sym fewer) ∙ one_more_times (unsettled marks) (sum_by length steps + 1) in
+    (settled marks : List Bool) (lists : List (List PlaceId)) (at queued rest after : ℕ) → at < length lists → unsettled marks + 1 ≡ unsettled settled
+    → rest + 1 ≡ queued → after ≤ rest + length (get_or lists at []) → left marks lists after < left settled lists queued
+less_left settled marks lists at queued rest after l fewer popped few =
+    let most : length (get_or lists at []) ≤ sum_by length lists = get_or-le-sum_by length lists at [] l in
+    let product : unsettled settled * (sum_by length lists + 1) ≡ unsettled marks * (sum_by length lists + 1) + (sum_by length lists + 1) =
+    ap (λ z. z * (sum_by length lists + 1)) (sym fewer) ∙ one_more_times (unsettled marks) (sum_by length lists + 1) in
     omega arith where
       one_more_times : (a b : ℕ) → (a + 1) * b ≡ a * b + b
       one_more_times a b = grind arith

@@ -14,7 +14,7 @@ use Rattle.teg_critical.specs.LeastLosses.{amount_in, loss_of_path, IsWay, told_
 abbrev pub unsettled : List Bool → ℕ
 unsettled settled = sum_by (λ s. if s then 0 else 1) settled
 
--- what is told is the loss of some path; settled transitions are told no more than others, and their steps are taken
+-- what is told is the loss of some path; settled transitions are told no more than others, and the places that leave them are taken
 pub record IsSearching (net : NetLists) (losses : List (Option Loss)) (start : ℕ) (least : List (Option ℕ)) (settled : List Bool) : Type 0 where
   pub count : length least ≡ length net.transitions
   pub marks : length settled ≡ length net.transitions

@@ -1,20 +1,20 @@
 -- Working definitions of least sums of losses along paths, from one transition on, and of their search (Dijkstra's
 -- algorithm).
-use Rattle.std.specs.Prelude.{ℕ, ◌+◌, ◌*◌, ◌<◌, ◌≤◌, ◌≡◌, ◌⊎◌, Bool, true, List, [], length, All, Any, Contains, IsSome, Option, Some, None, sum_by, slice_index_or}
+use Rattle.std.specs.Prelude.{ℕ, ◌+◌, ◌*◌, ◌<◌, ◌≤◌, ◌≡◌, ◌⊎◌, Bool, true, List, length, All, Contains, IsSome, Option, Some, None, sum_by, slice_index_or}
 use Rattle.std.specs.BinaryHeap.{IsHeap}
 use Rattle.std.specs.Ordering.{nat_cmp, ordering_then}
 use Rattle.std.specs.declared.cmp.Ordering.{Ordering}
 use Rattle.std.specs.declared.cmp.Reverse.{Reverse}
 use Rattle.teg_net.specs.declared.entries.PlaceId.{PlaceId}
-use Rattle.teg_net.specs.declared.entries.Place.{Place}
+use Rattle.teg_net.specs.declared.places_of.PlaceEnd.TheVariants.{From}
 use Rattle.teg_net.specs.Limits.{most_transitions}
 use Rattle.teg_net.specs.Nets.{NetLists}
 use Rattle.teg_net.specs.Circuits.{from_of, IsPathBetween}
 use Rattle.teg_net.specs.Parts.{to_of}
+use Rattle.teg_net.specs.PlaceLists.{ArePlacesOf}
 use Rattle.teg_critical.specs.declared.endings.Ending.{Ending}
 use Rattle.teg_critical.specs.declared.losses.Loss.{Loss}
-use Rattle.teg_critical.specs.declared.searches.LossStep.{LossStep}
-use Rattle.teg_critical.specs.Losses.{most_loss, loss_at}
+use Rattle.teg_critical.specs.Losses.{most_loss, loss_at, AreKeptSmall}
 
 -- the amount of a loss, 0 where there is none
 abbrev pub amount_in : Option Loss → ℕ
@@ -49,37 +49,21 @@ pub record AreToldBack (net : NetLists) (losses : List (Option Loss)) (back : Li
   pub count : length back ≡ length net.transitions
   pub each : All (IsToldBack net losses back) endings
 
--- ---- steps
-
--- a place of the net that leaves the transition, with this end and this loss
-pub record IsStepBy (net : NetLists) (losses : List (Option Loss)) (t : ℕ) (p : PlaceId) (s : LossStep) : Type 0 where
-  pub in_range : p.index < length net.places
-  pub from : from_of net p ≡ t
-  pub to : to_of net p ≡ s.to
-  pub told : IsSome (loss_at losses p)
-  pub loss : amount_in (loss_at losses p) ≡ s.loss
-
--- the same of a place by itself, and of what it is told
-pub record IsLossStepOf (p : Place) (told : Option Loss) (t : ℕ) (s : LossStep) : Type 0 where
-  pub from : p.from.index ≡ t
-  pub to : p.to.index ≡ s.to
-  pub some : IsSome told
-  pub loss : amount_in told ≡ s.loss
-
--- the steps from a transition: each is by a place, and each place with a loss that leaves it has one
-pub record AreStepsFrom (net : NetLists) (losses : List (Option Loss)) (t : ℕ) (steps : List LossStep) : Type 0 where
-  pub sound : All (λ s. (p : PlaceId) × IsStepBy net losses t p s) steps
-  pub complete : (p : PlaceId) → p.index < length net.places → from_of net p ≡ t → IsSome (loss_at losses p)
-      → Any (λ s. (s.to ≡ to_of net p) × (s.loss ≡ amount_in (loss_at losses p))) steps
-  pub ends : All (λ s. s.to < length net.transitions) steps
-  pub small : All (λ s. s.loss ≤ most_loss) steps
-
--- the steps from each transition, in order
-pub record AreSteps (net : NetLists) (losses : List (Option Loss)) (steps : List (List LossStep)) : Type 0 where
-  pub count : length steps ≡ length net.transitions
-  pub each : (t : ℕ) → t < length net.transitions → AreStepsFrom net losses t (slice_index_or steps t [])
-
 -- ---- the search
+
+-- what a search goes by: each place has its entry, no loss passes the most, and these are the places that leave each transition
+pub record CanSearch (net : NetLists) (losses : List (Option Loss)) (lists : List (List PlaceId)) : Type 0 where
+  pub count : length losses ≡ length net.places
+  pub small : AreKeptSmall losses
+  pub leaving : ArePlacesOf net From lists
+
+-- place p leaves transition a, has a loss, and so offers d to transition b, from this base on
+pub record Offers (net : NetLists) (losses : List (Option Loss)) (a base : ℕ) (p : PlaceId) (b d : ℕ) : Type 0 where
+  pub in_range : p.index < length net.places
+  pub from : from_of net p ≡ a
+  pub to : to_of net p ≡ b
+  pub told : IsSome (loss_at losses p)
+  pub sum : base + amount_in (loss_at losses p) ≡ d
 
 -- a number is told, and it is at most this
 abbrev pub IsToldWithin : Option ℕ → ℕ → Type 0
@@ -94,12 +78,16 @@ is_settled settled t = slice_index_or settled t true
 abbrev pub AreSettled : List Bool → List Ending → Type 0
 AreSettled settled endings = All (λ e. is_settled settled e.start ≡ true) endings
 
--- the steps are taken from this loss on: what they offer is told where it is less
-pub record IsRelaxed (steps : List LossStep) (base : ℕ) (old new : List (Option ℕ)) : Type 0 where
+-- the place has no loss, or what it offers from this loss on is told, or less
+abbrev pub IsTaken : NetLists → List (Option Loss) → ℕ → List (Option ℕ) → PlaceId → Type 0
+IsTaken net losses base least p = IsSome (loss_at losses p) → IsToldWithin (told_at least (to_of net p)) (base + amount_in (loss_at losses p))
+
+-- these places, which leave transition a, are taken from this loss on: what they offer is told where it is less
+pub record IsRelaxed (net : NetLists) (losses : List (Option Loss)) (a base : ℕ) (places : List PlaceId) (old new : List (Option ℕ)) : Type 0 where
   pub count : length new ≡ length old
-  pub offered : All (λ s. IsToldWithin (told_at new s.to) (base + s.loss)) steps
+  pub taken : All (IsTaken net losses base new) places
   pub lowered : (t x : ℕ) → IsToldWithin (told_at old t) x → IsToldWithin (told_at new t) x
-  pub by_step : (t d : ℕ) → told_at new t ≡ Some d → (told_at old t ≡ Some d) ⊎ Any (λ s. (s.to ≡ t) × (base + s.loss ≡ d)) steps
+  pub by_place : (t d : ℕ) → told_at new t ≡ Some d → (told_at old t ≡ Some d) ⊎ ((p : PlaceId) × Offers net losses a base p t d)
 
 -- ---- the queue
 

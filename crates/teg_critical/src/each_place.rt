@@ -10,16 +10,16 @@ ghost use Rattle.teg_critical.specs.declared.slacks.Slack.TheVariants.{NoCircuit
 ghost use Rattle.teg_critical.specs.Slacks.{IsOnCircuit, IsSlackOf, AreSlacks};
 ghost use Rattle.teg_critical.specs.LossEndings.{IsEnding};
 ghost use Rattle.teg_critical.specs.Losses.{LeavesGap};
-ghost use Rattle.teg_critical.specs.LeastLosses.{AreSteps, AreToldBack, IsToldBack};
+ghost use Rattle.teg_critical.specs.LeastLosses.{CanSearch, AreToldBack, IsToldBack};
 ghost use Rattle.teg_critical.specs.Told.{IsSlackOfGap, IsGapWithin, CanTellSlack, AreToldMore, AreUntold};
 
 use crate::endings::{Ending, by_end, group_length};
 use crate::losses::losses_of;
-use crate::searches::{NetLosses, all_steps, least_losses};
+use crate::searches::{NetLosses, least_losses};
 use crate::slacks::{Slack, Slacks};
 use std::alloc::{AllocError, Global};
 use teg_certificates::best_ratio;
-use teg_net::{CycleAnswer, Net, OutOfMemory, Ratio};
+use teg_net::{CycleAnswer, Net, OutOfMemory, PlaceEnd, PlacesOf, Ratio};
 
 // The gap that a loss of the whole round tells.
 fn gap_by(total: u128, scale: u64) -> u64
@@ -109,7 +109,7 @@ fn tell_all(
     slacks: &mut [Slack],
 ) -> Result<(), AllocError>
     requires can { CanTellSlack known.now.net.now best known.now.losses.now }
-    requires steps { AreSteps known.now.net.now known.now.losses.now known.now.steps.now }
+    requires search { CanSearch known.now.net.now known.now.losses.now known.now.leaving.now }
     requires untold { AreUntold known.now.net.now slacks.old }
     ensures { IfOk result (λ _. AreSlacks known.now.net.now best slacks.new) }
 {
@@ -131,7 +131,7 @@ fn slacks_at(
     net: &Net,
     answer: &CycleAnswer,
     best: Ratio,
-) -> Result<Vec<Slack>, AllocError>
+) -> Result<Vec<Slack>, OutOfMemory>
     requires certificate { IsCertificate net.now answer.now }
     requires live { IsLive net.now }
     requires best { best_ratio_of answer.now ≡ Some best }
@@ -139,12 +139,12 @@ fn slacks_at(
     ensures greatest { IfOk result (λ _. IsGreatestRatio net.now IsAnyPlace best) }
 {
     let losses = losses_of(alloc, net, answer, best)?;
-    let steps = all_steps(alloc, net, &losses)?;
+    let leaving = PlacesOf::new(alloc, net, PlaceEnd::From)?;
     let mut slacks = vec![in alloc; Slack::NoCircuit; net.places().len()]?;
     let known = NetLosses {
         net,
         losses: &losses,
-        steps: &steps,
+        leaving: &leaving,
     };
     tell_all(alloc, &known, best, &mut slacks)?;
     Ok(slacks)

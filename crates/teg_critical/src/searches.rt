@@ -1,117 +1,27 @@
 //! The least that the paths from one transition lose back to the starts of the places that end
 //! there (Dijkstra's algorithm): of the transitions that are not settled the nearest is settled,
-//! and its steps are taken, until all these starts are settled.
-ghost use Rattle.std.specs.Prelude.{◌≡◌, ◌≤◌, ◌<◌, ◌+◌, ◌*◌, ◌++◌, ◌∷◌, [], ℕ, length, replicate, take, All, IfOk, IfNone, IfSome, IsTrue, None, Some, false, is_ok, if◌then◌else◌};
+//! and the places that leave it are taken, until all these starts are settled.
+ghost use Rattle.std.specs.Prelude.{◌≡◌, ◌≤◌, ◌<◌, ◌+◌, ◌*◌, [], ℕ, length, slice_index_or, take, All, IfOk, IfNone, IfSome, IsTrue, Some, false};
 ghost use Rattle.std.specs.BinaryHeap.{heap_items, heap_len};
 ghost use Rattle.teg_net.specs.Limits.{most_transitions};
-ghost use Rattle.teg_critical.specs.Losses.{most_loss, AreKeptSmall};
+ghost use Rattle.teg_net.specs.Circuits.{from_of};
+ghost use Rattle.teg_critical.specs.Losses.{most_loss};
 ghost use Rattle.teg_critical.specs.LossEndings.{IsEndingAt};
-ghost use Rattle.teg_critical.specs.LeastLosses.{IsLossStepOf, AreSteps, IsToldWithin, IsRelaxed, AreQueued, AreSettled, AreToldBack};
+ghost use Rattle.teg_critical.specs.LeastLosses.{CanSearch, told_at, Offers, IsTaken, IsToldWithin, IsRelaxed, AreQueued, AreSettled, AreToldBack};
 
 use crate::endings::Ending;
 use crate::losses::Loss;
 use std::alloc::{AllocError, Global};
 use std::cmp::Reverse;
 use std::collections::BinaryHeap;
-use std::marker::Model;
-use teg_net::{Net, Place};
+use teg_net::{Net, PlaceId, PlacesOf, TransitionId};
 
-// A place as the search takes it: the transition at which it ends, and what it loses.
-#[derive(Clone, Copy, Debug, PartialEq, Eq)]
-pub(crate) struct LossStep {
-    pub(crate) to: usize,
-    pub(crate) loss: u128,
-}
-
-// The steps from one transition. Contracts see the list.
-#[derive(Debug, Drop)]
-pub(crate) struct Steps {
-    steps: Vec<LossStep>,
-}
-
-impl Model for Steps {
-    ghost use Rattle.std.specs.Prelude.{List};
-    ghost use Rattle.teg_critical.specs.declared.searches.LossStep.{LossStep};
-
-    ghost Value = { List LossStep };
-
-    ghost view = { λ s. s.steps.items };
-}
-
-impl Steps {
-    // No steps.
-    fn new(alloc: Global) -> Steps
-        ensures { result ≡ [] }
-    {
-        Steps {
-            steps: Vec::new(alloc),
-        }
-    }
-
-    // The steps as a list.
-    fn as_slice(&self) -> &[LossStep]
-        ensures { result.now ≡ self.now }
-    {
-        &self.steps
-    }
-
-    // Appends a step, or changes nothing.
-    fn push(&mut self, step: LossStep) -> Result<(), AllocError>
-        ensures { self.new ≡ (if is_ok result then self.old ++ step ∷ [] else self.old) }
-    {
-        self.steps.push(step)?;
-        Ok(())
-    }
-}
-
-// So many lists without steps.
-fn no_steps(alloc: Global, count: usize) -> Result<Vec<Steps>, AllocError>
-    ensures { IfOk result (λ all. all.items ≡ replicate count []) }
-{
-    let mut all = Vec::new(alloc);
-    for _index in 0..count {
-        all.push(Steps::new(alloc))?;
-    }
-    Ok(all)
-}
-
-// A net, what its places lose, and the steps from each of its transitions.
+// A net, what its places lose, and the places that leave each of its transitions.
 #[derive(Debug, Drop)]
 pub(crate) struct NetLosses<'a> {
     pub(crate) net: &'a Net,
     pub(crate) losses: &'a [Option<Loss>],
-    pub(crate) steps: &'a [Steps],
-}
-
-// The step that a place is, if it is told a loss.
-fn step_by(place: &Place, told: Option<Loss>) -> Option<LossStep>
-    ensures none { IfNone result (told ≡ None) }
-    ensures step { IfSome result (IsLossStepOf place.now told place.now.from.index) }
-{
-    let loss = told?;
-    Some(LossStep {
-        to: place.to.index as usize,
-        loss: loss.amount,
-    })
-}
-
-// The steps from each transition: the places that leave it and are told a loss.
-pub(crate) fn all_steps(
-    alloc: Global,
-    net: &Net,
-    losses: &[Option<Loss>],
-) -> Result<Vec<Steps>, AllocError>
-    requires count { length losses.now ≡ length net.now.places }
-    requires small { AreKeptSmall losses.now }
-    ensures { IfOk result (λ steps. AreSteps net.now losses.now steps.items) }
-{
-    let mut all = no_steps(alloc, net.transitions().len())?;
-    for (index, place) in net.places().iter().enumerate() {
-        if let Some(step) = step_by(place, losses[index]) {
-            all[place.from.index as usize].push(step)?;
-        }
-    }
-    Ok(all)
+    pub(crate) leaving: &'a PlacesOf,
 }
 
 // Whether nothing is told yet, or more than is offered.
@@ -125,26 +35,62 @@ fn is_less(offered: u128, told: Option<u128>) -> bool
     }
 }
 
-// Takes the steps from this loss on: what they offer is told where it is less, and queued.
+// What a place offers the transition at which it ends, from this loss on, with that transition;
+// none where the place has no loss, or offers no less than is told.
+fn lesser_offer(
+    known: &NetLosses,
+    base: u128,
+    place: PlaceId,
+    least: &[Option<u128>],
+) -> Option<(u128, usize)>
+    requires can { CanSearch known.now.net.now known.now.losses.now known.now.leaving.now }
+    requires place { place.index < length known.now.net.now.places }
+    requires width { length least.now ≡ length known.now.net.now.transitions }
+    requires base { base ≤ most_transitions * most_loss }
+    ensures none { IfNone result (IsTaken known.now.net.now known.now.losses.now base least.now
+        place) }
+    ensures some { IfSome result (λ o. Offers known.now.net.now known.now.losses.now
+        (from_of known.now.net.now place) base place o.1 o.0) }
+    ensures less { IfSome result (λ o. (d : ℕ) → told_at least.now o.1 ≡ Some d → o.0 ≤ d) }
+    ensures in_range { IfSome result (λ o. o.1 < length least.now) }
+{
+    let loss = known.losses[place.index as usize]?;
+    let to = known.net.places()[place.index as usize].to.index as usize;
+    let offered = base + loss.amount;
+    if is_less(offered, least[to]) {
+        Some((offered, to))
+    } else {
+        None
+    }
+}
+
+// Takes the places that leave a transition from this loss on: what they offer is told where it is
+// less, and queued.
 fn relax(
-    steps: &[LossStep],
+    known: &NetLosses,
+    at: usize,
     base: u128,
     least: &mut [Option<u128>],
     queue: &mut BinaryHeap<Reverse<(u128, usize)>>,
 ) -> Result<(), AllocError>
-    requires ends { All (λ s. s.to < length least.old) steps.now }
-    requires small { All (λ s. s.loss ≤ most_loss) steps.now }
+    requires can { CanSearch known.now.net.now known.now.losses.now known.now.leaving.now }
+    requires at { at < length known.now.net.now.transitions }
+    requires width { length least.old ≡ length known.now.net.now.transitions }
     requires base { base ≤ most_transitions * most_loss }
-    ensures relaxed { IfOk result (λ _. IsRelaxed steps.now base least.old least.new) }
+    ensures relaxed { IfOk result (λ _. IsRelaxed known.now.net.now known.now.losses.now at base
+        (slice_index_or known.now.leaving.now at []) least.old least.new) }
     ensures queued { IfOk result (λ _. AreQueued least.old least.new (heap_items queue.old)
         (heap_items queue.new)) }
-    ensures few { IfOk result (λ _. heap_len queue.new ≤ heap_len queue.old + length steps.now) }
+    ensures few { IfOk result (λ _. heap_len queue.new ≤ heap_len queue.old
+        + length (slice_index_or known.now.leaving.now at [])) }
 {
-    for step in steps {
-        let offered = base + step.loss;
-        if is_less(offered, least[step.to]) {
-            least[step.to] = Some(offered);
-            queue.push(Reverse((offered, step.to)))?;
+    known.net.rules();
+    let transition = TransitionId { index: at as u32 };
+    let places = known.leaving.of(transition);
+    for place in places {
+        if let Some((loss, to)) = lesser_offer(known, base, *place, least) {
+            least[to] = Some(loss);
+            queue.push(Reverse((loss, to)))?;
         }
     }
     Ok(())
@@ -175,15 +121,13 @@ pub(crate) fn least_losses(
     end: usize,
     wanted: &[Ending],
 ) -> Result<Vec<Option<u128>>, AllocError>
-    requires count { length known.now.losses.now ≡ length known.now.net.now.places }
-    requires steps { AreSteps known.now.net.now known.now.losses.now known.now.steps.now }
+    requires can { CanSearch known.now.net.now known.now.losses.now known.now.leaving.now }
     requires end { end < length known.now.net.now.transitions }
     requires wanted { All (IsEndingAt known.now.net.now end) wanted.now }
     ensures { IfOk result (λ least. AreToldBack known.now.net.now known.now.losses.now least.items
         wanted.now) }
 {
-    let NetLosses { net, steps, .. } = *known;
-    let count = net.transitions().len();
+    let count = known.net.transitions().len();
     let mut least = vec![in alloc; None; count]?;
     let mut settled = vec![in alloc; false; count]?;
     let mut queue = BinaryHeap::new(alloc);
@@ -193,7 +137,7 @@ pub(crate) fn least_losses(
     'search: while let Some(Reverse((loss, at))) = queue.pop() {
         if !settled[at] {
             settled[at] = true;
-            relax(steps[at].as_slice(), loss, &mut least, &mut queue)?;
+            relax(known, at, loss, &mut least, &mut queue)?;
             next = first_open(wanted, next, &settled);
             if next == wanted.len() {
                 return Ok(least);

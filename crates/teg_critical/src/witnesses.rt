@@ -16,10 +16,10 @@ use crate::endings::Ending;
 use crate::heights::{Raised, cost_of, gain_of, heights_of, potentials_by};
 use crate::hops::{Hop, circuit_back, end_of, hops_from, start_of};
 use crate::losses::losses_of;
-use crate::searches::{NetLosses, all_steps, least_losses};
+use crate::searches::{NetLosses, least_losses};
 use std::alloc::{AllocError, Global};
 use teg_certificates::{RiseWitness, best_ratio};
-use teg_net::{Circuit, CycleAnswer, Net, OutOfMemory, Place, PlaceId, Ratio};
+use teg_net::{Circuit, CycleAnswer, Net, OutOfMemory, Place, PlaceEnd, PlaceId, PlacesOf, Ratio};
 
 /// What shows the slack of a place (chapters 2 and 3). Each circuit begins with the place.
 #[derive(Debug, Drop)]
@@ -129,7 +129,7 @@ fn gap_of(
     answer: &CycleAnswer,
     best: Ratio,
     place: PlaceId,
-) -> Result<Option<u64>, AllocError>
+) -> Result<Option<u64>, OutOfMemory>
     requires certificate { IsCertificate net.now answer.now }
     requires live { IsLive net.now }
     requires best { best_ratio_of answer.now ≡ Some best }
@@ -139,11 +139,11 @@ fn gap_of(
     ensures rules { IfOk result (λ _. IsNet net.now) }
 {
     let losses = losses_of(alloc, net, answer, best)?;
-    let steps = all_steps(alloc, net, &losses)?;
+    let leaving = PlacesOf::new(alloc, net, PlaceEnd::From)?;
     let known = NetLosses {
         net,
         losses: &losses,
-        steps: &steps,
+        leaving: &leaving,
     };
     let ending = Ending {
         start: start_of(net, place),
@@ -161,7 +161,7 @@ fn witness_at(
     answer: &CycleAnswer,
     best: Ratio,
     place: PlaceId,
-) -> Result<SlackWitness, AllocError>
+) -> Result<SlackWitness, OutOfMemory>
     requires certificate { IsCertificate net.now answer.now }
     requires live { IsLive net.now }
     requires best { best_ratio_of answer.now ≡ Some best }
@@ -177,7 +177,7 @@ fn witness_at(
         place,
         gap,
     };
-    witness_by(alloc, net, &raised)
+    Ok(witness_by(alloc, net, &raised)?)
 }
 
 /// What shows the slack of a place of a live net, so that the checkers of `teg_certificates` say
@@ -200,7 +200,7 @@ pub fn slack_witness(
     ensures { IfOk result (IsSlackWitness net.now answer.now place) }
 {
     match best_ratio(answer) {
-        Some(best) => Ok(witness_at(alloc, net, answer, best, place)?),
+        Some(best) => witness_at(alloc, net, answer, best, place),
         None => Ok(SlackWitness::NoCircuit {
             numbers: numbers_from(alloc, net, place)?,
         }),

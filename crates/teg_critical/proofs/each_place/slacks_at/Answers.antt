@@ -3,7 +3,7 @@ use Rattle.teg_critical.proofs.each_place.slacks_at.Goals as goal
 
 pub tell_all-requires-clause-can : goal.tell_all-requires-clause-can
 tell_all-requires-clause-can c =
-    rw c.deref-2.ensures.value
+    rw c.deref.ensures.value
     (can_tell c.args.net.now c.places.ensures.rules c.args.answer.now c.requires.certificate c.requires.live c.args.best c.requires.best c.in_ok-losses.losses.items c.in_ok-losses.ensures)
 
 pub returns-clause-greatest : goal.returns-clause-greatest

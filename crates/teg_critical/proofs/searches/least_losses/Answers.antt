@@ -2,20 +2,17 @@ use Rattle.std.proofs.Common.{ℕ, Bool, true, false, Option, None, List, [], �
 use Rattle.std.specs.Prelude.{IsPermutation}
 use Rattle.std.specs.BinaryHeap.{heap_items, heap_len, IsHeap, IsUpperBound}
 use Rattle.std.specs.declared.cmp.Reverse.{Reverse}
-use Rattle.std.proofs.lemmas.List.{get_or_default, get_or_read, take_all}
-use Rattle.teg_net.specs.Nets.{NetLists, IsNet, IsPlaceOf}
-use Rattle.teg_net.specs.Circuits.{no_place, place_at}
+use Rattle.std.proofs.lemmas.List.{get_or_default, take_all}
+use Rattle.teg_net.specs.Nets.{NetLists}
 use Rattle.teg_critical.specs.declared.losses.Loss.{Loss}
-use Rattle.teg_critical.specs.declared.searches.LossStep.{LossStep}
 use Rattle.teg_critical.specs.Losses.{most_loss}
-use Rattle.teg_critical.specs.LeastLosses.{AreStepsFrom, AreSteps, AreSettled, IsRelaxed, AreQueued, is_settled, nearest_first}
+use Rattle.teg_critical.specs.LeastLosses.{AreSettled, IsRelaxed, AreQueued, is_settled, nearest_first}
 use Rattle.teg_net.proofs.Reading.{written_back}
-use Rattle.teg_critical.proofs.Stepping.{own_steps}
-use Rattle.teg_critical.proofs.Settling.{settles, one_settled}
+use Rattle.teg_critical.proofs.Settling.{one_settled, settles}
 use Rattle.teg_critical.proofs.Searching.{searched, settled_back}
 use Rattle.teg_critical.proofs.Queueing.{search_begins, queue_begins, first_in, passed_over, is_nearest, goes_on, queue_over, less_left}
 use Rattle.teg_critical.proofs.searches.least_losses.Goals as goal
-use Rattle.teg_critical.proofs.SearchStates.{unsettled, IsSearching, IsNearest, IsOver, IsQueueing}
+use Rattle.teg_critical.proofs.SearchStates.{unsettled, IsNearest, IsOver, IsQueueing}
 
 pub search-init : goal.search-init
 search-init c =
@@ -47,37 +44,11 @@ index_mut-requires-then-not-index c =
     let ok = c.search.settled.ok in
     omega (arith, ok.0)
 
-pub offset_bounds-steps-at : goal.offset_bounds-steps-at
-offset_bounds-steps-at c =
-    let h = c.search.invariant.0 in
-    let l = first_in h c.in-Some.ensures.permutation in
-    let few = c.transitions-count.ensures.rules.few_transitions in
-    omega arith
+pub relax-requires-clause-at : goal.relax-requires-clause-at
+relax-requires-clause-at c = first_in c.search.invariant.0 c.in-Some.ensures.permutation
 
-pub bounds-steps-at : goal.bounds-steps-at
-bounds-steps-at c =
-    let h = c.search.invariant.0 in
-    let l = first_in h c.in-Some.ensures.permutation in
-    let count = c.requires.steps.count in
-    omega arith
-
--- the steps of a transition, as they are read
-steps_read : {net : NetLists} {losses : List (Option Loss)} {all : List (List LossStep)} {read own : List LossStep} (at : ℕ)
-    → AreSteps net losses all → at < length net.transitions → read ≡ get_or all at read → own ≡ read → AreStepsFrom net losses at own
-steps_read {net} {losses} {all} {read} at steps l is e = subst (AreStepsFrom net losses at) (sym e) (own_steps net losses all at read steps l is)
-
-pub relax-requires-clause-ends : goal.relax-requires-clause-ends
-relax-requires-clause-ends c =
-    let h = c.search.invariant.0 in
-    let l = first_in h c.in-Some.ensures.permutation in
-    let own = steps_read c.in-Some.field-0.0.1 c.requires.steps l c.index-steps-at.is c.as_slice.ensures in
-    let count = h.searching.count in
-    λ k d m. rw c.deref_mut.ensures.value (omega (arith, own.ends k d m))
-
-pub relax-requires-clause-small : goal.relax-requires-clause-small
-relax-requires-clause-small c =
-    let l = first_in c.search.invariant.0 c.in-Some.ensures.permutation in
-    (steps_read c.in-Some.field-0.0.1 c.requires.steps l c.index-steps-at.is c.as_slice.ensures).small
+pub relax-requires-clause-width : goal.relax-requires-clause-width
+relax-requires-clause-width c = rw c.deref_mut.ensures.value c.search.invariant.0.searching.count
 
 -- the entry of an unsettled transition is the nearest
 near_of : {net : NetLists} {losses : List (Option Loss)} {start : ℕ} {least : List (Option ℕ)} {settled : List Bool}
@@ -112,35 +83,25 @@ search-smaller-else-next-wanted c =
     let settled = c.search.settled.items in
     let at = c.in-Some.field-0.0.1 in
     let l = first_in h c.in-Some.ensures.permutation in
-    let count = c.requires.steps.count in
+    let count = c.requires.can.leaving.count in
     let near = near_of h c.in-Some.ensures.permutation c.in-Some.ensures.below_top c.index.ensures c.if-not-index.true in
-    let own : c.as_slice.result.now ≡ get_or c.args.known.now.steps.now at [] = c.as_slice.ensures ∙ get_or_read c.args.known.now.steps.now at c.index-steps-at.result
-    (omega arith) c.index-steps-at.is [] in
-    less_left settled (set settled at true) c.args.known.now.steps.now c.as_slice.result.now at (heap_len c.search.queue) (heap_len c.pop.new.self) (heap_len c.relax.new.queue) (omega arith) own
+    less_left settled (set settled at true) c.args.known.now.leaving.now at (heap_len c.search.queue) (heap_len c.pop.new.self) (heap_len c.relax.new.queue) (omega arith)
     (one_settled settled at near.in_range near.open_) c.in-Some.ensures.len c.in_ok-relax.ensures.few
-
--- what the search has found once the entry's steps are taken
-searching_on : {net : NetLists} {losses : List (Option Loss)} {start : ℕ} {least new : List (Option ℕ)} {settled : List Bool}
-    {own : List LossStep} {at base : ℕ} → IsNet net → IsSearching net losses start least settled → IsNearest least settled at base
-    → AreStepsFrom net losses at own → IsRelaxed own base least new → IsSearching net losses start new (set settled at true)
-searching_on {net} ok searching near from relaxed =
-    let marks = searching.marks in
-    settles searching near from relaxed (λ p m. (let rules : IsPlaceOf net (place_at net p) = ok.each_place p.index no_place m in let low = rules.from_in in omega arith))
 
 pub search-preserved-else-next-wanted : goal.search-preserved-else-next-wanted
 search-preserved-else-next-wanted c =
     let h = c.search.invariant.0 in
     let first = c.in-Some.field-0 in
     let moved = c.in-Some.ensures.permutation in
-    let own = steps_read first.0.1 c.requires.steps (first_in h moved) c.index-steps-at.is c.as_slice.ensures in
     let near = near_of h moved c.in-Some.ensures.below_top c.index.ensures c.if-not-index.true in
-    let relaxed : IsRelaxed c.as_slice.result.now first.0.0 c.search.least.items c.relax.new.least = rw c.deref_mut.ensures.value at c.in_ok-relax.ensures.relaxed in
+    let relaxed : IsRelaxed c.args.known.now.net.now c.args.known.now.losses.now first.0.1 first.0.0 (get_or c.args.known.now.leaving.now first.0.1 [])
+    c.search.least.items c.relax.new.least = rw c.deref_mut.ensures.value at c.in_ok-relax.ensures.relaxed in
     let queued : AreQueued c.search.least.items c.relax.new.least (heap_items c.pop.new.self) (heap_items c.relax.new.queue) = rw c.deref_mut.ensures.value at c.in_ok-relax.ensures.queued in
     let vec = c.search.least.ok in
     let whole = written_back c.relax.new.least c.search.least.items c.search.least.len (omega (arith, relaxed.count, vec.0)) in
     let done : AreSettled (set c.search.settled.items first.0.1 true) (take c.first_open-next.result c.args.wanted.now) = rw c.deref.ensures.value at c.first_open-next.ensures.settled in
     rw whole (
-      goes_on h moved near.in_range relaxed queued (c.in-Some.ensures.heap_order h.heap).0 (searching_on c.transitions-count.ensures.rules h.searching near own relaxed),
+      goes_on h moved near.in_range relaxed queued (c.in-Some.ensures.heap_order h.heap).0 (settles c.requires.can h.searching near relaxed c.transitions-count.ensures.rules),
       c.first_open-next.ensures.bound,
       done,
     )
@@ -150,14 +111,14 @@ returns-then-next-wanted c =
     let h = c.search.invariant.0 in
     let first = c.in-Some.field-0 in
     let moved = c.in-Some.ensures.permutation in
-    let own = steps_read first.0.1 c.requires.steps (first_in h moved) c.index-steps-at.is c.as_slice.ensures in
     let near = near_of h moved c.in-Some.ensures.below_top c.index.ensures c.if-not-index.true in
-    let relaxed : IsRelaxed c.as_slice.result.now first.0.0 c.search.least.items c.relax.new.least = rw c.deref_mut.ensures.value at c.in_ok-relax.ensures.relaxed in
+    let relaxed : IsRelaxed c.args.known.now.net.now c.args.known.now.losses.now first.0.1 first.0.0 (get_or c.args.known.now.leaving.now first.0.1 [])
+    c.search.least.items c.relax.new.least = rw c.deref_mut.ensures.value at c.in_ok-relax.ensures.relaxed in
     let vec = c.search.least.ok in
     let whole = written_back c.relax.new.least c.search.least.items c.search.least.len (omega (arith, relaxed.count, vec.0)) in
     let done : AreSettled (set c.search.settled.items first.0.1 true) (take c.first_open-next.result c.args.wanted.now) = rw c.deref.ensures.value at c.first_open-next.ensures.settled in
     let all : take c.first_open-next.result c.args.wanted.now ≡ c.args.wanted.now = take_all c.first_open-next.result c.args.wanted.now (omega (arith, c.if-next-wanted.true)) in
-    rw whole (settled_back (searching_on c.transitions-count.ensures.rules h.searching near own relaxed) c.transitions-count.ensures.rules c.args.wanted.now c.requires.wanted (rw all at done))
+    rw whole (settled_back (settles c.requires.can h.searching near relaxed c.transitions-count.ensures.rules) c.transitions-count.ensures.rules c.args.wanted.now c.requires.wanted (rw all at done))
 
 pub search-preserved : goal.search-preserved
 search-preserved c =

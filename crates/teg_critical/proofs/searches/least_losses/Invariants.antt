@@ -10,4 +10,4 @@ invariant-search l = IsQueueing l.known.net.now l.known.losses.now l.end l.least
     (l.next ≤ length l.wanted) × AreSettled l.settled.items (take l.next l.wanted)
 
 abbrev pub decreases-search : goal.decreases-search
-decreases-search l = left l.settled.items l.known.steps.now (heap_len l.queue)
+decreases-search l = left l.settled.items l.known.leaving.now (heap_len l.queue)
