@@ -55,9 +55,10 @@ impl Stream {
         Stream::of_live(alloc, net, &live)
     }
 
-    /// A stream before the first row of the net with these ranks, which needs no form.
-    /// `OutOfMemory` comes only where no memory is found. It takes time of order `n m + p log p`
-    /// for n transitions and p places with at most m tokens each.
+    /// A stream before the first row of the net with these ranks (chapter 2), as
+    /// [`new`](Stream::new) makes it, without a form. `OutOfMemory` comes only where no memory is
+    /// found. It takes time of order `n m + p log p` for n transitions and p places with at most m
+    /// tokens each.
     pub fn of_live(alloc: Global, net: &Net, live: &Live) -> Result<Stream, OutOfMemory>
         requires stands { IsRanking net.now live.now }
         ensures stands { IfOk result (IsStreamOf net.now) }
@@ -94,7 +95,8 @@ impl Stream {
         self.write_next(net, row);
     }
 
-    /// Writes the row that [`next_row`](Stream::next_row) does: the form is not needed. It takes no
+    /// Writes the next row as [`next_row`](Stream::next_row) does, without a form: the dates of the
+    /// firings of number `number + 1` by the least dating of the net (chapter 2). It takes no
     /// memory, and time of order `n + p` for n transitions and p places.
     pub fn write_next(&mut self, net: &Net, row: &mut [Date])
         requires stands { IsStreamOf net.now self.old }
@@ -117,9 +119,9 @@ impl Stream {
         self.last.kept()
     }
 
-    /// The date of the transition so many rows back, 1 being the last: the date of its firing of
-    /// number `number + 1 - behind`, by the least dating of the net that the stream stands for. It
-    /// takes no memory.
+    /// The date of the transition so many rows back, 1 being the last: that of its firing of number
+    /// `number + 1 - behind` by the least dating (chapter 2) of the net that the stream stands for.
+    /// It takes no memory.
     pub fn back(&self, transition: TransitionId, behind: u64) -> Date
         requires transition { transition.index < self.now.last.width }
         requires first { 1 ≤ behind }
