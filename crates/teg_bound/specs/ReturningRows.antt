@@ -1,6 +1,6 @@
 -- When a number and a period are those of the shortest settled form of a net; and, as working definitions, how two streams of rows
 -- tell them: the last rows of the one come again in the other, all moved by one step.
-use Rattle.std.specs.Prelude.{ℕ, ℤ, ◌+◌, ◌<◌, ◌≤◌, ◌≡◌, length}
+use Rattle.std.specs.Prelude.{ℕ, ℤ, ◌+◌, ◌<◌, ◌≤◌, ◌≡◌, length, All}
 use Rattle.dioid.specs.declared.dates.Date.{Date}
 use Rattle.dioid.specs.Dates.{move}
 use Rattle.teg_net.specs.Limits.{greatest_firing_number}
@@ -8,12 +8,12 @@ use Rattle.teg_net.specs.Nets.{NetLists}
 use Rattle.bound_laws.specs.teg_model.Datings.{IsLeastDating}
 use Rattle.bound_laws.specs.settled_laws.SettledForms.{SettledForm, RepeatsAfter, IsSettledFormOf}
 use Rattle.bound_laws.specs.settled_laws.DateDifferences.{between}
-use Rattle.teg_dates.specs.Streams.{LastDates, date_back, rows_kept}
+use Rattle.teg_dates.specs.Streams.{date_back, rows_given, rows_kept}
 use Rattle.teg_bound.specs.declared.made_rows.MadeRows.{MadeRows}
 use Rattle.teg_bound.specs.declared.two_streams.Returned.{Returned}
 use Rattle.teg_bound.specs.declared.two_streams.SettledNumbers.{SettledNumbers}
 use Rattle.teg_bound.specs.MadeRows.{AreMadeOf}
-use Rattle.teg_bound.specs.PeriodicBounds.{HasPlacesAlone, EachReachesEach, IsMostTokens}
+use Rattle.teg_bound.specs.PeriodicBounds.{HasPlacesAlone, EachReachesEach}
 
 -- the number and the period are those of the shortest settled form of the net's least dating
 pub record IsShortestRepetition (net : NetLists) (found : SettledNumbers) : Type 0 where
@@ -31,28 +31,28 @@ pub record IsOnePart (net : NetLists) : Type 0 where
 pub record AreTwoStreams (net : NetLists) (early late : MadeRows) : Type 0 where
   pub early_is : AreMadeOf net early
   pub late_is : AreMadeOf net late
-  pub some : 1 ≤ early.last.number
-  pub before : early.last.number ≤ late.last.number
-  pub few : late.last.number ≤ greatest_firing_number
+  pub some : 1 ≤ rows_given early.stream
+  pub before : rows_given early.stream ≤ rows_given late.stream
+  pub few : rows_given late.stream ≤ greatest_firing_number
 
 -- as many of both, and as many as the one keeps
 pub record AreAbreast (net : NetLists) (early late : MadeRows) : Type 0 where
   pub early_is : AreMadeOf net early
   pub late_is : AreMadeOf net late
-  pub same : late.last.number ≡ early.last.number
-  pub long : early.last.reach ≤ early.last.number
+  pub same : rows_given late.stream ≡ rows_given early.stream
+  pub long : early.stream.last.reach ≤ rows_given early.stream
 
--- the step from the last date of the first transition among the one dates to that among the other
-abbrev pub back_step : LastDates → LastDates → ℤ
-back_step early late = between (date_back early 0 1) (date_back late 0 1)
+-- the step from the last date of the first transition in the one stream to that in the other
+abbrev pub back_step : MadeRows → MadeRows → ℤ
+back_step early late = between (date_back early.stream.last 0 1) (date_back late.stream.last 0 1)
 
--- the step leads from each date of the row so many back among the one dates to that among the other
-abbrev pub IsRowMoved : NetLists → LastDates → LastDates → ℤ → ℕ → Type 0
-IsRowMoved net early late step b = (t : ℕ) → t < length net.transitions → between (date_back early t b) (date_back late t b) ≡ step
+-- the step leads from each date of the row so many back in the one stream to that in the other
+abbrev pub IsRowMoved : NetLists → MadeRows → MadeRows → ℤ → ℕ → Type 0
+IsRowMoved net early late step b = (t : ℕ) → t < length net.transitions → between (date_back early.stream.last t b) (date_back late.stream.last t b) ≡ step
 
 -- and so in all rows that are kept of the one
-abbrev pub AreRowsMoved : NetLists → LastDates → LastDates → ℤ → Type 0
-AreRowsMoved net early late step = (b : ℕ) → 1 ≤ b → b ≤ rows_kept early → IsRowMoved net early late step b
+abbrev pub AreRowsMoved : NetLists → MadeRows → MadeRows → ℤ → Type 0
+AreRowsMoved net early late step = (b : ℕ) → 1 ≤ b → b ≤ rows_kept early.stream.last → IsRowMoved net early late step b
 
 -- the step of the first transition's date of the last number in the period
 abbrev pub shown_step : (ℕ → ℕ → Date) → ℕ → ℕ → ℤ
@@ -71,9 +71,10 @@ RowsComeAgain net most last period = (x : ℕ → ℕ → Date) → IsLeastDatin
 abbrev pub RowsDoNot : NetLists → ℕ → ℕ → ℕ → Type 0
 RowsDoNot net most last period = (x : ℕ → ℕ → Date) → IsLeastDating net x → ComesAgain net x most last period → ⊥
 
--- the last rows come again first after this period, by this step
+-- the last rows, as many as a place may have tokens, come again first after this period, by this step
 pub record IsReturn (net : NetLists) (most : ℕ) (found : Returned) : Type 0 where
-  pub tokens : IsMostTokens net most
+  pub some : 1 ≤ most
+  pub tokens : All (λ p. p.tokens ≤ most) net.places
   pub long : most ≤ found.last
   pub one : 1 ≤ found.period
   pub few : found.last + found.period ≤ greatest_firing_number
@@ -82,8 +83,8 @@ pub record IsReturn (net : NetLists) (most : ℕ) (found : Returned) : Type 0 wh
   pub first : (period : ℕ) → 1 ≤ period → period < found.period → RowsDoNot net most found.last period
 
 -- the last rows come again after no period within their number
-abbrev pub NoneComeAgain : NetLists → LastDates → Type 0
-NoneComeAgain net last = (period : ℕ) → 1 ≤ period → period ≤ last.number → RowsDoNot net last.reach last.number period
+abbrev pub NoneComeAgain : NetLists → MadeRows → Type 0
+NoneComeAgain net rows = (period : ℕ) → 1 ≤ period → period ≤ rows_given rows.stream → RowsDoNot net rows.stream.last.reach (rows_given rows.stream) period
 
 -- rows come again so, as many as there are kept
 abbrev pub IsReturned : NetLists → Returned → Type 0

@@ -4,9 +4,8 @@ ghost use Rattle.std.specs.Prelude.{ℕ, ◌≡◌, ◌+◌, ◌*◌, ◌<◌, �
 ghost use Rattle.periodic_laws.specs.teg_model.DateBounds.{IsDateWithin};
 ghost use Rattle.periodic_laws.specs.settled_laws.DateDifferences.{between};
 ghost use Rattle.teg_check.specs.Ranks.{IsRanking};
-ghost use Rattle.teg_form.specs.StandardForms.{IsStandardFormOf};
 ghost use Rattle.teg_net.specs.Limits.{greatest_firing_number};
-ghost use Rattle.teg_dates.specs.Streams.{rows_kept};
+ghost use Rattle.teg_dates.specs.Streams.{rows_given, rows_kept};
 ghost use Rattle.teg_bound.specs.MadeRows.{AreMadeOf};
 ghost use Rattle.teg_bound.specs.PeriodicBounds.{HasPlacesAlone, EachReachesEach};
 ghost use Rattle.teg_bound.specs.ReturningRows.{AreAbreast, AreRowsMoved, AreTwoStreams, HasFormWithin, IsMovedFrom, IsOnePart, IsReturn, IsReturned, IsRowMoved, IsShortestRepetition, NoneComeAgain, back_step};
@@ -17,7 +16,6 @@ use dioid::Date;
 use periodic_laws::{least_datings_repeat, live_nets_settle};
 use std::alloc::Global;
 use teg_check::Live;
-use teg_form::{Form, standard_form};
 use teg_net::{Net, OutOfMemory, TransitionId};
 
 // Where so many rows have not come again, no further ones are made: a century does not make them.
@@ -57,26 +55,26 @@ fn step_between(early: Date, late: Date) -> i128
 fn step_to(net: &Net, early: &MadeRows, late: &MadeRows) -> i128
     requires streams { AreTwoStreams net.now early.now late.now }
     requires part { IsOnePart net.now }
-    ensures { result ≡ back_step early.now.last late.now.last }
+    ensures { result ≡ back_step early.now late.now }
 {
     // The net keeps its rules.
     net.rules();
     let first = TransitionId { index: 0 };
-    step_between(early.last.back(first, 1), late.last.back(first, 1))
+    step_between(early.stream.back(first, 1), late.stream.back(first, 1))
 }
 
 // Whether the step leads from the row so many back in the one stream to that in the other.
 fn is_row_moved(net: &Net, early: &MadeRows, late: &MadeRows, step: i128, behind: u64) -> bool
     requires streams { AreTwoStreams net.now early.now late.now }
     requires some { 1 ≤ behind }
-    requires kept { behind ≤ rows_kept early.now.last }
-    ensures { Decides result (IsRowMoved net.now early.now.last late.now.last step behind) }
+    requires kept { behind ≤ rows_kept early.now.stream.last }
+    ensures { Decides result (IsRowMoved net.now early.now late.now step behind) }
 {
     for index in 0..net.transitions().len() {
         let id = TransitionId {
             index: index as u32,
         };
-        if step_between(early.last.back(id, behind), late.last.back(id, behind)) != step {
+        if step_between(early.stream.back(id, behind), late.stream.back(id, behind)) != step {
             return false;
         }
     }
@@ -87,10 +85,10 @@ fn is_row_moved(net: &Net, early: &MadeRows, late: &MadeRows, step: i128, behind
 // none, if it does so in all.
 fn first_apart(net: &Net, early: &MadeRows, late: &MadeRows, step: i128) -> Option<u64>
     requires streams { AreTwoStreams net.now early.now late.now }
-    ensures { MatchOption result (AreRowsMoved net.now early.now.last late.now.last step)
-        (λ _. AreRowsMoved net.now early.now.last late.now.last step → ⊥) }
+    ensures { MatchOption result (AreRowsMoved net.now early.now late.now step)
+        (λ _. AreRowsMoved net.now early.now late.now step → ⊥) }
 {
-    for behind in 1..early.last.kept() + 1 {
+    for behind in 1..early.stream.kept() + 1 {
         if !is_row_moved(net, early, late, step, behind) {
             return Some(behind);
         }
@@ -101,10 +99,13 @@ fn first_apart(net: &Net, early: &MadeRows, late: &MadeRows, step: i128) -> Opti
 // Such a row: the one that was apart before, if it is again, as it mostly is, or the first.
 fn apart(net: &Net, early: &MadeRows, late: &MadeRows, step: i128, before: u64) -> Option<u64>
     requires streams { AreTwoStreams net.now early.now late.now }
-    ensures { MatchOption result (AreRowsMoved net.now early.now.last late.now.last step)
-        (λ _. AreRowsMoved net.now early.now.last late.now.last step → ⊥) }
+    ensures { MatchOption result (AreRowsMoved net.now early.now late.now step)
+        (λ _. AreRowsMoved net.now early.now late.now step → ⊥) }
 {
-    if before >= 1 && before <= early.last.kept() && !is_row_moved(net, early, late, step, before) {
+    if before >= 1
+        && before <= early.stream.kept()
+        && !is_row_moved(net, early, late, step, before)
+    {
         return Some(before);
     }
     first_apart(net, early, late, step)
@@ -112,20 +113,19 @@ fn apart(net: &Net, early: &MadeRows, late: &MadeRows, step: i128, before: u64) 
 
 // The period after which the last rows of the one stream first come again in the other, which
 // stands where it does and goes on to twice its number at most.
-fn return_in(net: &Net, form: &Form, early: &MadeRows, late: &mut MadeRows) -> Option<Returned>
-    requires form { IsStandardFormOf net.now form.now }
+fn return_in(net: &Net, early: &MadeRows, late: &mut MadeRows) -> Option<Returned>
     requires streams { AreAbreast net.now early.now late.old }
     requires part { IsOnePart net.now }
-    requires few { 2 * early.now.last.number ≤ greatest_firing_number }
-    ensures found { MatchOption result (NoneComeAgain net.now early.now.last) (IsReturn net.now
-        early.now.last.reach) }
+    requires few { 2 * rows_given early.now.stream ≤ greatest_firing_number }
+    ensures found { MatchOption result (NoneComeAgain net.now early.now) (IsReturn net.now
+        early.now.stream.last.reach) }
     ensures made { AreMadeOf net.now late.new }
-    ensures few { late.new.last.number ≤ 2 * early.now.last.number }
+    ensures few { rows_given late.new.stream ≤ 2 * rows_given early.now.stream }
 {
-    let last = early.last.number();
+    let last = early.stream.number();
     let mut before = 1;
     for period in 1..last + 1 {
-        make_row(net, form, late);
+        make_row(net, late);
         let step = step_to(net, early, late);
         match apart(net, early, late, step, before) {
             Some(behind) => {
@@ -138,21 +138,20 @@ fn return_in(net: &Net, form: &Form, early: &MadeRows, late: &mut MadeRows) -> O
 }
 
 // The last number, the period and the step of rows that come again: there are some within `enough`.
-fn first_return(alloc: Global, net: &Net, live: &Live, form: &Form) -> Result<Returned, OutOfMemory>
+fn first_return(alloc: Global, net: &Net, live: &Live) -> Result<Returned, OutOfMemory>
     ghost enough: { ℕ }
     requires stands { IsRanking net.now live.now }
-    requires form { IsStandardFormOf net.now form.now }
     requires part { IsOnePart net.now }
     requires exists { HasFormWithin net.now enough }
     ensures { IfOk result (IsReturned net.now) }
 {
-    let mut early = no_rows(alloc, net, live, form)?;
-    let mut late = no_rows(alloc, net, live, form)?;
+    let mut early = no_rows(alloc, net, live)?;
+    let mut late = no_rows(alloc, net, live)?;
     let mut last = u64::from(most_tokens(net)) + 8;
     'search: loop {
-        make_rows(net, form, &mut early, last);
-        make_rows(net, form, &mut late, last);
-        match return_in(net, form, &early, &mut late) {
+        make_rows(net, &mut early, last);
+        make_rows(net, &mut late, last);
+        match return_in(net, &early, &mut late) {
             Some(found) => return Ok(found),
             None => {}
         }
@@ -164,26 +163,19 @@ fn first_return(alloc: Global, net: &Net, live: &Live, form: &Form) -> Result<Re
 }
 
 // The least number past which the dates go on so: two streams as far apart as the period tell it.
-fn moved_from(
-    alloc: Global,
-    net: &Net,
-    live: &Live,
-    form: &Form,
-    found: Returned,
-) -> Result<u64, OutOfMemory>
+fn moved_from(alloc: Global, net: &Net, live: &Live, found: Returned) -> Result<u64, OutOfMemory>
     requires stands { IsRanking net.now live.now }
-    requires form { IsStandardFormOf net.now form.now }
     requires part { IsOnePart net.now }
     requires returned { IsReturned net.now found }
     ensures { IfOk result (IsMovedFrom net.now found) }
 {
-    let mut early = no_rows(alloc, net, live, form)?;
-    let mut late = no_rows(alloc, net, live, form)?;
-    make_rows(net, form, &mut late, found.period);
+    let mut early = no_rows(alloc, net, live)?;
+    let mut late = no_rows(alloc, net, live)?;
+    make_rows(net, &mut late, found.period);
     let mut after = 0;
     for number in 1..found.last + 1 {
-        make_row(net, form, &mut early);
-        make_row(net, form, &mut late);
+        make_row(net, &mut early);
+        make_row(net, &mut late);
         if !is_row_moved(net, &early, &late, found.step, 1) {
             after = number;
         }
@@ -195,7 +187,7 @@ fn moved_from(
 /// each transition reaches each (chapter 3, cyclicity), without its dates: for nets that settle
 /// late, as it keeps no rows but the last of two streams, as many of each as a place has tokens, at
 /// most 1,000, in memory of 64 bytes for each of them and of the transitions. For a settling length
-/// l and places of at most m tokens it takes time of order `n^3 + (l + m) (n + p)` for n
+/// l and places of at most m tokens it takes time of order `p log p + (l + m) (n + p)` for n
 /// transitions and p places, and that of the comparisons of these rows, most of which end at the
 /// first row. `OutOfMemory` comes where no memory is found, and past 10^17 rows, which no machine
 /// makes.
@@ -209,9 +201,8 @@ pub fn settled_numbers(alloc: Global, net: &Net, live: &Live) -> Result<SettledN
     least_datings_repeat();
     // The net keeps its rules.
     net.rules();
-    let form = standard_form(alloc, net, live)?;
-    let found = first_return(alloc, net, live, &form)?;
-    let after = moved_from(alloc, net, live, &form, found)?;
+    let found = first_return(alloc, net, live)?;
+    let after = moved_from(alloc, net, live, found)?;
     let period = found.period;
     Ok(SettledNumbers { after, period })
 }

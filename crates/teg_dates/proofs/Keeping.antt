@@ -2,6 +2,7 @@
 use Rattle.std.proofs.Common.{ℕ, ◌+◌, ◌-◌, ◌*◌, ◌<◌, ◌≤◌, ◌≡◌, ◌++◌, List, length, get_or, drop, refl, sym, subst, ap, ◌∙◌, arith, ⊎_elim, get_or-drop, length-append, length-drop, pos}
 use Rattle.std.proofs.lemmas.Bool.{cases_lt}
 use Rattle.std.proofs.lemmas.List.{get_or_append_left, get_or-append_right}
+use Rattle.circular_buffer.specs.Buffer.{keep_last}
 use Rattle.dioid.specs.declared.dates.Date.{Date}
 use Rattle.dioid.specs.declared.dates.Date.TheVariants.{Early, At}
 use Rattle.teg_net.specs.Nets.{NetLists}
@@ -15,7 +16,10 @@ use Rattle.teg_model.proofs.DateFunctions.{Dating}
 use Rattle.teg_dates.specs.declared.order.OrderedPlace.{OrderedPlace}
 use Rattle.teg_dates.specs.Streams.{CanMakeNextRow, IsLeastRow, LastDates, AreLastDates, rows_kept, date_back, last_rows}
 use Rattle.teg_dates.proofs.Cells.{rows_below, rows_more, rows_of_more}
-use Rattle.teg_dates.proofs.MoreRows.{with_row}
+
+-- the last rows with one more: where the room is full, the first row goes
+abbrev pub with_row : LastDates → List Date → LastDates
+with_row last row = record { width = last.width; reach = last.reach; number = last.number + 1; dates = keep_last (last.reach * last.width) (last.dates ++ row) }
 
 -- the dates are those of as many rows as are kept
 pub full_with_row : (last : LastDates) (row : List Date) → AreLastDates last → length row ≡ last.width → length (with_row last row).dates ≡ rows_kept (with_row last row) * last.width

@@ -1,4 +1,3 @@
-pub mod MoreRows
 mod Sorting
 pub mod Ranking
 pub mod Cells

@@ -38,7 +38,7 @@ impl Model for LastRows {
 
 impl LastRows {
     ghost use Rattle.teg_dates.specs.Passes.{HaveNext};
-    ghost use Rattle.teg_dates.specs.Streams.{last_rows};
+    ghost use Rattle.teg_dates.specs.Streams.{last_rows, rows_kept};
 
     // No rows, and room for as many as `reach`.
     pub(crate) fn new(alloc: Global, width: usize, reach: u64) -> Result<LastRows, AllocError>
@@ -62,6 +62,13 @@ impl LastRows {
         ensures few { result ≤ greatest_firing_number }
     {
         self.number
+    }
+
+    // How many rows are kept. It takes no memory.
+    pub(crate) fn kept(&self) -> u64
+        ensures { result ≡ rows_kept self.now }
+    {
+        self.number.min(self.reach)
     }
 
     // Adds a row behind the others. Where the room is full, the first row goes. It takes no memory.

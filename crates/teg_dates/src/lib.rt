@@ -5,11 +5,11 @@
 //! that end at each firing. It stands on [`Rows`], which makes one row after another of the least
 //! dating of any system of a net: a [`Source`] gives the dates of its initial tokens and its
 //! releases, and those of the net itself keep what rows ask ([`nets_keep_bounds`]). A [`Stream`]
-//! gives the rows of the net one after another and keeps only the last of them, and so do
-//! [`FirstRows`], up to number 10,000, in cells of eight bytes. The crate stands on `teg_net`, on
-//! `teg_check` for the ranks, on `teg_form` for the form that a stream is asked with, on
-//! `teg_model` for what a least dating is, on `circular_buffer`, and on `dioid` for dates.
-//! Its examples stand in `library_examples`.
+//! gives the rows of the net one after another and keeps only the last of them, whose dates it
+//! tells, and so do [`FirstRows`], up to number 10,000, in cells of eight bytes, which keep theirs
+//! to themselves. The crate stands on `teg_net`, on `teg_check` for the ranks, on `teg_form` for
+//! the form that a stream can be asked with, on `teg_model` for what a least dating is, on
+//! `circular_buffer`, and on `dioid` for dates. Its examples stand in `library_examples`.
 //!
 //! ## Call it
 //!

@@ -2,18 +2,20 @@
 ghost use Rattle.std.specs.Prelude.{◌≡◌, ◌+◌, ◌<◌, ◌≤◌, length, IfOk};
 ghost use Rattle.teg_net.specs.Limits.{greatest_firing_number};
 ghost use Rattle.teg_net.specs.Circuits.{IsLive};
+ghost use Rattle.teg_check.specs.Ranks.{IsRanking};
 ghost use Rattle.teg_form.specs.StandardForms.{IsStandardFormOf};
-ghost use Rattle.teg_dates.specs.Streams.{HasLeast, IsLeastRow, IsStreamOf, rows_given};
+ghost use Rattle.teg_dates.specs.Streams.{HasLeast, IsLeastRow, IsStreamOf, date_back, rows_given, rows_kept};
 
 use crate::last_rows::LastRows;
 use crate::next::{most_tokens_of, next_row};
 use crate::order::PlaceOrder;
+use crate::past::Past;
 use dioid::Date;
 use std::alloc::Global;
 use std::marker::Model;
-use teg_check::ranks_of;
+use teg_check::{Live, ranks_of};
 use teg_form::Form;
-use teg_net::{Net, OutOfMemory};
+use teg_net::{Net, OutOfMemory, TransitionId};
 
 /// The rows of the least dating of a live net, with its ready dates and its input lists (chapter
 /// 2), one number after another. It keeps the last rows, as many as the greatest number of tokens
@@ -50,7 +52,20 @@ impl Stream {
         ensures exists { IfOk result (λ _. HasLeast net.now) }
     {
         let live = ranks_of(alloc, net)?;
-        let order = PlaceOrder::new(alloc, net, &live)?;
+        Stream::of_live(alloc, net, &live)
+    }
+
+    /// A stream before the first row of the net with these ranks (chapter 2), as
+    /// [`new`](Stream::new) makes it, without a form. `OutOfMemory` comes only where no memory is
+    /// found. It takes time of order `n m + p log p` for n transitions and p places with at most m
+    /// tokens each.
+    pub fn of_live(alloc: Global, net: &Net, live: &Live) -> Result<Stream, OutOfMemory>
+        requires stands { IsRanking net.now live.now }
+        ensures stands { IfOk result (IsStreamOf net.now) }
+        ensures number { IfOk result (λ stream. rows_given stream ≡ 0) }
+        ensures exists { IfOk result (λ _. HasLeast net.now) }
+    {
+        let order = PlaceOrder::new(alloc, net, live)?;
         let reach = most_tokens_of(net) as u64;
         let last = LastRows::new(alloc, net.transitions().len(), reach)?;
         Ok(Stream { order, last })
@@ -77,8 +92,42 @@ impl Stream {
         ensures number { rows_given self.new ≡ rows_given self.old + 1 }
         ensures stands { IsStreamOf net.now self.new }
     {
+        self.write_next(net, row);
+    }
+
+    /// Writes the next row as [`next_row`](Stream::next_row) does, without a form: the dates of the
+    /// firings of number `number + 1` by the least dating of the net (chapter 2). It takes no
+    /// memory, and time of order `n + p` for n transitions and p places.
+    pub fn write_next(&mut self, net: &Net, row: &mut [Date])
+        requires stands { IsStreamOf net.now self.old }
+        requires few { rows_given self.old < greatest_firing_number }
+        requires full { length row.old ≡ length net.now.transitions }
+        ensures row { IsLeastRow net.now (rows_given self.old + 1) row.new }
+        ensures number { rows_given self.new ≡ rows_given self.old + 1 }
+        ensures stands { IsStreamOf net.now self.new }
+    {
         let number = self.last.number() + 1;
         next_row(net, self.order.turns(), &self.last, row, number);
         self.last.push(row);
+    }
+
+    /// How many of the last rows it keeps: all, while they are fewer than the greatest number of
+    /// tokens of a place, and else as many as that, and at least one. It takes no memory.
+    pub fn kept(&self) -> u64
+        ensures { result ≡ rows_kept self.now.last }
+    {
+        self.last.kept()
+    }
+
+    /// The date of the transition so many rows back, 1 being the last: that of its firing of number
+    /// `number + 1 - behind` by the least dating (chapter 2) of the net that the stream stands for.
+    /// It takes no memory.
+    pub fn back(&self, transition: TransitionId, behind: u64) -> Date
+        requires transition { transition.index < self.now.last.width }
+        requires first { 1 ≤ behind }
+        requires last { behind ≤ rows_kept self.now.last }
+        ensures { result ≡ date_back self.now.last transition.index behind }
+    {
+        self.last.back(transition, behind)
     }
 }

@@ -7,8 +7,8 @@ abbrev pub invariant-search : goal.invariant-search
 invariant-search g l = record {
   early_is : AreMadeOf l.net l.early;
   late_is : AreMadeOf l.net l.late;
-  early_in : l.early.last.number ≤ l.last;
-  late_in : l.late.last.number ≤ l.last;
+  early_in : l.early.stream.last.number ≤ l.last;
+  late_in : l.late.stream.last.number ≤ l.last;
   some : 9 ≤ l.last;
   tokens : All (λ p. p.tokens ≤ l.last) l.net.places;
   few : l.last ≤ 200000000000000000;

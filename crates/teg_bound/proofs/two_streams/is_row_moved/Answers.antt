@@ -1,6 +1,9 @@
 use Rattle.std.proofs.Common.{◌<◌, length, ap, arith}
-use Rattle.teg_bound.proofs.TwoStreams.{early_within, late_within}
+use Rattle.teg_bound.proofs.TwoStreams.{early_within, kept_late, late_within}
 use Rattle.teg_bound.proofs.two_streams.is_row_moved.Goals as goal
+
+pub back-requires-in-loop-index-clause-last : goal.back-requires-in-loop-index-clause-last
+back-requires-in-loop-index-clause-last c = kept_late c.args.net.now c.args.early.now c.args.late.now c.requires.streams c.args.behind c.requires.kept
 
 pub step_between-requires-clause-early : goal.step_between-requires-clause-early
 step_between-requires-clause-early c =

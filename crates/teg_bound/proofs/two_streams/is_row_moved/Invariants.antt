@@ -4,4 +4,4 @@ use Rattle.teg_dates.specs.Streams.{date_back}
 use Rattle.teg_bound.proofs.two_streams.is_row_moved.Given as goal
 
 abbrev pub invariant-loop-index : goal.invariant-loop-index
-invariant-loop-index l = (t : ℕ) → t < l.index → between (date_back l.early.last t l.behind) (date_back l.late.last t l.behind) ≡ l.step
+invariant-loop-index l = (t : ℕ) → t < l.index → between (date_back l.early.stream.last t l.behind) (date_back l.late.stream.last t l.behind) ≡ l.step

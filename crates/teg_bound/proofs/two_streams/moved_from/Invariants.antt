@@ -10,8 +10,8 @@ abbrev pub invariant-loop-number : goal.invariant-loop-number
 invariant-loop-number l = record {
   early_is : AreMadeOf l.net l.early;
   late_is : AreMadeOf l.net l.late;
-  number : l.early.last.number + 1 ≡ l.number;
-  apart : l.late.last.number ≡ l.early.last.number + l.found.period;
+  number : l.early.stream.last.number + 1 ≡ l.number;
+  apart : l.late.stream.last.number ≡ l.early.stream.last.number + l.found.period;
   within : l.after < l.number;
   top : l.after ≤ l.found.last;
   moved : (x : ℕ → ℕ → Date) → IsLeastDating l.net x → (t k : ℕ) → t < length l.net.transitions → l.after < k → k < l.number

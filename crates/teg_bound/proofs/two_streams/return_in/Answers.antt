@@ -17,7 +17,7 @@ returns-in-None-clause-found c =
     let two : AreTwoStreams net early late = record {
       early_is = h.early_is;
       late_is = c.make_row.ensures.made;
-      some = omega (arith, h.long, h.early_is.last.reach.some);
+      some = omega (arith, h.long, h.early_is.stream.one);
       before = omega (arith, c.make_row.ensures.next, inv.number);
       few = omega (arith, c.make_row.ensures.next, inv.number, c.loop-period-test.true, c.number-last.ensures.value, c.requires.few);
     } in
@@ -36,12 +36,12 @@ loop-period-preserved c =
     let two : AreTwoStreams net early late = record {
       early_is = h.early_is;
       late_is = c.make_row.ensures.made;
-      some = omega (arith, h.long, h.early_is.last.reach.some);
+      some = omega (arith, h.long, h.early_is.stream.one);
       before = omega (arith, c.make_row.ensures.next, inv.number);
       few = omega (arith, c.make_row.ensures.next, inv.number, c.loop-period-test.true, c.number-last.ensures.value, c.requires.few);
     } in
     let fits : FitsSigned w128 c.step_to-step.result = search rules in
-    let step_is : to_z w128 (of_z w128 c.step_to-step.result) ≡ back_step early.last late.last = simp to_z-of_z c.step_to-step.ensures in
+    let step_is : to_z w128 (of_z w128 c.step_to-step.result) ≡ back_step early late = simp to_z-of_z c.step_to-step.ensures in
     let bad = rw c.in-Some.is at c.apart.ensures in
     record {
       late_is = c.make_row.ensures.made;
@@ -51,7 +51,7 @@ loop-period-preserved c =
           (λ (q : n ≤ p).
           let is : p ≡ n = omega arith in
           rw is (do_not net early late two c.requires.part n (omega (arith, c.make_row.ensures.next, inv.number)) h.long
-          (λ rows. bad (subst (AreRowsMoved net early.last late.last) (sym step_is) rows))))
+          (λ rows. bad (subst (AreRowsMoved net early late) (sym step_is) rows))))
           (cases_lt p n);
     }
 

@@ -8,10 +8,7 @@ first_return-requires c =
     let live = ranking_is_live net c.args.live.now c.requires.stands in
     let ok = c.rules.ensures in (
       c.requires.stands,
-      (
-        c.in_ok-form.ensures.form,
-        (record { alone = c.requires.alone; strong = c.requires.strong }, form_within c.least_datings_repeat.ensures net ok live (c.live_nets_settle.ensures net ok live)),
-      ),
+      (record { alone = c.requires.alone; strong = c.requires.strong }, form_within c.least_datings_repeat.ensures net ok live (c.live_nets_settle.ensures net ok live)),
     )
 
 pub moved_from-requires-clause-part : goal.moved_from-requires-clause-part

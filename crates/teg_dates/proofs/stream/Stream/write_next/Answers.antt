@@ -4,7 +4,7 @@ use Rattle.teg_model.specs.Datings.{listed_releases, system_of}
 use Rattle.teg_dates.specs.Streams.{IsStreamOf}
 use Rattle.teg_dates.proofs.Earliest.{bounds_stay, net_keeps_bounds}
 use Rattle.teg_dates.proofs.Keeping.{next_goes_on}
-use Rattle.teg_dates.proofs.stream.Stream.next_row.Goals as goal
+use Rattle.teg_dates.proofs.stream.Stream.write_next.Goals as goal
 
 pub next_row-requires-clause-bounded : goal.next_row-requires-clause-bounded
 next_row-requires-clause-bounded c =
