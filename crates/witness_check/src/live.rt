@@ -4,6 +4,7 @@ ghost use Rattle.teg_net.specs.Circuits.{IsLive};
 ghost use Rattle.teg_text.specs.Lines.{written};
 ghost use Rattle.witness_check.specs.Liveness.{TellsLive, live_words};
 
+use crate::beginnings::is_just;
 use std::alloc::{AllocError, Global};
 use teg_certificates::{is_ranking, rising_ranks_show_live};
 use teg_net::{Net, OutOfMemory};
@@ -55,5 +56,5 @@ pub fn shows_live(alloc: Global, net: &Net, text: &str) -> Result<bool, OutOfMem
         return Ok(false);
     }
     let lines = told(alloc, net.transitions().len(), net.places().len())?;
-    Ok(lines.as_str() == text)
+    Ok(is_just(text, lines.as_str()))
 }
