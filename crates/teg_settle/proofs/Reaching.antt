@@ -1,14 +1,13 @@
 -- The number of rows by which a search without a limit has ended: the lists of the net tell it.
-use Rattle.std.proofs.Common.{ℕ, ◌+◌, ◌≡◌, arith}
+use Rattle.std.proofs.Common.{ℕ, ◌+◌, ◌<◌, ◌≤◌, arith, ⊎_elim}
+use Rattle.std.proofs.lemmas.Bool.{cases_lt}
 use Rattle.teg_net.specs.Nets.{NetLists}
 use Rattle.teg_net.specs.Circuits.{IsLive}
 use Rattle.periodic_laws.specs.RepeatNumbers.{repeats_past, repeats_in, repeats_by}
 use Rattle.periodic_laws.specs.LinearSystem.{LeastDatingsRepeat}
-use Rattle.teg_settle.specs.declared.releases.Tokens.TheVariants.{Ready}
 use Rattle.teg_settle.specs.declared.releases.Releases.{Releases}
-use Rattle.teg_settle.specs.InitialReleases.{AreWaits, wait_of}
-use Rattle.teg_settle.specs.ComparedRows.{IsReady}
-use Rattle.teg_settle.specs.Endless.{HasFormBy}
+use Rattle.teg_settle.specs.ComparedRows.{IsReady, IsRefuted}
+use Rattle.teg_settle.specs.Steps.{AreOwnReleases}
 use Rattle.teg_settle.proofs.Leasts.{least, least_is}
 use Rattle.teg_settle.proofs.Owning.{own_least}
 
@@ -16,17 +15,13 @@ use Rattle.teg_settle.proofs.Owning.{own_least}
 abbrev pub enough_rows : NetLists → ℕ → ℕ
 enough_rows net most = repeats_past net + most + repeats_in net + repeats_in net
 
-pub has_form : LeastDatingsRepeat → (net : NetLists) → IsLive net → (r : Releases) → r.tokens ≡ Ready → AreWaits net (wait_of net) r.waits.items
-    → (most : ℕ) → IsReady net r most → HasFormBy net r most (enough_rows net most)
-has_form law net live r own waits most h =
-    record {
-      dating = least net r most h;
-      least = least_is net r most h;
-      form = record {
-        after = repeats_past net;
-        period = repeats_in net;
-        step = repeats_by net;
-        repeats = law net h.is_net live (least net r most h) (own_least net r own waits (least net r most h) (least_is net r most h));
-        fits = omega arith;
-      };
-    }
+-- rows that show no form are fewer
+pub fewer_unseen : LeastDatingsRepeat → (net : NetLists) → IsLive net → (r : Releases) → AreOwnReleases net r → (most : ℕ) → IsReady net r most
+    → (count : ℕ) → ((period : ℕ) → IsRefuted net r most count period) → count < enough_rows net most
+fewer_unseen law net live r own most h count none =
+    let is = least_is net r most h in
+    let repeats = law net h.is_net live (least net r most h) (own_least net r own.tokens own.waits (least net r most h) is) in
+    ⊎_elim
+    (λ (l : count < enough_rows net most). l)
+    (λ (l : enough_rows net most ≤ count). absurd (none (repeats_in net) (least net r most h) is (repeats_past net) (repeats_by net) repeats (omega arith)))
+    (cases_lt count (enough_rows net most))

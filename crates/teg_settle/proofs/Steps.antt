@@ -7,7 +7,6 @@ use Rattle.periodic_laws.proofs.teg_model_proofs.OfNet.{only_least}
 use Rattle.periodic_laws.proofs.teg_model_proofs.DateFunctions.{Dating}
 use Rattle.periodic_laws.proofs.settled_laws_proofs.Everywhere.{same_repeats}
 use Rattle.periodic_laws.specs.LinearSystem.{LeastDatingsRepeat}
-use Rattle.periodic_laws.specs.RepeatNumbers.{repeats_past, repeats_in, repeats_by}
 use Rattle.teg_dates.specs.DateTables.{TableDates}
 use Rattle.teg_dates.specs.KeptRows.{IsRows, AreLeastRows}
 use Rattle.teg_settle.specs.declared.releases.Releases.{Releases}
@@ -16,6 +15,7 @@ use Rattle.teg_settle.specs.ComparedRows.{AreRowsOf, IsReady, IsRefuted, IsSeen,
 use Rattle.teg_settle.specs.Steps.{AreOwnReleases, ShowsForm, ShowsNoForm, showing_rows}
 use Rattle.teg_settle.proofs.Leasts.{least, least_is}
 use Rattle.teg_settle.proofs.Owning.{own_least, own_system}
+use Rattle.teg_settle.proofs.Reaching.{fewer_unseen}
 
 some_of : {A : Type 0} (o : Option A) (N : Type 0) (S : A → Type 0) → MatchOption o N S → (N → ⊥) → IsSome o
 some_of None N S m never = absurd (never m)
@@ -63,5 +63,4 @@ module _ (net : NetLists) (r : Releases) (own : AreOwnReleases net r) where
         → MatchOption o ((period : ℕ) → IsRefuted net r most rows.count period) (IsSeen net r rows) → showing_rows net ≤ rows.count → IsSome o
     enough_show law live rows o few found enough =
         some_of o ((period : ℕ) → IsRefuted net r most rows.count period) (IsSeen net r rows) found
-        (λ none. none (repeats_in net) z (least_is net r most h) (repeats_past net) (repeats_by net)
-        (law net h.is_net live z (own_least net r own.tokens own.waits z (least_is net r most h))) (omega arith))
+        (λ none. let fewer = fewer_unseen law net live r own most h rows.count none in omega (arith, fewer))

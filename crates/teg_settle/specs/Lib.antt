@@ -14,7 +14,6 @@ pub mod Reached
 pub mod Spans
 pub mod Spread
 pub mod LeastDates
-pub mod Endless
 pub mod Steps
 pub mod SlopesOfNets
 pub mod WalkTimes

@@ -6,7 +6,7 @@ use Rattle.teg_settle.specs.declared.releases.Releases.{Releases}
 use Rattle.teg_settle.specs.declared.witness.Witness.{Witness}
 use Rattle.teg_settle.specs.declared.witness.Witness.TheVariants.{Fall, Firing, Release}
 use Rattle.teg_settle.specs.Spans.{AreSpans}
-use Rattle.teg_settle.specs.ComparedRows.{IsRisingPlace, IsMovedPast, AreReleasedAlike, AreComparedRows}
+use Rattle.teg_settle.specs.ComparedRows.{IsRisingPlace, IsMovedPast, AreReleasedAlike}
 
 -- a period that is tested on rows of dates and on releases, past a number
 pub record TestedPeriod : Type 0 where
@@ -20,9 +20,8 @@ pub record TestedPeriod : Type 0 where
 abbrev pub tested_period : NetLists → Releases → TableDates → ℕ → ℕ → TestedPeriod
 tested_period net r rows period after = record { net = net; releases = r; rows = rows; period = period; after = after }
 
--- the rows have room for the period, past the number too, and the releases tell from where on lists go on evenly
+-- the rows have room for the period past the number, and the releases tell from where on lists go on evenly
 pub record IsTestable (net : NetLists) (r : Releases) (rows : TableDates) (period after : ℕ) : Type 0 where
-  pub window : AreComparedRows net rows period
   pub room : after + period ≤ rows.count
   pub spans : AreSpans net r.spans.items
 

@@ -1,7 +1,6 @@
 //! What a search is asked for: the shortest form of a live net with these releases.
-ghost use Rattle.std.specs.Prelude.{◌≤◌, All};
+ghost use Rattle.std.specs.Prelude.{◌≤◌};
 ghost use Rattle.teg_check.specs.Ranks.{IsRanking};
-ghost use Rattle.teg_net.specs.Nets.{IsNet};
 ghost use Rattle.teg_settle.specs.InitialReleases.{OnlyInputsWait};
 ghost use Rattle.teg_settle.specs.Spans.{AreSpans};
 ghost use Rattle.teg_settle.specs.ComparedRows.{IsReady};
@@ -20,21 +19,8 @@ pub(crate) struct Asked<'a> {
     pub(crate) most: u64,
 }
 
-// The greatest number of tokens in a place, at least 1.
-fn most_tokens(net: &Net) -> u64
-    ensures some { 1 ≤ result }
-    ensures few { result ≤ 1000 }
-    ensures most { All (λ p. p.tokens ≤ result) net.now.places }
-    ensures rules { IsNet net.now }
-{
-    let mut most = 1;
-    for place in net.places() {
-        most = most.max(u64::from(place.tokens));
-    }
-    most
-}
-
-// The same number of a live net: with it the net and releases of its inputs are ready for a search.
+// The greatest number of tokens in a place of a live net, at least 1: with it the net and releases
+// of its inputs are ready for a search.
 pub(crate) fn ready_tokens(net: &Net, _live: &Live, releases: &Releases) -> u64
     requires stands { IsRanking net.now _live.now }
     requires waits { OnlyInputsWait net.now releases.now.waits.items }
@@ -42,5 +28,9 @@ pub(crate) fn ready_tokens(net: &Net, _live: &Live, releases: &Releases) -> u64
     ensures ready { IsReady net.now releases.now result }
     ensures few { result ≤ 1000 }
 {
-    most_tokens(net)
+    let mut most = 1;
+    for place in net.places() {
+        most = most.max(u64::from(place.tokens));
+    }
+    most
 }

@@ -1,16 +1,13 @@
 //! The search for the settled form without a limit.
-ghost use Rattle.std.specs.Prelude.{◌≡◌, ℕ, IfOk};
+ghost use Rattle.std.specs.Prelude.{IfOk};
 ghost use Rattle.periodic_laws.specs.settled_laws.SettledForms.{IsSettledFormOf};
 ghost use Rattle.teg_check.specs.Ranks.{IsRanking};
-ghost use Rattle.teg_settle.specs.Asked.{IsAsked};
-ghost use Rattle.teg_settle.specs.Endless.{HasFormBy};
-ghost use Rattle.teg_settle.specs.InitialReleases.{AreWaits, wait_of};
 ghost use Rattle.teg_settle.specs.ShortestForms.{IsFound};
 ghost use Rattle.teg_settle.specs.SlopesOfNets.{HasSlopes};
-ghost use Rattle.teg_settle.specs.Spans.{AreSpans};
+ghost use Rattle.teg_settle.specs.Steps.{AreOwnReleases};
 
 use crate::asked::{Asked, ready_tokens};
-use crate::releases::{Releases, Tokens};
+use crate::releases::Releases;
 use crate::search::{Found, MOST_ROWS, dates_of, form_of, grow, seen};
 use crate::settled::Settled;
 use crate::shown::SettledDates;
@@ -20,38 +17,12 @@ use teg_check::Live;
 use teg_dates::{PlaceOrder, Rows};
 use teg_net::{Net, OutOfMemory};
 
-// Rows that show the shortest form, where a form is known to be: they are doubled until they show
-// one.
-fn endless(alloc: Global, asked: &Asked<'_>) -> Result<Found, OutOfMemory>
-    ghost enough: { ℕ }
-    requires asked { IsAsked asked.now.net.now asked.now.live.now asked.now.releases.now
-        asked.now.most }
-    requires exists { HasFormBy asked.now.net.now asked.now.releases.now asked.now.most enough }
-    ensures { IfOk result (IsFound asked.now.net.now asked.now.releases.now) }
-{
-    let order = PlaceOrder::new(alloc, asked.net, asked.live)?;
-    let mut rows = Rows::new(alloc, asked.net);
-    let mut stage = asked.most + 8;
-    'search: loop {
-        rows = grow(asked, &order, rows, stage)?;
-        match seen(asked, &rows) {
-            Some(form) => return Ok(Found { rows, form }),
-            None => {}
-        }
-        if stage > MOST_ROWS {
-            return Err(OutOfMemory);
-        }
-        stage = 2 * stage;
-    }
-}
-
-// Rows that show the shortest form of the net's least dating, which every live net has.
+// Rows that show the shortest form of the net's least dating, which every live net has: they are
+// doubled until they show it.
 fn found(alloc: Global, net: &Net, live: &Live, releases: &Releases) -> Result<Found, OutOfMemory>
     requires stands { IsRanking net.now live.now }
-    requires tokens { releases.now.tokens ≡ Tokens.Ready }
-    requires waits { AreWaits net.now (wait_of net.now) releases.now.waits.items }
-    requires spans { AreSpans net.now releases.now.spans.items }
-    ensures found { IfOk result (IsFound net.now releases.now) }
+    requires own { AreOwnReleases net.now releases.now }
+    ensures { IfOk result (IsFound net.now releases.now) }
 {
     least_datings_repeat();
     let most = ready_tokens(net, live, releases);
@@ -61,7 +32,20 @@ fn found(alloc: Global, net: &Net, live: &Live, releases: &Releases) -> Result<F
         releases,
         most,
     };
-    endless(alloc, &asked)
+    let order = PlaceOrder::new(alloc, net, live)?;
+    let mut rows = Rows::new(alloc, net);
+    let mut stage = most + 8;
+    'search: loop {
+        rows = grow(&asked, &order, rows, stage)?;
+        match seen(&asked, &rows) {
+            Some(form) => return Ok(Found { rows, form }),
+            None => {}
+        }
+        if stage > MOST_ROWS {
+            return Err(OutOfMemory);
+        }
+        stage = 2 * stage;
+    }
 }
 
 /// The shortest settled form of the least dates of a live net, with its ready dates and its input

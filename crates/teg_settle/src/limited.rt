@@ -1,19 +1,17 @@
 //! The settled form of the least dating of a net, and that of the times of walks from an input.
-ghost use Rattle.std.specs.Prelude.{◌+◌, ◌<◌, ◌≤◌, IfErr, IfOk, length, slice_index};
+ghost use Rattle.std.specs.Prelude.{◌+◌, ◌≤◌, IfErr, IfOk};
 ghost use Rattle.periodic_laws.specs.settled_laws.SettledForms.{IsSettledFormOf, NetSettlesPast, settled_length};
 ghost use Rattle.teg_check.specs.Ranks.{IsRanking};
 ghost use Rattle.teg_net.specs.Nets.{IsInput};
-ghost use Rattle.teg_net.specs.Circuits.{IsLive};
 ghost use Rattle.teg_settle.specs.Asked.{IsAsked};
-ghost use Rattle.teg_settle.specs.Alone.{AloneSettlesPast, IsAloneForm};
 ghost use Rattle.teg_settle.specs.LimitRefusals.{IsRightSettleRefusal, greatest_limit};
 ghost use Rattle.teg_settle.specs.ShortestForms.{IsFound};
 ghost use Rattle.teg_settle.specs.SlopesOfNets.{HasSlopes};
 ghost use Rattle.teg_settle.specs.Transfers.{IsTransferOf, TransferSettlesPast};
-ghost use Rattle.teg_settle.specs.ComparedRows.{IsLeastForm, LeastSettlesPast};
+ghost use Rattle.teg_settle.specs.ComparedRows.{LeastSettlesPast};
 
 use crate::asked::{Asked, ready_tokens};
-use crate::reached::{Part, part_from};
+use crate::reached::part_from;
 use crate::refusals::SettleRefusal;
 use crate::releases::Releases;
 use crate::search::{Found, dates_of, form_of, search};
@@ -49,34 +47,6 @@ fn found_within(alloc: Global, asked: &Asked<'_>, limit: u32) -> Result<Found, S
     }
 }
 
-// The form that they show.
-fn within(alloc: Global, asked: &Asked<'_>, limit: u32) -> Result<Settled, SettleRefusal>
-    requires asked { IsAsked asked.now.net.now asked.now.live.now asked.now.releases.now
-        asked.now.most }
-    requires few { limit ≤ greatest_limit }
-    ensures form { IfOk result (IsLeastForm asked.now.net.now asked.now.releases.now) }
-    ensures within { IfOk result (λ form. settled_length form ≤ limit) }
-    ensures too_long { IfErr result (IsRightSettleRefusal (LeastSettlesPast asked.now.net.now
-        asked.now.releases.now limit) limit) }
-{
-    let found = found_within(alloc, asked, limit)?;
-    Ok(form_of(alloc, asked.net, asked.releases, &found)?)
-}
-
-// The same form by its rows.
-fn dates_within(alloc: Global, asked: &Asked<'_>, limit: u32) -> Result<SettledDates, SettleRefusal>
-    requires asked { IsAsked asked.now.net.now asked.now.live.now asked.now.releases.now
-        asked.now.most }
-    requires few { limit ≤ greatest_limit }
-    ensures form { IfOk result (IsLeastForm asked.now.net.now asked.now.releases.now) }
-    ensures within { IfOk result (λ form. settled_length form ≤ limit) }
-    ensures too_long { IfErr result (IsRightSettleRefusal (LeastSettlesPast asked.now.net.now
-        asked.now.releases.now limit) limit) }
-{
-    let found = found_within(alloc, asked, limit)?;
-    Ok(dates_of(alloc, asked.net, asked.releases, found)?)
-}
-
 /// The shortest settled form of the least dates of a live net, with its ready dates and its input
 /// lists (chapter 3, cyclicity): its number and its period are both least, and its length, number
 /// plus period, is the settling length. `limit` is at most 200,000, and `TooLong` comes exactly
@@ -107,7 +77,8 @@ pub fn settle_within(
         releases: &releases,
         most,
     };
-    within(alloc, &asked, limit)
+    let found = found_within(alloc, &asked, limit)?;
+    Ok(form_of(alloc, net, &releases, &found)?)
 }
 
 /// The form of [`settle_within`], for callers that ask for some of its dates: it keeps the rows of
@@ -132,58 +103,8 @@ pub fn settle_dates_within(
         releases: &releases,
         most,
     };
-    dates_within(alloc, &asked, limit)
-}
-
-// The same form of a live net without initial tokens in which this input alone is released.
-fn settle_alone(
-    alloc: Global,
-    net: &Net,
-    input: TransitionId,
-    limit: u32,
-) -> Result<Settled, SettleRefusal>
-    requires live { IsLive net.now }
-    requires input { IsInput net.now input.index }
-    requires few { limit ≤ greatest_limit }
-    ensures form { IfOk result (IsAloneForm net.now input.index) }
-    ensures within { IfOk result (λ form. settled_length form ≤ limit) }
-    ensures too_long { IfErr result (IsRightSettleRefusal (AloneSettlesPast net.now input.index
-        limit)
-        limit) }
-{
-    let live = ranks_of(alloc, net)?;
-    let releases = Releases::of_input(alloc, net, input)?;
-    let most = ready_tokens(net, &live, &releases);
-    let asked = Asked {
-        net,
-        live: &live,
-        releases: &releases,
-        most,
-    };
-    within(alloc, &asked, limit)
-}
-
-// The same form of the part of a net, by the new number of an input.
-fn settle_part(
-    alloc: Global,
-    part: &Part,
-    input: TransitionId,
-    limit: u32,
-) -> Result<Settled, SettleRefusal>
-    requires within { input.index < length part.now.new.items }
-    requires live { IsLive part.now.net }
-    requires input { IsInput part.now.net (slice_index part.now.new.items input.index) }
-    requires few { limit ≤ greatest_limit }
-    ensures form { IfOk result (IsAloneForm part.now.net
-        (slice_index part.now.new.items input.index)) }
-    ensures within { IfOk result (λ form. settled_length form ≤ limit) }
-    ensures too_long { IfErr result (IsRightSettleRefusal (AloneSettlesPast part.now.net
-        (slice_index part.now.new.items input.index) limit) limit) }
-{
-    let own = TransitionId {
-        index: part.new[input.index as usize],
-    };
-    settle_alone(alloc, &part.net, own, limit)
+    let found = found_within(alloc, &asked, limit)?;
+    Ok(dates_of(alloc, net, &releases, found)?)
 }
 
 /// The shortest settled form of the greatest times of walks from the first firing of this input to
@@ -210,8 +131,19 @@ pub fn transfer(
         limit) }
 {
     let part = part_from(alloc, net, input)?;
-    match settle_part(alloc, &part, input, limit) {
-        Ok(form) => Ok(form.spread(alloc, &part.marks, &part.new)?),
-        Err(refusal) => Err(refusal),
-    }
+    let own = TransitionId {
+        index: part.new[input.index as usize],
+    };
+    let live = ranks_of(alloc, &part.net)?;
+    let releases = Releases::of_input(alloc, &part.net, own)?;
+    let most = ready_tokens(&part.net, &live, &releases);
+    let asked = Asked {
+        net: &part.net,
+        live: &live,
+        releases: &releases,
+        most,
+    };
+    let found = found_within(alloc, &asked, limit)?;
+    let form = form_of(alloc, &part.net, &releases, &found)?;
+    Ok(form.spread(alloc, &part.marks, &part.new)?)
 }

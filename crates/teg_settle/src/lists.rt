@@ -119,11 +119,11 @@ fn goes_on_for(net: &Net, list: usize, span: Span, count: u64) -> bool
     true
 }
 
-// The span with the least `every` by which the dates past its number go on.
-fn with_least_every(net: &Net, list: usize, span: Span) -> Span
-    requires { IsSpan (date_of_list net.now list) span }
+// The same span with the least `every` by which the dates past its number go on.
+fn with_least_every(net: &Net, list: usize) -> Span
     ensures { IsSpan (date_of_list net.now list) result }
 {
+    let span = span_of_list(net, list);
     for every in 1..span.every {
         if span.every % every == 0 {
             let gap = span.gap * every / span.every;
@@ -137,25 +137,16 @@ fn with_least_every(net: &Net, list: usize, span: Span) -> Span
     span
 }
 
-// The span with the least number past which the dates go on by it.
-fn from_least_number(net: &Net, list: usize, span: Span) -> Span
-    requires { IsSpan (date_of_list net.now list) span }
-    ensures { IsSpan (date_of_list net.now list) result }
-{
-    let mut span = span;
-    while span.after > 0 && goes_on(net, list, span.after, span) {
-        span.after -= 1;
-    }
-    span
-}
-
 // The span of the list of this number: the least by which its dates go on, from the least number
 // on.
 pub(crate) fn least_span(net: &Net, list: usize) -> Span
     ensures { IsSpan (date_of_list net.now list) result }
 {
-    let given = span_of_list(net, list);
-    from_least_number(net, list, with_least_every(net, list, given))
+    let mut span = with_least_every(net, list);
+    while span.after > 0 && goes_on(net, list, span.after, span) {
+        span.after -= 1;
+    }
+    span
 }
 
 // The same of each list.

@@ -3,7 +3,7 @@
 ghost use Rattle.std.specs.Prelude.{◌≡◌, ◌<◌, ◌≤◌, length, All, IfOk, IsTrue};
 ghost use Rattle.teg_net.specs.Limits.{most_transitions};
 ghost use Rattle.teg_net.specs.Nets.{IsInput, IsNet};
-ghost use Rattle.teg_settle.specs.Reached.{IsReachClosed, AreThose, IsNumbering, IsPartFrom, ReachLeadsOn, begins_marked, is_marked, places_from, renumbered};
+ghost use Rattle.teg_settle.specs.Reached.{IsReachClosed, AreThose, IsNumbering, IsPartFrom, begins_marked, is_marked, places_from, renumbered};
 
 use std::alloc::{AllocError, Global};
 use teg_net::{DateList, Name, Net, OutOfMemory, Place, Transition, TransitionId};
@@ -71,18 +71,8 @@ fn are_closed(net: &Net, input: TransitionId, marks: &[bool]) -> bool
     is_marked(marks, input)
 }
 
-// Marks of all transitions, which are closed.
-fn all_marks(alloc: Global, net: &Net, input: TransitionId) -> Result<Vec<bool>, AllocError>
-    requires { input.index < length net.now.transitions }
-    ensures count { IfOk result (λ marks. length marks.items ≡ length net.now.transitions) }
-    ensures closed { IfOk result (λ marks. IsReachClosed net.now input.index marks.items) }
-{
-    let marks = vec![in alloc; true; net.transitions().len()]?;
-    Ok(marks)
-}
-
 // Marks of the transitions that walks from the input reach: each pass marks one more, or they are
-// closed.
+// closed, as marks of all transitions are.
 fn marks_from(alloc: Global, net: &Net, input: TransitionId) -> Result<Vec<bool>, AllocError>
     requires { input.index < length net.now.transitions }
     ensures count { IfOk result (λ marks. length marks.items ≡ length net.now.transitions) }
@@ -97,7 +87,8 @@ fn marks_from(alloc: Global, net: &Net, input: TransitionId) -> Result<Vec<bool>
         }
         mark_on(net, &mut marks);
     }
-    all_marks(alloc, net, input)
+    let all = vec![in alloc; true; count]?;
+    Ok(all)
 }
 
 // The same name once more.
@@ -196,22 +187,6 @@ fn places_from(
     Ok(kept)
 }
 
-// The marked transitions as a net, with the places between them.
-fn net_of(alloc: Global, net: &Net, marks: &[bool], numbers: &Numbers) -> Result<Net, AllocError>
-    requires numbers { IsNumbering marks.now (length net.now.transitions) numbers.now.old.items
-        numbers.now.new.items }
-    requires leads_on { ReachLeadsOn net.now marks.now }
-    requires some { 1 ≤ length numbers.now.old.items }
-    ensures transitions { IfOk result (λ part. AreThose net.now.transitions numbers.now.old.items
-        part.transitions) }
-    ensures places { IfOk result (λ part. part.places ≡ places_from marks.now numbers.now.new.items
-        net.now.places) }
-{
-    let transitions = those_of(alloc, net.transitions(), &numbers.old)?;
-    let places = places_from(alloc, net, marks, &numbers.new)?;
-    Ok(Net::new(transitions, places, Vec::new(alloc)))
-}
-
 // The part of the net that the walks from the input reach: the transitions where such a walk ends,
 // and the places that begin there. It takes time of order `n p` at most for n transitions and p
 // places.
@@ -223,9 +198,10 @@ pub(crate) fn part_from(alloc: Global, net: &Net, input: TransitionId) -> Result
     net.rules();
     let marks = marks_from(alloc, net, input)?;
     let numbers = numbers_of(alloc, &marks)?;
-    let own = net_of(alloc, net, &marks, &numbers)?;
+    let transitions = those_of(alloc, net.transitions(), &numbers.old)?;
+    let places = places_from(alloc, net, &marks, &numbers.new)?;
     Ok(Part {
-        net: own,
+        net: Net::new(transitions, places, Vec::new(alloc)),
         marks,
         new: numbers.new,
     })

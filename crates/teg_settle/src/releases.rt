@@ -2,10 +2,11 @@
 //! input lists, or one input alone.
 ghost use Rattle.std.specs.Prelude.{◌≡◌, ◌≤◌, ◌^◌, IfOk};
 ghost use Rattle.teg_net.specs.Limits.{greatest_firing_number};
-ghost use Rattle.teg_net.specs.Nets.{IsNet};
 ghost use Rattle.periodic_laws.specs.teg_model.DateBounds.{IsDateWithin};
-ghost use Rattle.teg_settle.specs.InitialReleases.{AreWaits, list_number, release_by, wait_by_role, wait_from, wait_in, wait_of};
+ghost use Rattle.teg_settle.specs.Alone.{IsReleasedAlone};
+ghost use Rattle.teg_settle.specs.InitialReleases.{list_number, release_by, wait_by_role, wait_in};
 ghost use Rattle.teg_settle.specs.Spans.{AreSpans, IsSpan};
+ghost use Rattle.teg_settle.specs.Steps.{AreOwnReleases};
 
 use crate::lists::{Span, date_of_list, list_number, spans_of};
 use dioid::Date;
@@ -63,10 +64,7 @@ fn wait_of(net: &Net, transition: TransitionId, role: Role) -> Wait
 impl Releases {
     // Each initial token from its ready date on, and each input by its list.
     pub(crate) fn of_net(alloc: Global, net: &Net) -> Result<Releases, AllocError>
-        ensures tokens { IfOk result (λ r. r.tokens ≡ Tokens.Ready) }
-        ensures waits { IfOk result (λ r. AreWaits net.now (wait_of net.now) r.waits.items) }
-        ensures spans { IfOk result (λ r. AreSpans net.now r.spans.items) }
-        ensures rules { IsNet net.now }
+        ensures { IfOk result (AreOwnReleases net.now) }
     {
         let mut waits = Vec::new(alloc);
         for (index, transition) in net.transitions().iter().enumerate() {
@@ -90,11 +88,7 @@ impl Releases {
         net: &Net,
         input: TransitionId,
     ) -> Result<Releases, AllocError>
-        ensures tokens { IfOk result (λ r. r.tokens ≡ Tokens.Absent) }
-        ensures waits { IfOk result (λ r. AreWaits net.now (wait_from net.now input.index)
-            r.waits.items) }
-        ensures spans { IfOk result (λ r. AreSpans net.now r.spans.items) }
-        ensures rules { IsNet net.now }
+        ensures { IfOk result (IsReleasedAlone net.now input.index) }
     {
         let none = net.inputs().len();
         let mut waits = Vec::new(alloc);

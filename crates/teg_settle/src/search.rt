@@ -10,7 +10,7 @@ use crate::asked::Asked;
 use crate::releases::{Releases, Repetition};
 use crate::settled::Settled;
 use crate::shown::SettledDates;
-use crate::window::{FIRST_PAIRS, are_released_alike, is_rising, moved_past};
+use crate::window::{Compared, FIRST_PAIRS};
 use crate::witness::{PeriodTest, Witnesses};
 use std::alloc::Global;
 use teg_dates::{PlaceOrder, Rows};
@@ -42,19 +42,24 @@ fn seen_from(asked: &Asked<'_>, rows: &Rows, period: u64) -> Option<u64>
         rows.now.count period) (IsSeenFrom asked.now.net.now asked.now.releases.now rows.now
         asked.now.most period) }
 {
-    if !is_rising(asked.net, rows, period) {
+    let compared = Compared {
+        net: asked.net,
+        rows,
+        period,
+    };
+    if !compared.is_rising() {
         return None;
     }
     let latest = rows.count() - asked.most - period - period;
     let near = latest.max((rows.count() - period).saturating_sub(FIRST_PAIRS));
-    let first = moved_past(asked.net, rows, period, near);
+    let first = compared.moved_past(near);
     if first > near {
         return None;
     }
-    if !are_released_alike(asked.net, asked.releases, rows, period, latest) {
+    if !compared.are_released_alike(asked.releases, latest) {
         return None;
     }
-    let after = moved_past(asked.net, rows, period, 0);
+    let after = compared.moved_past(0);
     if after > latest { None } else { Some(after) }
 }
 
@@ -72,7 +77,12 @@ fn tried(
         asked.now.most rows.now.count period) }
 {
     let latest = rows.count() - asked.most - period - period;
-    let test = PeriodTest::new(asked.net, asked.releases, rows, period, latest);
+    let compared = Compared {
+        net: asked.net,
+        rows,
+        period,
+    };
+    let test = PeriodTest::new(compared, asked.releases, latest);
     match witnesses.against(&test) {
         Some(more) => return Err(more),
         None => {}

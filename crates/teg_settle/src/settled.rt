@@ -1,10 +1,9 @@
 //! A settled form in memory.
-ghost use Rattle.std.specs.Prelude.{ℕ, ◌≡◌, ◌<◌, ◌≤◌, ◌+◌, ◌-◌, ◌*◌, ◌/◌, ◌+ℤ◌, ◌*ℤ◌, FitsSigned, IfOk, OnOk, IsTrue, pos, length, map, slice_index, slice_index_or, [], if◌then◌else◌};
-ghost use Rattle.std.specs.Int.{w128};
+ghost use Rattle.std.specs.Prelude.{ℕ, ◌≡◌, ◌<◌, ◌≤◌, ◌+◌, ◌-◌, ◌*◌, ◌/◌, ◌+ℤ◌, ◌*ℤ◌, IfOk, OnOk, IsTrue, length, map, slice_index, slice_index_or, [], if◌then◌else◌};
 ghost use Rattle.teg_net.specs.Limits.{greatest_firing_number, most_transitions};
 ghost use Rattle.dioid.specs.declared.dates.Date.{Date};
 ghost use Rattle.periodic_laws.specs.settled_laws.SettledForms.{row_of, step_of_form, settled_date};
-ghost use Rattle.teg_settle.specs.Copies.{AreShownDates, IsFormOf};
+ghost use Rattle.teg_settle.specs.Copies.{AreShownDates, IsFormOf, IsTableTo};
 ghost use Rattle.teg_settle.specs.KeptForms.{IsFormKept};
 ghost use Rattle.teg_settle.specs.Reached.{is_marked};
 ghost use Rattle.teg_settle.specs.Spread.{IsSpreadOut};
@@ -13,7 +12,7 @@ ghost use Rattle.teg_settle.specs.ComparedRows.{IsToldBy};
 use crate::back::{back_from, moved};
 use crate::reached::is_marked;
 use crate::releases::Repetition;
-use crate::window::steps_of;
+use crate::window::Compared;
 use dioid::Date;
 use std::alloc::{AllocError, Global};
 use std::marker::Model;
@@ -87,14 +86,10 @@ fn add_dates(
 
 // The same of each transition.
 fn add_all(table: &mut [Vec<Date>], rows: &Rows, shown: u64, count: u64) -> Result<(), AllocError>
-    requires width { length table.old ≡ rows.now.width }
+    requires table { IsTableTo rows.now shown table.old }
     requires fewer { shown ≤ count }
     requires few { count ≤ rows.now.count }
-    requires shown { (t : ℕ) → t < rows.now.width
-        → AreShownDates rows.now t shown (slice_index_or (map (λ r. r.items) table.old) t []) }
-    ensures width { OnOk result (length table.new ≡ rows.now.width) }
-    ensures shown { OnOk result ((t : ℕ) → t < rows.now.width
-        → AreShownDates rows.now t count (slice_index_or (map (λ r. r.items) table.new) t [])) }
+    ensures { OnOk result (IsTableTo rows.now count table.new) }
 {
     // The rows keep their limits.
     let _count = rows.count();
@@ -108,18 +103,23 @@ fn add_all(table: &mut [Vec<Date>], rows: &Rows, shown: u64, count: u64) -> Resu
 }
 
 // The first `count` dates of each transition.
-fn table_of(alloc: Global, net: &Net, rows: &Rows, count: u64) -> Result<Vec<Vec<Date>>, AllocError>
-    requires width { rows.now.width ≡ length net.now.transitions }
-    requires few { count ≤ rows.now.count }
-    ensures count { IfOk result (λ table. length table.items ≡ length net.now.transitions) }
-    ensures rows { IfOk result (λ table. (t : ℕ) → t < length net.now.transitions
-        → AreShownDates rows.now t count (slice_index_or (map (λ r. r.items) table.items) t [])) }
+fn table_of(
+    alloc: Global,
+    compared: &Compared<'_>,
+    count: u64,
+) -> Result<Vec<Vec<Date>>, AllocError>
+    requires few { count ≤ compared.now.rows.now.count }
+    ensures count { IfOk result (λ table. length table.items
+        ≡ length compared.now.net.now.transitions) }
+    ensures rows { IfOk result (λ table. (t : ℕ) → t < length compared.now.net.now.transitions
+        → AreShownDates compared.now.rows.now t count (slice_index_or (map (λ r. r.items)
+        table.items) t [])) }
 {
-    let mut table = no_dates(alloc, net.transitions().len(), count)?;
+    let mut table = no_dates(alloc, compared.net.transitions().len(), count)?;
     let mut shown = 0;
     while shown < count {
         let next = shown + COPIED_AT_ONCE.min(count - shown);
-        add_all(&mut table, rows, shown, next)?;
+        add_all(&mut table, compared.rows, shown, next)?;
         shown = next;
     }
     Ok(table)
@@ -177,8 +177,13 @@ impl Settled {
         requires told { (x : ℕ → ℕ → Date) × IsToldBy net.now rows.now form x }
         ensures { IfOk result (IsFormOf net.now rows.now form) }
     {
-        let table = table_of(alloc, net, rows, form.after + form.period)?;
-        let steps = steps_of(alloc, net, rows, form.period)?;
+        let compared = Compared {
+            net,
+            rows,
+            period: form.period,
+        };
+        let table = table_of(alloc, &compared, form.after + form.period)?;
+        let steps = compared.steps(alloc)?;
         let own = numbers_below(alloc, net.transitions().len())?;
         Ok(Settled {
             after: form.after,

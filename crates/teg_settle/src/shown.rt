@@ -1,15 +1,14 @@
 //! A settled form by the rows of dates that show it.
-ghost use Rattle.std.specs.Prelude.{ℕ, ◌≡◌, ◌<◌, ◌≤◌, ◌+◌, IfOk, length, pos, slice_index_or};
+ghost use Rattle.std.specs.Prelude.{ℕ, ◌≡◌, ◌<◌, ◌≤◌, ◌+◌, IfOk, length};
 ghost use Rattle.teg_net.specs.Limits.{greatest_firing_number};
-ghost use Rattle.teg_net.specs.Nets.{IsNet};
 ghost use Rattle.periodic_laws.specs.settled_laws.SettledForms.{settled_date, row_date, settled_length, step_of_form};
 ghost use Rattle.teg_settle.specs.Copies.{IsFormOf};
 ghost use Rattle.teg_settle.specs.KeptForms.{IsFormKept};
-ghost use Rattle.teg_settle.specs.ComparedRows.{IsToldBy, AreComparedRows, read_step};
+ghost use Rattle.teg_settle.specs.ComparedRows.{IsToldBy};
 
 use crate::back::{back_from, moved};
 use crate::releases::Repetition;
-use crate::window::steps_of;
+use crate::window::Compared;
 use dioid::Date;
 use std::alloc::{AllocError, Global};
 use std::marker::Model;
@@ -48,7 +47,12 @@ impl SettledDates {
         requires told { (x : ℕ → ℕ → Date) × IsToldBy net.now rows form x }
         ensures { IfOk result (IsFormOf net.now rows form) }
     {
-        let steps = steps_of(alloc, net, &rows, form.period)?;
+        let compared = Compared {
+            net,
+            rows: &rows,
+            period: form.period,
+        };
+        let steps = compared.steps(alloc)?;
         Ok(SettledDates { form, rows, steps })
     }
 

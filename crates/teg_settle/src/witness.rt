@@ -4,10 +4,9 @@ ghost use Rattle.std.specs.Prelude.{◌≡◌, IfSome, IsTrue};
 ghost use Rattle.teg_settle.specs.Witnesses.{HasDatesApart, HasFall, HasReleasesApart, IsFailed, IsTestable, Refutes, tested_period};
 
 use crate::releases::Releases;
-use crate::window::{FIRST_PAIRS, is_step, moved_past, rises_along, step_in};
+use crate::window::{Compared, FIRST_PAIRS, is_step};
 use std::marker::Model;
-use teg_dates::Rows;
-use teg_net::{Net, TransitionId};
+use teg_net::TransitionId;
 
 // Why a period was refuted.
 #[derive(Clone, Copy, Debug, Drop)]
@@ -36,10 +35,8 @@ const MOST_LOOKS: u64 = 4_096;
 // A period that is tested on rows of dates, past a number.
 #[derive(Drop)]
 pub(crate) struct PeriodTest<'a> {
-    net: &'a Net,
+    compared: Compared<'a>,
     releases: &'a Releases,
-    rows: &'a Rows,
-    period: u64,
     after: u64,
 }
 
@@ -48,28 +45,23 @@ impl<'a> Model for PeriodTest<'a> {
 
     ghost Value = { TestedPeriod };
 
-    ghost view = { λ t. tested_period t.net.now t.releases.now t.rows.now t.period t.after };
+    ghost view = { λ t. tested_period t.compared.net.now t.releases.now t.compared.rows.now
+        t.compared.period t.after };
 
-    ghost invariant = { λ t. IsTestable t.net.now t.releases.now t.rows.now t.period t.after };
+    ghost invariant = { λ t. IsTestable t.compared.net.now t.releases.now t.compared.rows.now
+        t.compared.period t.after };
 }
 
 impl<'a> PeriodTest<'a> {
     // The test of this period on these rows.
-    pub(crate) fn new(
-        net: &'a Net,
-        releases: &'a Releases,
-        rows: &'a Rows,
-        period: u64,
-        after: u64,
-    ) -> PeriodTest<'a>
-        requires { IsTestable net.now releases.now rows.now period after }
-        ensures { result ≡ tested_period net.now releases.now rows.now period after }
+    pub(crate) fn new(compared: Compared<'a>, releases: &'a Releases, after: u64) -> PeriodTest<'a>
+        requires { IsTestable compared.net.now releases.now compared.rows.now compared.period after }
+        ensures { result ≡ tested_period compared.entry.net.now releases.now compared.entry.rows.now
+            compared.entry.period after }
     {
         PeriodTest {
-            net,
+            compared,
             releases,
-            rows,
-            period,
             after,
         }
     }
@@ -78,27 +70,29 @@ impl<'a> PeriodTest<'a> {
     fn falls_along(&self, place: usize) -> bool
         ensures { IsTrue result → HasFall self.now }
     {
-        let places = self.net.places();
+        let places = self.compared.net.places();
         if place >= places.len() {
             return false;
         }
-        !rises_along(self.net, self.rows, self.period, &places[place])
+        !self.compared.rises_along(&places[place])
     }
 
     // Whether past the number the date of this firing does not move by the step.
     fn is_firing_apart(&self, transition: TransitionId, number: u64) -> bool
         ensures { IsTrue result → HasDatesApart self.now }
     {
-        if transition.index as usize >= self.net.transitions().len() {
+        if transition.index as usize >= self.compared.net.transitions().len() {
             return false;
         }
-        if number <= self.after || number > self.rows.count() - self.period {
+        if number <= self.after || number > self.compared.rows.count() - self.compared.period {
             return false;
         }
-        let step = step_in(self.net, self.rows, self.period, transition);
+        let step = self.compared.step(transition);
         !is_step(
-            self.rows.date(transition, number),
-            self.rows.date(transition, number + self.period),
+            self.compared.rows.date(transition, number),
+            self.compared
+                .rows
+                .date(transition, number + self.compared.period),
             step,
         )
     }
@@ -107,17 +101,15 @@ impl<'a> PeriodTest<'a> {
     fn is_release_apart(&self, transition: TransitionId, number: u64) -> bool
         ensures { IsTrue result → HasReleasesApart self.now }
     {
-        if transition.index as usize >= self.net.transitions().len() {
+        if transition.index as usize >= self.compared.net.transitions().len() {
             return false;
         }
         if number <= self.after || number > MOST_WINDOW {
             return false;
         }
-        let step = step_in(self.net, self.rows, self.period, transition);
-        let early = self.releases.date(self.net, transition, number);
-        let late = self
-            .releases
-            .date(self.net, transition, number + self.period);
+        let step = self.compared.step(transition);
+        let early = self.releases.date(self.compared.net, transition, number);
+        let late = self.releases.date(self.compared.net, transition, number + self.compared.period);
         !is_step(early, late, step)
     }
 
@@ -149,7 +141,7 @@ impl<'a> PeriodTest<'a> {
     fn first_number_apart(&self, transition: TransitionId) -> Option<u64>
         ensures { IfSome result (λ _. HasDatesApart self.now) }
     {
-        let end = (self.rows.count() - self.period).min(self.after + MOST_LOOKS);
+        let end = (self.compared.rows.count() - self.compared.period).min(self.after + MOST_LOOKS);
         for number in self.after + 1..end + 1 {
             if self.is_firing_apart(transition, number) {
                 return Some(number);
@@ -187,7 +179,7 @@ impl<'a> PeriodTest<'a> {
     fn first_fall(&self) -> Option<usize>
         ensures { IfSome result (λ _. HasFall self.now) }
     {
-        for place in 0..self.net.places().len() {
+        for place in 0..self.compared.net.places().len() {
             if self.falls_along(place) {
                 return Some(place);
             }
@@ -199,7 +191,7 @@ impl<'a> PeriodTest<'a> {
     fn first_apart(&self, number: u64) -> Option<TransitionId>
         ensures { IfSome result (λ _. HasDatesApart self.now) }
     {
-        for index in 0..self.net.transitions().len() {
+        for index in 0..self.compared.net.transitions().len() {
             let id = TransitionId {
                 index: index as u32,
             };
@@ -214,7 +206,7 @@ impl<'a> PeriodTest<'a> {
     fn last_release_apart(&self, transition: TransitionId) -> Option<u64>
         ensures { IfSome result (λ _. HasReleasesApart self.now) }
     {
-        let span = self.releases.span(self.net, transition);
+        let span = self.releases.span(self.compared.net, transition);
         let end = self.after.max(span.after) + span.every;
         for back in 0..end - self.after {
             if self.is_release_apart(transition, end - back) {
@@ -228,7 +220,7 @@ impl<'a> PeriodTest<'a> {
     fn release_apart(&self) -> Option<Witness>
         ensures { IfSome result (Refutes self.now) }
     {
-        for index in 0..self.net.transitions().len() {
+        for index in 0..self.compared.net.transitions().len() {
             let id = TransitionId {
                 index: index as u32,
             };
@@ -260,8 +252,10 @@ impl<'a> PeriodTest<'a> {
             Some(place) => return Some(Witness::Fall(place)),
             None => {}
         }
-        let near = self.after.max((self.rows.count() - self.period).saturating_sub(FIRST_PAIRS));
-        let first = moved_past(self.net, self.rows, self.period, near);
+        let near = self.after.max(
+            (self.compared.rows.count() - self.compared.period).saturating_sub(FIRST_PAIRS),
+        );
+        let first = self.compared.moved_past(near);
         if first > near {
             return self.firing_apart(first);
         }
@@ -269,7 +263,7 @@ impl<'a> PeriodTest<'a> {
             Some(witness) => return Some(witness),
             None => {}
         }
-        let last = moved_past(self.net, self.rows, self.period, self.after);
+        let last = self.compared.moved_past(self.after);
         self.firing_apart(last)
     }
 }

@@ -11,6 +11,6 @@ returns c =
     let r = c.in_ok-releases.releases in
     let own = c.in_ok-releases.ensures in
     record {
-      form = IfOk-weaker c.form_of.result (IsLeastForm net r) (IsSettledFormOf net) (own_form net r own.tokens own.waits) c.form_of.ensures.form;
-      slopes = IfOk-weaker c.form_of.result (IsLeastForm net r) (HasSlopes net) (own_slopes net r own.tokens own.waits c.args.live.now c.of_net.ensures.rules c.requires.stands) c.form_of.ensures.form;
+      form = IfOk-weaker c.form_of.result (IsLeastForm net r) (IsSettledFormOf net) (own_form net r own) c.form_of.ensures.form;
+      slopes = IfOk-weaker c.form_of.result (IsLeastForm net r) (HasSlopes net) (own_slopes net r own c.args.live.now c.in_ok-found.ensures.ready.1.is_net c.requires.stands) c.form_of.ensures.form;
     }

@@ -9,4 +9,4 @@ returns c =
     let net = c.args.net.now in
     let r = c.in_ok-releases.releases in
     let own = c.in_ok-releases.ensures in
-    record { form = IfOk-weaker c.dates_of.result (IsLeastForm net r) (IsSettledFormOf net) (own_form net r own.tokens own.waits) c.dates_of.ensures.form }
+    record { form = IfOk-weaker c.dates_of.result (IsLeastForm net r) (IsSettledFormOf net) (own_form net r own) c.dates_of.ensures.form }

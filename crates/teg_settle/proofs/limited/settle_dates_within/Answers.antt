@@ -1,22 +1,11 @@
-use Rattle.std.proofs.lemmas.Result.{IfOk-weaker, IfErr-weaker}
-use Rattle.periodic_laws.specs.settled_laws.SettledForms.{IsSettledFormOf, NetSettlesPast}
-use Rattle.teg_settle.specs.LimitRefusals.{IsRightSettleRefusal}
-use Rattle.teg_settle.specs.ComparedRows.{IsLeastForm, LeastSettlesPast}
+use Rattle.std.proofs.lemmas.Result.{err_from_is_err_and}
 use Rattle.teg_settle.proofs.OwnForms.{own_form, own_refusal}
 use Rattle.teg_settle.proofs.limited.settle_dates_within.Goals as goal
 
-pub returns-clause-form : goal.returns-clause-form
-returns-clause-form c =
-    let net = c.args.net.now in
-    let r = c.in_ok-releases.releases in
-    let own = c.in_ok-releases.ensures in
-    IfOk-weaker c.dates_within.result (IsLeastForm net r) (IsSettledFormOf net) (own_form net r own.tokens own.waits) c.dates_within.ensures.form
+pub returns-in_err-found-clause-too_long : goal.returns-in_err-found-clause-too_long
+returns-in_err-found-clause-too_long c =
+    let why = err_from_is_err_and c.from_residual-in_err-found.result c.from_residual-in_err-found.ensures.1 in
+    rw (why.1, why.2) (own_refusal c.args.net.now c.in_ok-releases.releases c.in_ok-releases.ensures c.args.limit _ c.in_err-found.ensures.too_long)
 
-pub returns-clause-too_long : goal.returns-clause-too_long
-returns-clause-too_long c =
-    let net = c.args.net.now in
-    let r = c.in_ok-releases.releases in
-    let own = c.in_ok-releases.ensures in
-    let limit = c.args.limit in
-    IfErr-weaker c.dates_within.result (IsRightSettleRefusal (LeastSettlesPast net r limit) limit)
-    (IsRightSettleRefusal (NetSettlesPast net limit) limit) (own_refusal net r own.tokens own.waits limit) c.dates_within.ensures.too_long
+pub returns-clause-form : goal.returns-clause-form
+returns-clause-form c = own_form c.args.net.now c.in_ok-releases.releases c.in_ok-releases.ensures _ c.in_ok-dates_of.ensures.form

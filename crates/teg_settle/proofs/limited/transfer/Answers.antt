@@ -1,32 +1,38 @@
-use Rattle.std.proofs.Common.{arith}
+use Rattle.std.proofs.lemmas.Result.{err_from_is_err_and}
+use Rattle.teg_settle.specs.ComparedRows.{LeastSettlesPast}
 use Rattle.teg_settle.specs.Transfers.{TransferSettlesPast}
 use Rattle.teg_settle.proofs.Limiting.{refusal_weaker}
-use Rattle.teg_settle.proofs.PartTold.{live_part, input_there, form_told, past_told}
-use Rattle.teg_settle.proofs.Transferring.{input_within}
+use Rattle.teg_settle.proofs.PartTold.{own_there, live_part, input_there, form_told, past_told}
+use Rattle.teg_settle.proofs.Transferring.{alone_waits}
 use Rattle.teg_settle.proofs.limited.transfer.Goals as goal
 
-pub settle_part-requires : goal.settle_part-requires
-settle_part-requires c =
+pub ranks_of-requires : goal.ranks_of-requires
+ranks_of-requires c =
+    live_part c.args.net.now c.args.input.index c.in_ok-part.part c.in_ok-part.ensures.part c.part_from.ensures.rules c.requires.input c.args._live.now c.requires.stands
+
+pub ready_tokens-most-requires-clause-waits : goal.ready_tokens-most-requires-clause-waits
+ready_tokens-most-requires-clause-waits c =
+    let there = input_there c.args.net.now c.args.input.index c.in_ok-part.part c.in_ok-part.ensures.part c.part_from.ensures.rules c.requires.input in
+    let own = own_there c.args.net.now c.args.input.index c.in_ok-part.part c.in_ok-part.ensures.part c.requires.input _ c.index.ensures in
+    let alone = rw own at c.in_ok-releases.ensures in
+    alone_waits c.in_ok-part.part.net c.in_ok-releases.releases _ there alone.waits
+
+pub returns-in_err-found-clause-too_long : goal.returns-in_err-found-clause-too_long
+returns-in_err-found-clause-too_long c =
     let net = c.args.net.now in
-    let h = c.in_ok-part.ensures.part in
-    record {
-      within = omega (arith, h.numbers.long, input_within net c.args.input.index c.requires.input);
-      live = live_part net c.args.input.index c.in_ok-part.part h c.part_from.ensures.rules c.requires.input c.args._live.now c.requires.stands;
-      input = input_there net c.args.input.index c.in_ok-part.part h c.part_from.ensures.rules c.requires.input;
-      few = c.requires.few;
-    }
-
-pub returns-clause-too_long : goal.returns-clause-too_long
-returns-clause-too_long c =
     let limit = c.args.limit in
-    let h = c.in_ok-part.ensures.part in
-    refusal_weaker _ (TransferSettlesPast c.args.net.now c.args.input.index limit) limit c.in-Err.refusal
-    (past_told c.args.net.now c.args.input.index c.in_ok-part.part h c.part_from.ensures.rules c.requires.input c.args._live.now c.requires.stands limit)
-    (rw c.in-Err.is at c.settle_part.ensures.too_long)
+    let r = c.in_ok-releases.releases in
+    let own = own_there c.args.net.now c.args.input.index c.in_ok-part.part c.in_ok-part.ensures.part c.requires.input _ c.index.ensures in
+    let alone = rw own at c.in_ok-releases.ensures in
+    let why = err_from_is_err_and c.from_residual-in_err-found.result c.from_residual-in_err-found.ensures.1 in
+    rw (why.1, why.2) (refusal_weaker (LeastSettlesPast c.in_ok-part.part.net r limit) (TransferSettlesPast net c.args.input.index limit) limit _
+    (past_told net c.args.input.index c.in_ok-part.part c.in_ok-part.ensures.part c.part_from.ensures.rules c.requires.input c.args._live.now c.requires.stands r alone limit)
+    c.in_err-found.ensures.too_long)
 
-pub returns-in-Ok-clause-form : goal.returns-in-Ok-clause-form
-returns-in-Ok-clause-form c =
-    let h = c.in_ok-part.ensures.part in
-    let spread = rw (c.deref.ensures.value, c.deref-in-Ok.ensures.value) at c.in_ok-spread-in-Ok.ensures in
-    form_told c.args.net.now c.args.input.index c.in_ok-part.part h c.part_from.ensures.rules c.requires.input c.args._live.now c.requires.stands c.in-Ok.form c.in_ok-spread-in-Ok.field-0
-    (rw c.in-Ok.is at c.settle_part.ensures.form) spread
+pub returns-clause-form : goal.returns-clause-form
+returns-clause-form c =
+    let own = own_there c.args.net.now c.args.input.index c.in_ok-part.part c.in_ok-part.ensures.part c.requires.input _ c.index.ensures in
+    let alone = rw own at c.in_ok-releases.ensures in
+    let spread = rw (c.deref.ensures.value, c.deref-2.ensures.value) at c.in_ok-spread.ensures in
+    form_told c.args.net.now c.args.input.index c.in_ok-part.part c.in_ok-part.ensures.part c.part_from.ensures.rules c.requires.input c.args._live.now c.requires.stands
+    c.in_ok-releases.releases alone c.in_ok-form.form c.in_ok-spread.field-0 c.in_ok-form.ensures.form spread

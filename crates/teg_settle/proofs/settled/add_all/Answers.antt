@@ -10,7 +10,7 @@ add_dates-requires-clause-fewer c =
     let inv = c.loop-index.invariant in
     let table = c.loop-index.table in
     let i = c.loop-index.index in
-    let in' : i < length table = omega (arith, inv.width, c.requires.width, c.loop-index-test.true) in
+    let in' : i < length table = omega (arith, inv.width, c.requires.table.width, c.loop-index-test.true) in
     let row = inv.left i (omega arith) (omega (arith, in', inv.width)) in
     let there = row_there table i c.index-table-index.result in' in
     omega (arith, row.long, ap length there, c.requires.fewer)
@@ -22,7 +22,7 @@ add_dates-requires-clause-shown c =
     let i = c.loop-index.index in
     let rows = c.args.rows.now in
     let dates = (get_or table i c.index-table-index.result).items in
-    let in' : i < length table = omega (arith, inv.width, c.requires.width, c.loop-index-test.true) in
+    let in' : i < length table = omega (arith, inv.width, c.requires.table.width, c.loop-index-test.true) in
     let row : AreShownDates rows i c.args.shown dates =
     subst (AreShownDates rows i c.args.shown) (row_there table i c.index-table-index.result in') (inv.left i (omega arith) (omega (arith, in', inv.width))) in
     subst (λ n. AreShownDates rows i n dates) (sym row.long) row
@@ -34,7 +34,7 @@ loop-index-preserved c =
     let i = c.loop-index.index in
     let rows = c.args.rows.now in
     let added = c.add_dates.new.dates in
-    let in' : i < length table = omega (arith, inv.width, c.requires.width, c.loop-index-test.true) in
+    let in' : i < length table = omega (arith, inv.width, c.requires.table.width, c.loop-index-test.true) in
     record {
       width = length-set table i added ∙ inv.width;
       done = λ t l. ⊎_elim

@@ -3,6 +3,6 @@ use Rattle.teg_settle.proofs.witness.PeriodTest.is_firing_apart.Goals as goal
 
 pub returns : goal.returns
 returns c = rw (← c.self.view_is) (λ said moved.
-    let window = c.self.invariant.window in
+    let window = c.self.inside.compared.window in
     let there = moved c.args.number (omega arith) (omega arith) c.args.transition.index (omega (arith, ap length c.transitions.ensures.value)) in
     search rules)

@@ -1,6 +1,6 @@
 use Rattle.std.proofs.Common.{ℕ, ◌≤◌, ◌<◌, length, get_or}
 use Rattle.teg_net.specs.declared.entries.Place.{Place}
-use Rattle.teg_settle.proofs.asked.most_tokens.Given as goal
+use Rattle.teg_settle.proofs.asked.ready_tokens.Given as goal
 
 abbrev pub invariant-loop-place : goal.invariant-loop-place
 invariant-loop-place l = record {
