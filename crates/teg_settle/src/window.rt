@@ -98,9 +98,11 @@ impl<'a> Compared<'a> {
     // The steps of the last period of the rows.
     pub(crate) fn steps(&self, alloc: Global) -> Result<Vec<i128>, AllocError>
         ensures rules { IsNet self.now.net.now }
-        ensures count { IfOk result (λ steps. length steps.items ≡ length self.now.net.now.transitions) }
+        ensures count { IfOk result (λ steps. length steps.items
+            ≡ length self.now.net.now.transitions) }
         ensures each { IfOk result (λ steps. (t : ℕ) → t < length self.now.net.now.transitions
-            → slice_index_or steps.items t (pos 0) ≡ read_step self.now.rows.now self.now.period t) }
+            → slice_index_or steps.items t (pos 0)
+            ≡ read_step self.now.rows.now self.now.period t) }
     {
         let mut steps = Vec::new(alloc);
         for index in 0..self.net.transitions().len() {
@@ -126,7 +128,8 @@ impl<'a> Compared<'a> {
 
     // Whether the steps rise along all places.
     pub(crate) fn is_rising(&self) -> bool
-        ensures { Decides result (All (IsRisingPlace self.now.rows.now self.now.period) self.now.net.now.places) }
+        ensures { Decides result (All (IsRisingPlace self.now.rows.now self.now.period)
+            self.now.net.now.places) }
     {
         for place in self.net.places() {
             if !self.rises_along(place) {
@@ -180,7 +183,8 @@ impl<'a> Compared<'a> {
     pub(crate) fn are_released_alike(&self, releases: &Releases, after: u64) -> bool
         requires after { after ≤ most_window }
         requires spans { AreSpans self.now.net.now releases.now.spans.items }
-        ensures { Decides result (AreReleasedAlike self.now.net.now releases.now self.now.rows.now self.now.period after) }
+        ensures { Decides result (AreReleasedAlike self.now.net.now releases.now self.now.rows.now
+            self.now.period after) }
     {
         let from = Repetition {
             after,

@@ -55,7 +55,8 @@ impl<'a> Model for PeriodTest<'a> {
 impl<'a> PeriodTest<'a> {
     // The test of this period on these rows.
     pub(crate) fn new(compared: Compared<'a>, releases: &'a Releases, after: u64) -> PeriodTest<'a>
-        requires { IsTestable compared.net.now releases.now compared.rows.now compared.period after }
+        requires { IsTestable compared.net.now releases.now compared.rows.now compared.period
+            after }
         ensures { result ≡ tested_period compared.entry.net.now releases.now compared.entry.rows.now
             compared.entry.period after }
     {
