@@ -14,14 +14,8 @@ pub new-asked-requires : goal.new-asked-requires
 new-asked-requires c =
     let given = c.net-net.ensures.given in
     let form = rw c.net-net.ensures.value at c.in-Ok.ensures.form in
-    rw (c.net-net.ensures.value, c.rows-rows.ensures.value) (record {
-      rules = given.rules;
-      is_live = given.is_live;
-      input = c.requires.input;
-      transfer = form;
-      short = c.in-Ok.ensures.within;
-      ends = given.ends;
-    })
+    rw (c.net-net.ensures.value, c.rows-rows.ensures.value)
+    (record { rules = given.rules; is_live = given.is_live; input = c.requires.input; transfer = form; short = c.in-Ok.ensures.within; ends = given.ends })
 
 pub returns-clause-fine : goal.returns-clause-fine
 returns-clause-fine c =

@@ -9,4 +9,4 @@ is_kept-requires-clause-place c =
     let p = c.place-item.result in
     let within = rw c.places-place-items.ensures.value at c.loop-place-test.true in
     let item = rw c.places-place-items.ensures.value at c.place-item.is in
-    weighable net c.args.plain.now.net c.row-row.result.now p c.row-row.ensures.rules (subst (IsPlaceOf net) (sym item) (c.places-place-items.ensures.rules.each_place c.loop-place.place-index p within))
+    weighable net _ c.row-row.result.now p c.row-row.ensures.rules (subst (IsPlaceOf net) (sym item) (c.places-place-items.ensures.rules.each_place c.loop-place.place-index p within))
