@@ -52,6 +52,6 @@ paced net r times kept y e round way s closed leads =
     let more = again.more in
     omega (arith, ints, same, more)
 
--- a row and a place of one net
-pub weighable : (net : NetLists) (r : EndlessRow) (p : Place) → IsEndlessRow net r → IsPlaceOf net p → IsWeighable r p
-weighable net r p row place = record { every = row.goes_on.every_in; gap = row.goes_on.gap_in; hold = place.hold_in; tokens = place.tokens_in }
+-- a row and a place of nets
+pub weighable : (net own : NetLists) (r : EndlessRow) (p : Place) → IsEndlessRow own r → IsPlaceOf net p → IsWeighable r p
+weighable net own r p row place = record { every = row.goes_on.every_in; gap = row.goes_on.gap_in; hold = place.hold_in; tokens = place.tokens_in }

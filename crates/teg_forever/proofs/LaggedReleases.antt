@@ -7,9 +7,9 @@ use Rattle.std.proofs.lemmas.Int.{ints}
 use Rattle.std.proofs.lemmas.Option.{slice_get_within, get_or_from_slice_get}
 use Rattle.dioid.specs.declared.dates.Date.{Date}
 use Rattle.dioid.specs.declared.dates.Date.TheVariants.{Early, At, Never}
-use Rattle.dioid.specs.Dates.{IsAtMostDate, date_left, delayed, move}
+use Rattle.dioid.specs.Dates.{date_left, delayed, move}
 use Rattle.dioid.specs.DateOrder.{Le}
-use Rattle.dioid.proofs.AtMost.{le_antisym, le_is, le_move_back, le_move_over, le_trans, move_le}
+use Rattle.dioid.proofs.AtMost.{le_antisym, le_is, le_trans, move_le}
 use Rattle.dioid.proofs.Moves.{delayed_is_move, move_forth, move_injective, move_move}
 use Rattle.forever_laws.specs.series_laws.Residual.{IsLeftAt}
 use Rattle.forever_laws.specs.series_laws.SeriesForms.{Form, size_of, value_at, form_with}
@@ -18,14 +18,13 @@ use Rattle.series_form.specs.NumberBounds.{IsSeries}
 use Rattle.series_form.specs.SeriesAnswers.{AnswersOf}
 use Rattle.series_form.specs.declared.forms.SeriesRefused.{SeriesRefused}
 use Rattle.series_ops.specs.declared.gains.Gain.{Gain}
-use Rattle.teg_net.specs.declared.walks.Step.{Step}
 use Rattle.teg_net.specs.Nets.{NetLists, IsNet, IsInput}
 use Rattle.teg_net.specs.Circuits.{IsLive}
-use Rattle.teg_net.specs.Walks.{Walks, walk_time}
+use Rattle.teg_net.specs.Walks.{walk_time}
 use Rattle.forever_laws.specs.settled_laws.SettledForms.{SettledForm, settled_length}
 use Rattle.teg_lags.specs.Lags.{AreLagged, IsFormMoved}
 use Rattle.teg_settle.specs.WalkTimes.{WalkTimesSettle}
-use Rattle.teg_settle.specs.Transfers.{IsGreatestWalkTime, IsTransferOf}
+use Rattle.teg_settle.specs.Transfers.{IsGreatestWalkTime}
 use Rattle.teg_lags.proofs.Lagged.{LeadsSo, lagged_back, lagged_time, lagged_times, lagged_walk}
 use Rattle.teg_due.specs.RowNames.{is_input}
 use Rattle.forever_laws.specs.due_laws.LatestDates.{IsDateToDue, IsLatestDate}

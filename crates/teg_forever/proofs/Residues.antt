@@ -1,5 +1,5 @@
 -- What the meet of the residuals over the rows tells of an input.
-use Rattle.std.proofs.Common.{ℕ, ◌+◌, ◌-◌, ◌≤◌, ◌≡◌, ◌==◌, true, List, [], ◌∷◌, Option, Some, None, Result, Ok, Err, length, refl, sym, subst, ap, ◌∙◌, arith}
+use Rattle.std.proofs.Common.{ℕ, ◌+◌, ◌-◌, ◌≤◌, ◌≡◌, ◌==◌, true, false, List, [], ◌∷◌, Option, Some, None, Result, Ok, Err, length, refl, sym, subst, ap, ◌∙◌, arith}
 use Rattle.std.specs.Prelude.{IfNone, IfOk, OnOk, slice_get}
 use Rattle.forever_laws.specs.series_laws.SeriesForms.{Form, value_at}
 use Rattle.series_form.specs.NumberBounds.{IsSeries}
@@ -62,6 +62,10 @@ module _ (a : InputAsked) (h : IsAskedWith a) (exist : ColumnsExist) (m : Gain) 
 pub no_rows : (rows : List EndlessRow) → true ≡ (length rows == 0) → rows ≡ []
 no_rows [] e = refl
 no_rows (r ∷ rows) e = let none : length (r ∷ rows) ≡ 0 = same_number (length (r ∷ rows)) 0 (sym e) in absurd (omega arith)
+
+pub some_rows : (rows : List EndlessRow) → false ≡ (length rows == 0) → 1 ≤ length rows
+some_rows [] e = absurd (cc e)
+some_rows (r ∷ rows) e = omega arith
 
 -- without rows an input is fine
 pub fine_alone : (net : NetLists) (rows : List EndlessRow) (u : ℕ) (f : SettledForm) → IsTransferOf net u f → settled_length f ≤ longest_form → rows ≡ [] → IsFine net rows u

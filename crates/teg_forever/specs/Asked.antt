@@ -11,7 +11,7 @@ use Rattle.teg_lags.specs.Lags.{AreLeaving}
 use Rattle.teg_settle.specs.Transfers.{IsTransferOf}
 use Rattle.forever_laws.specs.due_laws.MeetingDueDates.{InputsMeet, inputs_at_zero}
 use Rattle.forever_laws.specs.declared.rows.EndlessRow.{EndlessRow}
-use Rattle.forever_laws.specs.EndlessRows.{IsEndlessOf, due_on}
+use Rattle.forever_laws.specs.EndlessRows.{IsEndlessOf, IsEndlessRow, due_on}
 use Rattle.teg_forever.specs.LatestReleases.{longest_form}
 
 -- a live net with its ranks, and endless due dates
@@ -72,10 +72,28 @@ IsAskedWith a = IsAsked a.net a.settled a.input.index a.rows
 
 -- ---- the net without its inputs
 
--- a live net, the net without its inputs, which is live too, and the standard form of that
-pub record IsPlainOf (net plain : NetLists) (form : FormLists) : Type 0 where
+-- a live net and a row of endless due dates of it
+pub record IsLiveRow (net : NetLists) (row : EndlessRow) : Type 0 where
   pub rules : IsNet net
   pub is_live : IsLive net
+  pub ends : IsEndlessRow net row
+
+-- with the net without its inputs, which is live too, and the standard form of that
+pub record IsPlainRow (net plain : NetLists) (form : FormLists) (row : EndlessRow) : Type 0 where
+  pub live : IsLiveRow net row
   pub plain_is : plain ≡ without_inputs net
   pub plain_live : IsLive plain
   pub stands : IsStandardFormOf plain form
+
+-- a net, and a row of endless due dates
+pub record RowOfNet : Type 0 where
+  pub net : NetLists
+  pub row : EndlessRow
+
+-- with these parts
+abbrev pub row_of_net : NetLists → EndlessRow → RowOfNet
+row_of_net net row = record { net = net; row = row }
+
+-- the net is live, and the row is one of it
+abbrev pub IsRowOfLive : RowOfNet → Type 0
+IsRowOfLive a = IsLiveRow a.net a.row

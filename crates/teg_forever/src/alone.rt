@@ -5,7 +5,6 @@ ghost use Rattle.dioid.specs.declared.dates.Date.TheVariants.{At};
 ghost use Rattle.teg_net.specs.Limits.{greatest_firing_number, most_place_tokens};
 ghost use Rattle.teg_net.specs.Nets.{without_inputs};
 ghost use Rattle.teg_dates.specs.Streams.{IsStreamOf, rows_given};
-ghost use Rattle.forever_laws.specs.EndlessRows.{IsEndlessRow};
 ghost use Rattle.forever_laws.specs.Late.{IsLeastLate, NoneLateTo};
 ghost use Rattle.forever_laws.specs.PacedRows.{paced_bound};
 ghost use Rattle.teg_forever.specs.LateFirings.{InLeastAtZero, IsTold};
@@ -13,12 +12,12 @@ ghost use Rattle.teg_forever.specs.LateFirings.{InLeastAtZero, IsTold};
 use crate::dues::due_at;
 use crate::late::LateFiring;
 use crate::pace::keeps_pace;
-use crate::plain::PlainNet;
+use crate::plain_row::PlainRow;
 use dioid::Date;
-use forever_laws::{EndlessRow, paced_late_is_soon, zero_inputs_are_no_lists};
+use forever_laws::{paced_late_is_soon, zero_inputs_are_no_lists};
 use std::alloc::Global;
 use teg_dates::Stream;
-use teg_net::{Net, OutOfMemory, TransitionId};
+use teg_net::{Net, OutOfMemory};
 
 // The dates and places of the rows that are looked through, at most: some seconds.
 const MOST_STEPS: u64 = 400_000_000;
@@ -47,47 +46,41 @@ fn number_of(date: Date) -> u128
     }
 }
 
-// Writes the next row of the net without its inputs. The date of a transition in it.
-fn next_least(
-    net: &PlainNet<'_>,
-    stream: &mut Stream,
-    dates: &mut [Date],
-    transition: TransitionId,
-) -> u128
-    requires stands { IsStreamOf (without_inputs net.now) stream.old }
+// Writes the next row of the net without its inputs. The date of the row's transition in it.
+fn next_least(plain: &PlainRow<'_>, stream: &mut Stream, dates: &mut [Date]) -> u128
+    requires stands { IsStreamOf (without_inputs plain.now.net) stream.old }
     requires few { rows_given stream.old < greatest_firing_number }
-    requires full { length dates.old ≡ length net.now.transitions }
-    requires transition { transition.index < length net.now.transitions }
-    ensures least { InLeastAtZero net.now (λ x. x transition.index (rows_given stream.old + 1)
-        ≡ At (pos result)) }
-    ensures stands { IsStreamOf (without_inputs net.now) stream.new }
+    requires full { length dates.old ≡ length plain.now.net.transitions }
+    ensures least { InLeastAtZero plain.now.net (λ x. x plain.now.row.transition.index
+        (rows_given stream.old + 1) ≡ At (pos result)) }
+    ensures stands { IsStreamOf (without_inputs plain.now.net) stream.new }
     ensures given { rows_given stream.new ≡ rows_given stream.old + 1 }
     ensures full { length dates.new ≡ length dates.old }
 {
     zero_inputs_are_no_lists();
-    stream.next_row(net.plain(), net.form(), dates);
-    number_of(dates[transition.index as usize])
+    stream.next_row(plain.plain(), plain.form(), dates);
+    number_of(dates[plain.row().transition.index as usize])
 }
 
 // The first late number up to a last one, by the rows of a stream from its start.
 fn late_in(
-    net: &PlainNet<'_>,
+    plain: &PlainRow<'_>,
     stream: &mut Stream,
     dates: &mut [Date],
-    row: &EndlessRow,
     last: u64,
 ) -> Option<LateFiring>
-    requires stands { IsStreamOf (without_inputs net.now) stream.old }
+    requires stands { IsStreamOf (without_inputs plain.now.net) stream.old }
     requires start { rows_given stream.old ≡ 0 }
-    requires full { length dates.old ≡ length net.now.transitions }
-    requires row { IsEndlessRow net.now row.now }
+    requires full { length dates.old ≡ length plain.now.net.transitions }
     requires last { last ≤ greatest_firing_number }
-    ensures none { IfNone result (InLeastAtZero net.now (λ x. NoneLateTo x row.now last)) }
-    ensures some { IfSome result (λ l. InLeastAtZero net.now (λ x. IsLeastLate x row.now l.number
-        l.due l.least)) }
+    ensures none { IfNone result (InLeastAtZero plain.now.net (λ x. NoneLateTo x plain.now.row
+        last)) }
+    ensures some { IfSome result (λ l. InLeastAtZero plain.now.net (λ x. IsLeastLate x plain.now.row
+        l.number l.due l.least)) }
 {
+    let row = plain.row();
     for number in 1..last + 1 {
-        let least = next_least(net, stream, dates, row.transition);
+        let least = next_least(plain, stream, dates);
         let due = due_at(row, number);
         if due < least {
             return Some(LateFiring {
@@ -103,21 +96,18 @@ fn late_in(
 // The first late number up to a last one, by the rows of the net without its inputs.
 fn late_to(
     alloc: Global,
-    net: &PlainNet<'_>,
-    row: &EndlessRow,
+    plain: &PlainRow<'_>,
     last: u64,
 ) -> Result<Option<LateFiring>, OutOfMemory>
-    requires row { IsEndlessRow net.now row.now }
-    requires last { last ≤ greatest_firing_number }
-    ensures none { IfOk result (λ late. IfNone late (InLeastAtZero net.now (λ x. NoneLateTo x
-        row.now last))) }
-    ensures some { IfOk result (λ late. IfSome late (λ l. InLeastAtZero net.now (λ x. IsLeastLate x
-        row.now l.number l.due l.least))) }
+    requires { last ≤ greatest_firing_number }
+    ensures none { IfOk result (λ late. IfNone late (InLeastAtZero plain.now.net (λ x. NoneLateTo x
+        plain.now.row last))) }
+    ensures some { IfOk result (λ late. IfSome late (λ l. InLeastAtZero plain.now.net (λ x.
+        IsLeastLate x plain.now.row l.number l.due l.least))) }
 {
-    let plain = net.plain();
-    let mut stream = Stream::new(alloc, plain, net.form())?;
-    let mut dates = vec![in alloc; Date::Early; plain.transitions().len()]?;
-    Ok(late_in(net, &mut stream, dates.as_mut_slice(), row, last))
+    let mut stream = Stream::new(alloc, plain.plain(), plain.form())?;
+    let mut dates = vec![in alloc; Date::Early; plain.net().transitions().len()]?;
+    Ok(late_in(plain, &mut stream, dates.as_mut_slice(), last))
 }
 
 // The greatest number of tokens in a place, at least 1.
@@ -134,13 +124,13 @@ fn most_tokens(net: &Net) -> u64
 }
 
 // The number up to which a row that keeps pace has a late number, if it has one.
-fn last_to_see(net: &Net, most: u64, row: &EndlessRow) -> u64
-    requires row { IsEndlessRow net.now row.now }
-    requires most { most ≤ most_place_tokens }
-    ensures value { result ≡ paced_bound net.now most row.now }
+fn last_to_see(plain: &PlainRow<'_>, most: u64) -> u64
+    requires { most ≤ most_place_tokens }
+    ensures { result ≡ paced_bound plain.now.net most plain.now.row }
 {
+    let row = plain.row();
     let listed = row.dates.as_slice().len() as u64;
-    let count = net.transitions().len() as u64;
+    let count = plain.net().transitions().len() as u64;
     listed + u64::from(row.every) * (count * most) + most
 }
 
@@ -153,21 +143,16 @@ fn most_rows(net: &Net) -> u64
 }
 
 // What the rows of the net without its inputs tell of a row.
-pub(crate) fn told_alone(
-    alloc: Global,
-    plain: &PlainNet<'_>,
-    row: &EndlessRow,
-) -> Result<Told, OutOfMemory>
-    requires { IsEndlessRow plain.now row.now }
-    ensures { IfOk result (IsTold plain.now row.now) }
+pub(crate) fn told_alone(alloc: Global, plain: &PlainRow<'_>) -> Result<Told, OutOfMemory>
+    ensures { IfOk result (IsTold plain.now.net plain.now.row) }
 {
     paced_late_is_soon();
     let net = plain.net();
-    let paced = keeps_pace(alloc, net, row)?;
-    let last = last_to_see(net, most_tokens(net), row);
+    let paced = keeps_pace(alloc, plain)?;
+    let last = last_to_see(plain, most_tokens(net));
     let most = most_rows(net);
     let seen = if paced { last.min(most) } else { most };
-    if let Some(late) = late_to(alloc, plain, row, seen)? {
+    if let Some(late) = late_to(alloc, plain, seen)? {
         return Ok(Told::Late(late));
     }
     if paced && last == seen {

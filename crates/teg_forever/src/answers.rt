@@ -1,17 +1,17 @@
 //! The latest releases of the inputs under endless due dates.
-ghost use Rattle.std.specs.Prelude.{◌≡◌, ◌<◌, ℕ, length, IfOk, IfErr, IfSome, IsTrue};
+ghost use Rattle.std.specs.Prelude.{◌≡◌, IfOk, IfErr, IfSome, IsTrue};
 ghost use Rattle.teg_check.specs.Ranks.{IsRanking};
 ghost use Rattle.teg_net.specs.Nets.{without_inputs};
 ghost use Rattle.forever_laws.specs.EndlessRows.{IsEndlessOf};
 ghost use Rattle.teg_forever.specs.Asked.{AreMetAtZero};
 ghost use Rattle.teg_forever.specs.LatestReleases.{AreEndlessReleases, ForeverRefused};
-ghost use Rattle.teg_forever.specs.LateFirings.{IsClimbing, IsZeroForm};
+ghost use Rattle.teg_forever.specs.LateFirings.{IsClimbingForm};
 
 use crate::alone::{Told, told_alone};
 use crate::asked::DueRows;
 use crate::inputs::releases_of;
 use crate::late::{LateFiring, late_in_row};
-use crate::plain::PlainNet;
+use crate::plain_row::PlainRow;
 use crate::releases::{ForeverRefusal, Release};
 use crate::settled_row::SettledRow;
 use forever_laws::{
@@ -34,9 +34,7 @@ fn settled_at_zero(
     plain: &Net,
 ) -> Result<SettledDates, OutOfMemory>
     requires { plain.now ≡ without_inputs due.now.net }
-    ensures form { IfOk result (IsZeroForm due.now.net) }
-    ensures climbing { IfOk result (λ f. (t : ℕ) → t < length due.now.net.transitions
-        → IsClimbing f t) }
+    ensures { IfOk result (IsClimbingForm due.now.net) }
 {
     zero_inputs_are_no_lists();
     turns_tell_late();
@@ -52,10 +50,7 @@ fn short_at_zero(
     plain: &Net,
 ) -> Result<Option<SettledDates>, OutOfMemory>
     requires { plain.now ≡ without_inputs due.now.net }
-    ensures form { IfOk result (λ settled. IfSome settled (IsZeroForm due.now.net)) }
-    ensures climbing { IfOk result (λ settled. IfSome settled (λ f. (t : ℕ)
-        → t < length due.now.net.transitions
-        → IsClimbing f t)) }
+    ensures { IfOk result (λ settled. IfSome settled (IsClimbingForm due.now.net)) }
 {
     zero_inputs_are_no_lists();
     turns_tell_late();
@@ -83,8 +78,7 @@ fn refused_at(row: &EndlessRow, late: LateFiring) -> ForeverRefusal
 
 // Refuses the first row that has a late number, with its least one.
 fn keep_rows(due: &DueRows<'_>, settled: &SettledDates) -> Result<(), ForeverRefusal>
-    requires form { IsZeroForm due.now.net settled.now }
-    requires climbing { (t : ℕ) → t < length due.now.net.transitions → IsClimbing settled.now t }
+    requires { IsClimbingForm due.now.net settled.now }
     ensures meet { IfOk result (λ _. AreMetAtZero due.now) }
     ensures late { IfErr result (ForeverRefused due.now.net due.now.rows) }
 {
@@ -109,28 +103,15 @@ fn keep_rows_alone(alloc: Global, due: &DueRows<'_>, plain: &Net) -> Result<bool
     zero_meets_where_none_late();
     late_is_soon();
     let form = standard_form(alloc, plain, due.live())?;
-    let least = PlainNet::new(due.net(), plain, &form);
+    let net = due.net();
     for row in due.rows() {
-        match told_alone(alloc, &least, row)? {
+        match told_alone(alloc, &PlainRow::new(net, plain, &form, row))? {
             Told::Late(late) => return Err(refused_at(row, late)),
             Told::None => {}
             Told::Nothing => return Ok(false),
         }
     }
     Ok(true)
-}
-
-// Refuses due dates of a net without a short form that inputs at 0 do not meet.
-fn keep_long_dues(alloc: Global, due: &DueRows<'_>, plain: &Net) -> Result<(), ForeverRefusal>
-    requires { plain.now ≡ without_inputs due.now.net }
-    ensures meet { IfOk result (λ _. AreMetAtZero due.now) }
-    ensures late { IfErr result (ForeverRefused due.now.net due.now.rows) }
-{
-    if keep_rows_alone(alloc, due, plain)? {
-        return Ok(());
-    }
-    let settled = settled_at_zero(alloc, due, plain)?;
-    keep_rows(due, &settled)
 }
 
 // Refuses due dates that inputs at 0 do not meet. A settled form is dropped here.
@@ -145,10 +126,14 @@ fn keep_dues(alloc: Global, due: &DueRows<'_>) -> Result<(), ForeverRefusal>
         return Ok(());
     }
     let plain = due.net().without_inputs(alloc)?;
-    match short_at_zero(alloc, due, &plain)? {
-        Some(settled) => keep_rows(due, &settled),
-        None => keep_long_dues(alloc, due, &plain),
+    if let Some(settled) = short_at_zero(alloc, due, &plain)? {
+        return keep_rows(due, &settled);
     }
+    if keep_rows_alone(alloc, due, &plain)? {
+        return Ok(());
+    }
+    let settled = settled_at_zero(alloc, due, &plain)?;
+    keep_rows(due, &settled)
 }
 
 /// The latest releases of the inputs of a live net, one for each input in order, with which no

@@ -1,8 +1,6 @@
 //! The latest releases of the inputs, one by one.
 ghost use Rattle.std.specs.Prelude.{◌≡◌, ◌<◌, ◌≤◌, ◌+◌, length, IfOk, IfErr, IfSome, OnOk};
-ghost use Rattle.forever_laws.specs.due_laws.MeetingDueDates.{InputsMeet, inputs_at_zero};
 ghost use Rattle.teg_net.specs.Nets.{IsInput};
-ghost use Rattle.forever_laws.specs.EndlessRows.{due_on};
 ghost use Rattle.teg_forever.specs.Asked.{AreMetAtZero};
 ghost use Rattle.teg_forever.specs.InputAnswers.{AreReleasesBelow, IsFineRelease, IsReleaseBy, IsStopped};
 ghost use Rattle.teg_forever.specs.Divisions.{AreDivisions};
@@ -18,43 +16,21 @@ use forever_laws::{columns_exist, residuals_are_latest_dates};
 use series_form::Series;
 use std::alloc::Global;
 use teg_due::is_input;
-use teg_net::TransitionId;
+use teg_net::{OutOfMemory, TransitionId};
 use teg_settle::{SettleRefusal, transfer, walk_times_settle};
 
 // The longest settled form of walk times that is taken.
 const LONGEST_FORM: u32 = 20_000;
 
 // The release by the series of the latest dates: free where they are never.
-fn release_by(alloc: Global, latest: &Series) -> Result<Release, ForeverRefusal>
-    ensures release { IfOk result (IsReleaseBy latest.now) }
-    ensures memory { IfErr result (λ e. e ≡ ForeverRefusal.OutOfMemory) }
+fn release_by(alloc: Global, latest: &Series) -> Result<Release, OutOfMemory>
+    ensures { IfOk result (IsReleaseBy latest.now) }
 {
     if latest.at(0) == Date::Never {
         return Ok(Release::Free);
     }
     let series = latest.duplicate(alloc)?;
     Ok(Release::Latest { series })
-}
-
-// The release of an input whose walk times settle, where there are rows.
-fn release_over(
-    alloc: Global,
-    asked: &InputRows<'_>,
-    divisions: &mut Divisions,
-) -> Result<Release, ForeverRefusal>
-    requires some { 1 ≤ length asked.now.rows }
-    requires meet { InputsMeet asked.now.net (due_on asked.now.rows) inputs_at_zero }
-    requires divisions { AreDivisions asked.now.rows divisions.old }
-    ensures divisions { OnOk result (AreDivisions asked.now.rows divisions.new) }
-    ensures fine { IfOk result (λ _. IsFine asked.now.net asked.now.rows asked.now.input.index) }
-    ensures release { IfOk result (IsReleaseOf asked.now.net asked.now.rows asked.now.input.index) }
-    ensures stopped { IfErr result (IsStopped asked.now.net asked.now.rows asked.now.input) }
-{
-    columns_exist();
-    residuals_are_latest_dates();
-    asked.settled();
-    let latest = meet_of(alloc, asked, divisions)?;
-    release_by(alloc, &latest.series)
 }
 
 // The release of an input. Without rows it is free.
@@ -81,11 +57,11 @@ fn release_of(
     if rows.is_empty() {
         return Ok(Release::Free);
     }
-    release_over(
-        alloc,
-        &InputRows::new(net, &settled, input, rows),
-        divisions,
-    )
+    columns_exist();
+    residuals_are_latest_dates();
+    let asked = InputRows::new(net, &settled, input, rows);
+    let latest = meet_of(alloc, &asked, divisions)?;
+    Ok(release_by(alloc, &latest.series)?)
 }
 
 // The release of the next input by that of one before it whose places lead on alike but for a lag,

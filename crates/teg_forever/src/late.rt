@@ -1,5 +1,5 @@
 //! The least late number of a row: the firing that comes later than due, whatever the inputs are.
-ghost use Rattle.std.specs.Prelude.{◌≡◌, ◌<◌, ◌≤◌, ◌+◌, ◌*◌, ◌%◌, ◌⊎◌, pos, IfOk, IfNone, IfSome, IsTrue};
+ghost use Rattle.std.specs.Prelude.{◌≡◌, ◌<◌, ◌≤◌, ◌+◌, ◌-◌, ◌*◌, ◌%◌, ◌⊎◌, pos, IfOk, IfNone, IfSome, IsTrue};
 ghost use Rattle.dioid.specs.declared.dates.Date.TheVariants.{At};
 ghost use Rattle.teg_net.specs.Limits.{greatest_every, greatest_firing_number, most_rows};
 ghost use Rattle.forever_laws.specs.teg_model.DateBounds.{greatest_least_date};
@@ -99,20 +99,17 @@ fn sooner(first: Soonest, next: Soonest) -> Soonest
     }
 }
 
-// Of the numbers past `past` up to `last`, of which none is late, that which is late after the
-// fewest turns.
-fn fewest_turns(row: &SettledRow<'_>, past: u64, last: u64, gain: u128) -> Soonest
-    requires some { past < last }
-    requires last { last ≤ greatest_firing_number }
-    requires gain { 0 < gain }
-    requires in_time { NoneLateTo (settled_date row.now.settled) row.now.row last }
-    ensures is { IsSoonest (settled_date row.now.settled) row.now.row past last gain result.number
-        result.due
-        result.least }
-    ensures turns { result.turns ≡ turns_to result.due result.least gain }
+// Of the numbers past which dates repeat that which is late after the fewest turns, where each turn
+// gains on the due dates.
+fn fewest_turns(row: &SettledRow<'_>, turn: CommonPeriod) -> Soonest
+    requires { GainsByTurns row.now turn }
+    ensures is { IsSoonest (settled_date row.now.settled) row.now.row turn.past
+        (turn.past + turn.firings) (turn.rise - turn.fall) result.number result.due result.least }
+    ensures turns { result.turns ≡ turns_to result.due result.least (turn.rise - turn.fall) }
 {
-    let mut best = turns_at(row, past + 1, gain);
-    for number in past + 2..last + 1 {
+    let gain = turn.rise - turn.fall;
+    let mut best = turns_at(row, turn.past + 1, gain);
+    for number in turn.past + 2..turn.past + turn.firings + 1 {
         best = sooner(best, turns_at(row, number, gain));
     }
     best
@@ -186,22 +183,13 @@ fn common_cycles(firings: u64, every: u64) -> u64
     every
 }
 
-// The greater of two numbers.
-fn greater(first: u64, second: u64) -> u64
-    ensures first { first ≤ result }
-    ensures second { second ≤ result }
-    ensures one { (result ≡ first) ⊎ (result ≡ second) }
-{
-    if first < second { second } else { first }
-}
-
 // Past which number the dates of the row's transition and its due dates repeat.
 fn past_of(row: &SettledRow<'_>) -> u64
     ensures { GoesOnPast row.now result }
 {
     let due = row.row();
     let past_list = due.dates.as_slice().len() as u64 - due.every as u64;
-    greater(row.settled().after(), past_list)
+    row.settled().after().max(past_list)
 }
 
 // From which number on, and after how many firings, the dates of the row's transition and its due
@@ -236,8 +224,7 @@ fn soonest_late(row: &SettledRow<'_>, turn: CommonPeriod) -> Soonest
     turns_tell_late();
     late_is_soon();
     row.settled();
-    let gain = turn.rise - turn.fall;
-    fewest_turns(row, turn.past, turn.past + turn.firings, gain)
+    fewest_turns(row, turn)
 }
 
 // The late number that the search by turns finds.

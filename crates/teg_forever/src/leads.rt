@@ -20,22 +20,6 @@ use forever_laws::EndlessRow;
 // The longest cycle that is looked at, so that all products are small.
 const MOST_CYCLE: u64 = 100_000;
 
-// The greater of two numbers.
-fn greater(first: u128, second: u128) -> u128
-    ensures first { first ≤ result }
-    ensures second { second ≤ result }
-{
-    if first < second { second } else { first }
-}
-
-// The lesser of two numbers.
-fn lesser(first: u128, second: u128) -> u128
-    ensures first { result ≤ first }
-    ensures second { result ≤ second }
-{
-    if first < second { first } else { second }
-}
-
 // Where a line has to begin at least so that this date, at this place of a cycle, is not above it.
 fn start_under(cycle: Cycle, date: u128, place: u64) -> u128
     requires firings { cycle.firings ≤ most_cycle }
@@ -57,10 +41,10 @@ fn line_under(row: &SettledRow<'_>, past: u64, cycle: Cycle) -> u128
         cycle.rise
         result }
 {
-    let mut start = 0;
+    let mut start: u128 = 0;
     for place in 0..cycle.firings {
         let date = row.least(past + 1 + place);
-        start = greater(start, start_under(cycle, date, place));
+        start = start.max(start_under(cycle, date, place));
     }
     start
 }
@@ -88,7 +72,7 @@ fn line_over(row: &EndlessRow, past: u64) -> u128
     let mut start = u128::MAX;
     for place in 0..row.every {
         let due = due_at(row, past + 1 + place as u64);
-        start = lesser(start, start_over(row, due, place));
+        start = start.min(start_over(row, due, place));
     }
     start
 }
@@ -96,8 +80,7 @@ fn line_over(row: &EndlessRow, past: u64) -> u128
 // Whether the line under the dates begins no higher than that over the due dates, and rises no
 // faster.
 fn keep_apart(row: &EndlessRow, cycle: Cycle, under: u128, over: u128) -> bool
-    requires every { row.now.every ≤ greatest_every }
-    requires gap { row.now.gap ≤ greatest_input_date }
+    requires row { IsGoingRow row.now }
     requires firings { cycle.firings ≤ most_cycle }
     requires rise { cycle.rise ≤ greatest_least_date }
     ensures start { IsTrue result → row.now.every * under

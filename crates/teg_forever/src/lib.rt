@@ -31,7 +31,7 @@ mod late;
 mod leads;
 mod numbers;
 mod pace;
-mod plain;
+mod plain_row;
 mod reading;
 mod releases;
 mod residuals;

@@ -2,13 +2,13 @@
 //! algorithm of Bellman and Ford).
 ghost use Rattle.std.specs.Prelude.{◌≡◌, ◌<◌, All, length, IfOk, IsTrue};
 ghost use Rattle.teg_net.specs.ReducedTimes.{reduced_time_of_place};
-ghost use Rattle.forever_laws.specs.EndlessRows.{IsEndlessRow};
 ghost use Rattle.forever_laws.specs.PacedRows.{KeepsPace};
 ghost use Rattle.teg_forever.specs.Paces.{IsKept, IsWeighable, row_ratio};
 
+use crate::plain_row::PlainRow;
 use forever_laws::EndlessRow;
 use std::alloc::{AllocError, Global};
-use teg_net::{Net, OutOfMemory, Place};
+use teg_net::{OutOfMemory, Place};
 
 // What a place adds to the reduced time of a walk: its holding time for each firing of a turn, less
 // the gap for each of its tokens.
@@ -21,14 +21,6 @@ fn reduced_time(row: &EndlessRow, place: &Place) -> i128
     time - given
 }
 
-// The reduced time of the walk that goes on with the greatest one from the end of the place.
-fn with_place(row: &EndlessRow, place: &Place, times: &[Option<i128>]) -> Option<i128>
-    requires place { IsWeighable row.now place.now }
-    requires to { place.now.to.index < length times.now }
-{
-    times[place.to.index as usize]?.checked_add(reduced_time(row, place))
-}
-
 // Takes over the time of the walk that begins with the place, where that is more. Whether it is.
 fn raise(row: &EndlessRow, place: &Place, times: &mut [Option<i128>]) -> bool
     requires place { IsWeighable row.now place.now }
@@ -36,9 +28,11 @@ fn raise(row: &EndlessRow, place: &Place, times: &mut [Option<i128>]) -> bool
     requires to { place.now.to.index < length times.old }
     ensures full { length times.new ≡ length times.old }
 {
-    let time = match with_place(row, place, times) {
-        Some(time) => time,
-        None => return false,
+    let Some(onward) = times[place.to.index as usize] else {
+        return false;
+    };
+    let Some(time) = onward.checked_add(reduced_time(row, place)) else {
+        return false;
     };
     let from = place.from.index as usize;
     let told = match times[from] {
@@ -53,11 +47,11 @@ fn raise(row: &EndlessRow, place: &Place, times: &mut [Option<i128>]) -> bool
 }
 
 // The same with each place. Whether some time is more.
-fn raise_all(net: &Net, row: &EndlessRow, times: &mut [Option<i128>]) -> bool
-    requires row { IsEndlessRow net.now row.now }
-    requires full { length times.old ≡ length net.now.transitions }
-    ensures full { length times.new ≡ length times.old }
+fn raise_all(plain: &PlainRow<'_>, times: &mut [Option<i128>]) -> bool
+    requires { length times.old ≡ length plain.now.net.transitions }
+    ensures { length times.new ≡ length times.old }
 {
+    let (net, row) = (plain.net(), plain.row());
     let mut more = false;
     for place in net.places() {
         let raised = raise(row, place, times);
@@ -68,15 +62,14 @@ fn raise_all(net: &Net, row: &EndlessRow, times: &mut [Option<i128>]) -> bool
 
 // The greatest reduced times of the walks to the row's transition that pass so many places, none
 // where there is no such walk.
-fn times_to(alloc: Global, net: &Net, row: &EndlessRow) -> Result<Vec<Option<i128>>, AllocError>
-    requires row { IsEndlessRow net.now row.now }
-    ensures full { IfOk result (λ times. length times.items ≡ length net.now.transitions) }
+fn times_to(alloc: Global, plain: &PlainRow<'_>) -> Result<Vec<Option<i128>>, AllocError>
+    ensures { IfOk result (λ times. length times.items ≡ length plain.now.net.transitions) }
 {
-    let count = net.transitions().len();
+    let count = plain.net().transitions().len();
     let mut times = vec![in alloc; None; count]?;
-    times[row.transition.index as usize] = Some(0);
+    times[plain.row().transition.index as usize] = Some(0);
     for _round in 0..count {
-        if !raise_all(net, row, times.as_mut_slice()) {
+        if !raise_all(plain, times.as_mut_slice()) {
             break;
         }
     }
@@ -104,11 +97,11 @@ fn is_kept(row: &EndlessRow, place: &Place, times: &[Option<i128>]) -> bool
 }
 
 // Whether that holds of each place.
-fn are_kept(net: &Net, row: &EndlessRow, times: &[Option<i128>]) -> bool
-    requires row { IsEndlessRow net.now row.now }
-    requires full { length times.now ≡ length net.now.transitions }
-    ensures { IsTrue result → All (IsKept row.now times.now) net.now.places }
+fn are_kept(plain: &PlainRow<'_>, times: &[Option<i128>]) -> bool
+    requires { length times.now ≡ length plain.now.net.transitions }
+    ensures { IsTrue result → All (IsKept plain.now.row times.now) plain.now.net.places }
 {
+    let (net, row) = (plain.net(), plain.row());
     for place in net.places() {
         if !is_kept(row, place, times) {
             return false;
@@ -117,25 +110,16 @@ fn are_kept(net: &Net, row: &EndlessRow, times: &[Option<i128>]) -> bool
     true
 }
 
-// Whether the times show that the row keeps pace: then each walk to its transition has at most the
-// time that is told of its start.
-fn show_pace(net: &Net, row: &EndlessRow, times: &[Option<i128>]) -> bool
-    requires row { IsEndlessRow net.now row.now }
-    requires full { length times.now ≡ length net.now.transitions }
-    ensures { IsTrue result → KeepsPace net.now row.now }
-{
-    match times[row.transition.index as usize] {
-        Some(_) => are_kept(net, row, times),
-        None => false,
-    }
-}
-
 // Whether no circuit from which a walk leads to the row's transition has a greater ratio of time to
-// tokens than the row of gap to firings.
-pub(crate) fn keeps_pace(alloc: Global, net: &Net, row: &EndlessRow) -> Result<bool, OutOfMemory>
-    requires row { IsEndlessRow net.now row.now }
-    ensures { IfOk result (λ paced. IsTrue paced → KeepsPace net.now row.now) }
+// tokens than the row of gap to firings: each walk to its transition has at most the time that is
+// told of its start.
+pub(crate) fn keeps_pace(alloc: Global, plain: &PlainRow<'_>) -> Result<bool, OutOfMemory>
+    ensures { IfOk result (λ paced. IsTrue paced → KeepsPace plain.now.net plain.now.row) }
 {
-    let times = times_to(alloc, net, row)?;
-    Ok(show_pace(net, row, times.as_slice()))
+    let times = times_to(alloc, plain)?;
+    let told = times.as_slice();
+    match told[plain.row().transition.index as usize] {
+        Some(_) => Ok(are_kept(plain, told)),
+        None => Ok(false),
+    }
 }

@@ -93,53 +93,9 @@ fn residual_at(
     }
 }
 
-// The residual of the first row.
+// The meet of the meet over the rows before with the residual of a row. A row as the one before is
+// not gone through again where the meet stays.
 #[tactic(auto, using(std::proofs::lemmas::Result::err_from_is_err_and))]
-fn first_meet(
-    alloc: Global,
-    asked: &InputRows<'_>,
-    divisions: &mut Divisions,
-) -> Result<Meet, ForeverRefusal>
-    requires some { 1 ≤ length asked.now.rows }
-    requires divisions { AreDivisions asked.now.rows divisions.old }
-    ensures divisions { OnOk result (AreDivisions asked.now.rows divisions.new) }
-    ensures meet { IfOk result (IsMeetSoFar asked.now.net asked.now.rows asked.now.input.index 1) }
-    ensures refused { IfErr result (IsRefusedAt asked.now.net asked.now.rows asked.now.input 0) }
-{
-    let at = residual_at(alloc, asked, 0, divisions)?;
-    let series = divisions.residual(at).series.duplicate(alloc)?;
-    Ok(Meet {
-        gain: Gain { series },
-        stays: true,
-    })
-}
-
-// The meet of the meet over the rows before with the residual of a row.
-#[tactic(auto, using(std::proofs::lemmas::Result::err_from_is_err_and))]
-fn meet_with(
-    alloc: Global,
-    asked: &InputRows<'_>,
-    place: usize,
-    divisions: &mut Divisions,
-    meet: Gain,
-) -> Result<Meet, ForeverRefusal>
-    requires some { 0 < place }
-    requires place { place < length asked.now.rows }
-    requires divisions { AreDivisions asked.now.rows divisions.old }
-    requires meet { IsMeetOver asked.now.net asked.now.rows asked.now.input.index place meet }
-    ensures divisions { OnOk result (AreDivisions asked.now.rows divisions.new) }
-    ensures meet { IfOk result (IsMeetSoFar asked.now.net asked.now.rows asked.now.input.index
-        (place + 1)) }
-    ensures refused { IfErr result (IsRefusedAt asked.now.net asked.now.rows asked.now.input place) }
-{
-    let at = residual_at(alloc, asked, place, divisions)?;
-    match met(alloc, meet, divisions.residual(at)) {
-        Ok(met) => Ok(met),
-        Err(why) => Err(refusal_at(why, asked.input(), asked.row(place))),
-    }
-}
-
-// The same; a row as the one before is not gone through again where the meet stays.
 fn next_meet(
     alloc: Global,
     asked: &InputRows<'_>,
@@ -159,7 +115,11 @@ fn next_meet(
     if meet.stays && is_as_before(asked, place, divisions) {
         return Ok(meet);
     }
-    meet_with(alloc, asked, place, divisions, meet.gain)
+    let at = residual_at(alloc, asked, place, divisions)?;
+    match met(alloc, meet.gain, divisions.residual(at)) {
+        Ok(met) => Ok(met),
+        Err(why) => Err(refusal_at(why, asked.input(), asked.row(place))),
+    }
 }
 
 // The meet over the rows of the residuals of their due series by the walk series of an input, or
@@ -178,7 +138,12 @@ pub(crate) fn meet_of(
 {
     columns_exist();
     let count = asked.rows().len();
-    let mut meet = first_meet(alloc, asked, divisions)?;
+    let first = residual_at(alloc, asked, 0, divisions)?;
+    let series = divisions.residual(first).series.duplicate(alloc)?;
+    let mut meet = Meet {
+        gain: Gain { series },
+        stays: true,
+    };
     for place in 1..count {
         meet = next_meet(alloc, asked, place, divisions, meet)?;
     }

@@ -8,11 +8,12 @@ pub returns-then-due-least-clause-some : goal.returns-then-due-least-clause-some
 returns-then-due-least-clause-some c =
     let given = c.loop-number.invariant.given in
     let n : ℕ = c.loop-number.number in
-    found c.args.net.now c.args.row.now n c.due_at-due.result c.next_least-least.result (omega arith) c.due_at-due.ensures.due
-    (comes_at c.args.net.now c.args.row.now.transition.index _ n c.next_least-least.result (omega arith) c.next_least-least.ensures.least) c.if-due-least.true c.loop-number.invariant.none
+    found c.args.plain.now.net c.args.plain.now.row n c.due_at-due.result c.next_least-least.result (omega arith) (rw c.row-row.ensures.value at c.due_at-due.ensures.due)
+    (comes_at c.args.plain.now.net c.args.plain.now.row.transition.index _ n c.next_least-least.result (omega arith) c.next_least-least.ensures.least) c.if-due-least.true c.loop-number.invariant.none
 
 pub loop-number-preserved : goal.loop-number-preserved
 loop-number-preserved c =
+    let net = c.args.plain.now.net in
     let n : ℕ = c.loop-number.number in
     let given = c.loop-number.invariant.given in
     let more = c.next_least-least.ensures.given in
@@ -23,9 +24,9 @@ loop-number-preserved c =
       stands = c.next_least-least.ensures.stands;
       given = omega arith;
       full = omega arith;
-      none = subst (λ (m : ℕ). InLeastAtZero c.args.net.now (λ x. NoneLateTo x c.args.row.now m)) same
-          (none_so_far c.args.net.now c.args.row.now n c.due_at-due.result c.next_least-least.result (omega arith) c.due_at-due.ensures.due
-          (comes_at c.args.net.now c.args.row.now.transition.index _ n c.next_least-least.result (omega arith) c.next_least-least.ensures.least) c.if-due-least.false c.loop-number.invariant.none);
+      none = subst (λ (m : ℕ). InLeastAtZero net (λ x. NoneLateTo x c.args.plain.now.row m)) same
+          (none_so_far net c.args.plain.now.row n c.due_at-due.result c.next_least-least.result (omega arith) (rw c.row-row.ensures.value at c.due_at-due.ensures.due)
+          (comes_at net c.args.plain.now.row.transition.index _ n c.next_least-least.result (omega arith) c.next_least-least.ensures.least) c.if-due-least.false c.loop-number.invariant.none);
     }
 
 pub returns-clause-none : goal.returns-clause-none

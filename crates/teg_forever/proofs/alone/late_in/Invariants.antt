@@ -7,8 +7,8 @@ use Rattle.teg_forever.proofs.alone.late_in.Given as goal
 
 abbrev pub invariant-loop-number : goal.invariant-loop-number
 invariant-loop-number l = record {
-  stands : IsStreamOf (without_inputs l.net) l.stream;
+  stands : IsStreamOf (without_inputs l.plain.net) l.stream;
   given : rows_given l.stream ≡ l.number - 1;
-  full : length l.dates ≡ length l.net.transitions;
-  none : InLeastAtZero l.net (λ x. NoneLateTo x l.row (l.number - 1));
+  full : length l.dates ≡ length l.plain.net.transitions;
+  none : InLeastAtZero l.plain.net (λ x. NoneLateTo x l.plain.row (l.number - 1));
 }

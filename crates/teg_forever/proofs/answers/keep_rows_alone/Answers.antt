@@ -12,26 +12,20 @@ use Rattle.teg_forever.proofs.answers.keep_rows_alone.Goals as goal
 pub loop-row-init : goal.loop-row-init
 loop-row-init c x least i d l = absurd (omega arith)
 
-pub new-least-requires : goal.new-least-requires
-new-least-requires c =
+pub new-requires : goal.new-requires
+new-requires c =
     let a = c.args.due.now in
     let given = c.live.ensures.given in
-    rw c.net.ensures.value (record {
-      rules = given.rules;
-      is_live = given.is_live;
-      plain_is = c.requires;
-      plain_live = c.ranked_nets_are_live.ensures c.args.plain.now a.ranks (ranking_without a.net c.args.plain.now c.requires a.ranks given.stands);
-      stands = c.in_ok-form.ensures.form;
-    })
-
-pub told_alone-requires : goal.told_alone-requires
-told_alone-requires c =
-    let a = c.args.due.now in
     let r = c.row-item.result in
     let i = c.loop-row.row-index in
     let within : i < length a.rows = rw c.rows-row-items.ensures.value at c.loop-row-test.true in
     let item : r ≡ get_or a.rows i r = rw c.rows-row-items.ensures.value at c.row-item.is in
-    rw (c.new-least.ensures, c.net.ensures.value) (rule_at a c.live.ensures.given i r within item)
+    rw c.net-net.ensures.value (record {
+      live = record { rules = given.rules; is_live = given.is_live; ends = rule_at a given i r within item };
+      plain_is = c.requires;
+      plain_live = c.ranked_nets_are_live.ensures c.args.plain.now a.ranks (ranking_without a.net c.args.plain.now c.requires a.ranks given.stands);
+      stands = c.in_ok-form.ensures.form;
+    })
 
 pub returns-in-Late-clause-late : goal.returns-in-Late-clause-late
 returns-in-Late-clause-late c =
@@ -43,7 +37,7 @@ returns-in-Late-clause-late c =
     let within : i < length a.rows = rw c.rows-row-items.ensures.value at c.loop-row-test.true in
     let item : r ≡ get_or a.rows i r = rw c.rows-row-items.ensures.value at c.row-item.is in
     let zero = c.no_rows_are_met.ensures a.net given.rules given.is_live in
-    let told = subst (IsTold a.net r) c.in-Late.is (rw (c.new-least.ensures, c.net.ensures.value) at c.in_ok-late.ensures) in
+    let told = subst (IsTold a.net r) c.in-Late.is (rw (c.new.ensures, c.net-net.ensures.value) at c.in_ok-late.ensures) in
     subst (ForeverRefused a.net a.rows) (sym c.refused_at.ensures)
     (late_answer_in a given c.late_is_soon.ensures zero.0 zero.1 i r (got a.rows i r within item)
     (c.loop-row.invariant zero.0 zero.1) late.number late.due late.least (told zero.0 zero.1))
@@ -55,7 +49,7 @@ loop-row-preserved c x least =
     let i = c.loop-row.row-index in
     let within : i < length a.rows = rw c.rows-row-items.ensures.value at c.loop-row-test.true in
     let item : r ≡ get_or a.rows i r = rw c.rows-row-items.ensures.value at c.row-item.is in
-    let told = subst (IsTold a.net r) c.in-None.is (rw (c.new-least.ensures, c.net.ensures.value) at c.in_ok-late.ensures) in
+    let told = subst (IsTold a.net r) c.in-None.is (rw (c.new.ensures, c.net-net.ensures.value) at c.in_ok-late.ensures) in
     all_items (NoneLate x) a.rows a.rows i r refl within (subst (NoneLate x) item (told x least)) (c.loop-row.invariant x least)
 
 pub returns-clause-meet : goal.returns-clause-meet

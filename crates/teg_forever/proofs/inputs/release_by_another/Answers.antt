@@ -1,11 +1,10 @@
-use Rattle.std.proofs.Common.{◌≡◌, ◌<◌, length, rules, sym, subst, to_z, of_z}
+use Rattle.std.proofs.Common.{◌≡◌, ◌<◌, rules, sym, subst, to_z, of_z}
 use Rattle.std.specs.Int.{w128}
 use Rattle.std.specs.Prelude.{IfSome}
 use Rattle.std.proofs.lemmas.Int.{to_z-of_z}
 use mir.Val.{SFits}
 use Rattle.std.proofs.lemmas.Option.{IfSome_then, slice_get_within}
 use Rattle.teg_forever.specs.InputAnswers.{IsFineRelease}
-use Rattle.teg_forever.specs.Lagged.{IsEarlierBy}
 use Rattle.teg_forever.specs.LatestReleases.{IsReleaseOf, inputs_below}
 use Rattle.teg_forever.proofs.LaggedReleases.{beside_at, lagged_fine_release}
 use Rattle.teg_forever.proofs.Residues.{each_ok}

@@ -16,16 +16,21 @@ pub loop-number-init : goal.loop-number-init
 loop-number-init c =
     let x = settled_date c.args.row.now.settled in
     let b = c.turns_at-best.result in
-    let same : c.args.past + 1 ≡ c.args.past + 2 - 1 = omega arith in
-    let begun = soonest_begun x c.args.row.now.row c.args.past c.args.gain b.due b.least c.turns_at-best.ensures.due c.turns_at-best.ensures.least in
+    let same : c.args.turn.past + 1 ≡ c.args.turn.past + 2 - 1 = omega arith in
+    let begun = soonest_begun x c.args.row.now.row c.args.turn.past (c.args.turn.rise - c.args.turn.fall) b.due b.least c.turns_at-best.ensures.due c.turns_at-best.ensures.least in
     record {
-      is = subst (λ (m : ℕ). IsSoonest x c.args.row.now.row c.args.past m c.args.gain b.number b.due b.least) same
-          (subst (λ (m : ℕ). IsSoonest x c.args.row.now.row c.args.past (c.args.past + 1) c.args.gain m b.due b.least) (sym c.turns_at-best.ensures.number) begun);
+      is = subst (λ (m : ℕ). IsSoonest x c.args.row.now.row c.args.turn.past m (c.args.turn.rise - c.args.turn.fall) b.number b.due b.least) same
+          (subst (λ (m : ℕ). IsSoonest x c.args.row.now.row c.args.turn.past (c.args.turn.past + 1) (c.args.turn.rise - c.args.turn.fall) m b.due b.least) (sym c.turns_at-best.ensures.number) begun);
       turns = c.turns_at-best.ensures.turns;
     }
 
+pub turns_at-best-requires-clause-in_time : goal.turns_at-best-requires-clause-in_time
+turns_at-best-requires-clause-in_time c =
+    let some = c.requires.common.some in
+    none_less (settled_date c.args.row.now.settled) c.args.row.now.row (c.args.turn.past + c.args.turn.firings) (c.args.turn.past + 1) (omega arith) c.requires.in_time
+
 pub turns_at-requires-clause-in_time : goal.turns_at-requires-clause-in_time
-turns_at-requires-clause-in_time c = none_less (settled_date c.args.row.now.settled) c.args.row.now.row c.args.last c.loop-number.number (omega arith) c.requires.in_time
+turns_at-requires-clause-in_time c = none_less (settled_date c.args.row.now.settled) c.args.row.now.row (c.args.turn.past + c.args.turn.firings) c.loop-number.number (omega arith) c.requires.in_time
 
 pub loop-number-preserved : goal.loop-number-preserved
 loop-number-preserved c =
@@ -35,32 +40,32 @@ loop-number-preserved c =
     let old = c.loop-number.best in
     let next = c.turns_at.result in
     let same : c.loop-number.number ≡ c.loop-number.number + 1 - 1 = omega arith in
-    let past : c.args.past < c.loop-number.number = omega arith in
-    let before : old.turns ≡ turns_to old.due old.least c.args.gain = c.loop-number.invariant.turns in
-    let here : next.turns ≡ turns_to next.due next.least c.args.gain = c.turns_at.ensures.turns in
+    let past : c.args.turn.past < c.loop-number.number = omega arith in
+    let before : old.turns ≡ turns_to old.due old.least (c.args.turn.rise - c.args.turn.fall) = c.loop-number.invariant.turns in
+    let here : next.turns ≡ turns_to next.due next.least (c.args.turn.rise - c.args.turn.fall) = c.turns_at.ensures.turns in
     ⊎_elim
     (λ (h : (next.turns < old.turns) × (c.sooner-best.result ≡ next)).
     let less : next.turns < old.turns = h.0 in
-    let is = soonest_next x r c.args.past n c.args.gain old.number old.due old.least next.due next.least past c.turns_at.ensures.due
+    let is = soonest_next x r c.args.turn.past n (c.args.turn.rise - c.args.turn.fall) old.number old.due old.least next.due next.least past c.turns_at.ensures.due
     c.turns_at.ensures.least (omega arith) c.loop-number.invariant.is in
-    subst (Kept c.args.row.now.settled r c.args.past (n + 1 - 1) c.args.gain) (sym h.1) (record {
-      is = subst (λ (m : ℕ). IsSoonest x r c.args.past m c.args.gain next.number next.due next.least) same
-          (subst (λ (m : ℕ). IsSoonest x r c.args.past n c.args.gain m next.due next.least) (sym c.turns_at.ensures.number) is);
+    subst (Kept c.args.row.now.settled r c.args.turn.past (n + 1 - 1) (c.args.turn.rise - c.args.turn.fall)) (sym h.1) (record {
+      is = subst (λ (m : ℕ). IsSoonest x r c.args.turn.past m (c.args.turn.rise - c.args.turn.fall) next.number next.due next.least) same
+          (subst (λ (m : ℕ). IsSoonest x r c.args.turn.past n (c.args.turn.rise - c.args.turn.fall) m next.due next.least) (sym c.turns_at.ensures.number) is);
       turns = here;
     }))
     (λ (h : (old.turns ≤ next.turns) × (c.sooner-best.result ≡ old)).
     let less : old.turns ≤ next.turns = h.0 in
-    let is = soonest_kept x r c.args.past n c.args.gain old.number old.due old.least next.due next.least past c.turns_at.ensures.due
+    let is = soonest_kept x r c.args.turn.past n (c.args.turn.rise - c.args.turn.fall) old.number old.due old.least next.due next.least past c.turns_at.ensures.due
     c.turns_at.ensures.least (omega arith) c.loop-number.invariant.is in
-    subst (Kept c.args.row.now.settled r c.args.past (n + 1 - 1) c.args.gain) (sym h.1) (record {
-      is = subst (λ (m : ℕ). IsSoonest x r c.args.past m c.args.gain old.number old.due old.least) same is;
+    subst (Kept c.args.row.now.settled r c.args.turn.past (n + 1 - 1) (c.args.turn.rise - c.args.turn.fall)) (sym h.1) (record {
+      is = subst (λ (m : ℕ). IsSoonest x r c.args.turn.past m (c.args.turn.rise - c.args.turn.fall) old.number old.due old.least) same is;
       turns = before;
     }))
     c.sooner-best.ensures
 
 pub returns-clause-is : goal.returns-clause-is
 returns-clause-is c =
-    let low : c.args.last + 1 ≤ c.loop-number.number = c.loop-number-test.false in
-    let same : c.loop-number.number - 1 ≡ c.args.last = omega arith in
-    subst (λ (m : ℕ). IsSoonest (settled_date c.args.row.now.settled) c.args.row.now.row c.args.past m c.args.gain c.loop-number.best.number
+    let low : (c.args.turn.past + c.args.turn.firings) + 1 ≤ c.loop-number.number = c.loop-number-test.false in
+    let same : c.loop-number.number - 1 ≡ (c.args.turn.past + c.args.turn.firings) = omega arith in
+    subst (λ (m : ℕ). IsSoonest (settled_date c.args.row.now.settled) c.args.row.now.row c.args.turn.past m (c.args.turn.rise - c.args.turn.fall) c.loop-number.best.number
     c.loop-number.best.due c.loop-number.best.least) same c.loop-number.invariant.is

@@ -3,13 +3,6 @@ use Rattle.teg_forever.specs.LateFirings.{IsSoonLate}
 use Rattle.teg_forever.proofs.LateTurns.{soon_by_turns}
 use Rattle.teg_forever.proofs.late.soonest_late.Goals as goal
 
-pub fewest_turns-requires : goal.fewest_turns-requires
-fewest_turns-requires c =
-    let h = c.requires in
-    let some = h.common.some in
-    let steep = h.steep in
-    record { some = omega arith; last = h.last; gain = omega arith; in_time = h.in_time }
-
 pub returns : goal.returns
 returns c =
     let a = c.args.row.now in

@@ -8,8 +8,8 @@ loop-place-init c = λ i z l e. absurd (omega arith)
 pub loop-place-preserved : goal.loop-place-preserved
 loop-place-preserved c =
     let a = c.args.row.now in
-    under_more a.settled a.row.transition.index c.args.past c.args.cycle.firings c.args.cycle.rise c.loop-place.start c.greater-start.result c.loop-place.place c.least-date.result
-    c.loop-place.invariant c.least-date.ensures.least c.greater-start.ensures.first (omega (arith, c.greater-start.ensures.second, c.start_under.ensures))
+    under_more a.settled a.row.transition.index c.args.past c.args.cycle.firings c.args.cycle.rise c.loop-place.start c.max-start.result c.loop-place.place c.least-date.result
+    c.loop-place.invariant c.least-date.ensures.least (omega (arith, c.max-start.ensures)) (omega (arith, c.max-start.ensures, c.start_under.ensures))
 
 pub returns : goal.returns
 returns c = λ i z l e. c.loop-place.invariant i z (omega arith) e

@@ -5,8 +5,8 @@ use Rattle.teg_forever.proofs.pace.are_kept.Goals as goal
 
 pub is_kept-requires-clause-place : goal.is_kept-requires-clause-place
 is_kept-requires-clause-place c =
-    let net = c.args.net.now in
+    let net = c.net-net.result.now in
     let p = c.place-item.result in
     let within = rw c.places-place-items.ensures.value at c.loop-place-test.true in
     let item = rw c.places-place-items.ensures.value at c.place-item.is in
-    weighable net c.args.row.now p c.requires.row (subst (IsPlaceOf net) (sym item) (c.places-place-items.ensures.rules.each_place c.loop-place.place-index p within))
+    weighable net _ c.row-row.result.now p c.row-row.ensures.rules (subst (IsPlaceOf net) (sym item) (c.places-place-items.ensures.rules.each_place c.loop-place.place-index p within))

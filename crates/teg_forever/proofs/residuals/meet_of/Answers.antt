@@ -1,23 +1,34 @@
-use Rattle.std.proofs.Common.{◌≤◌, ◌≡◌, ℕ, length, ap, subst, arith}
+use Rattle.std.proofs.Common.{◌≤◌, ◌≡◌, ℕ, length, true, ap, subst, arith}
 use Rattle.std.proofs.lemmas.Result.{err_from_is_err_and}
 use Rattle.teg_forever.specs.Divisions.{IsMeetOver}
 use Rattle.teg_forever.proofs.Dividing.{stopped_at}
+use Rattle.teg_forever.proofs.Repeated.{begun_so_far}
 use Rattle.teg_forever.proofs.residuals.meet_of.Goals as goal
 
-pub returns-in_err-meet-clause-stopped : goal.returns-in_err-meet-clause-stopped
-returns-in_err-meet-clause-stopped c =
+pub returns-in_err-first-clause-stopped : goal.returns-in_err-first-clause-stopped
+returns-in_err-first-clause-stopped c =
     let p = err_from_is_err_and c.from_residual.result c.from_residual.ensures.1 in
     rw (p.1, p.2)
     (stopped_at c.args.asked.now c.rows-count.ensures.asked c.columns_exist.ensures 0 c.requires.some
-    (λ walks dues columns j l. absurd (omega arith)) c.in_err-meet.field-0.0 c.in_err-meet.ensures.refused)
+    (λ walks dues columns j l. absurd (omega arith)) c.in_err-first.field-0.0 c.in_err-first.ensures.refused)
 
-pub returns-in_err-meet-2-clause-stopped : goal.returns-in_err-meet-2-clause-stopped
-returns-in_err-meet-2-clause-stopped c =
-    let p = err_from_is_err_and c.from_residual-in_err-meet-2.result c.from_residual-in_err-meet-2.ensures.1 in
+pub loop-place-init : goal.loop-place-init
+loop-place-init c =
+    let a = c.args.asked.now in
+    record {
+      divisions = c.in_ok-first.ensures.divisions;
+      meet = begun_so_far a.net a.rows a.input.index c.residual_at.new.divisions.list.items c.in_ok-first.first
+          c.residual.result.now (record { gain = record { series = c.in_ok-series.series }; stays = true })
+          c.in_ok-first.ensures.residual c.residual.ensures c.duplicate.ensures.series c.in_ok-series.ensures.value;
+    }
+
+pub returns-in_err-meet-clause-stopped : goal.returns-in_err-meet-clause-stopped
+returns-in_err-meet-clause-stopped c =
+    let p = err_from_is_err_and c.from_residual-in_err-meet.result c.from_residual-in_err-meet.ensures.1 in
     let within = rw c.rows-count.ensures.value at c.loop-place-test.true in
     rw (p.1, p.2)
     (stopped_at c.args.asked.now c.rows-count.ensures.asked c.columns_exist.ensures c.loop-place.place within
-    (λ walks dues columns. (c.loop-place.invariant.meet.over walks dues columns).fit) c.in_err-meet-2.field-0.0 c.in_err-meet-2.ensures.refused)
+    (λ walks dues columns. (c.loop-place.invariant.meet.over walks dues columns).fit) c.in_err-meet.field-0.0 c.in_err-meet.ensures.refused)
 
 pub returns-clause-meet : goal.returns-clause-meet
 returns-clause-meet c =
