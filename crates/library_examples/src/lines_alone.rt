@@ -1,6 +1,6 @@
 //! The texts of cycle times and of a circuit without tokens, written on `teg_lines` without the
 //! other crates of answers.
-use example_nets::LOOP;
+use crate::held_nets::held_loop;
 use std::alloc::Global;
 use std::test::Fail;
 use teg_certificates::check_cycle;
@@ -18,6 +18,12 @@ place = [
   {name = 'ba', from = 'b', to = 'a', hold = 2},
 ]
 ";
+
+// The cycle times of a net that is held, by its parts.
+fn answer_of(alloc: Global, held: &LiveNet) -> Result<CycleAnswer, OutOfMemory> {
+    let parts = split(alloc, held.net())?;
+    cycle(alloc, held.net(), held.live(), &parts)
+}
 
 // The text of an answer that is a certificate with a best part; of any other nothing.
 fn told(alloc: Global, net: &Net, answer: &CycleAnswer) -> Result<Vec<u8>, OutOfMemory> {
@@ -40,9 +46,8 @@ fn told_circuit(alloc: Global, net: &Net, circuit: &Circuit) -> Result<Vec<u8>, 
 
 #[test]
 fn cycle_times_are_told(rt: HostRuntime) -> Result<(), Fail> {
-    let held = LiveNet::new(rt.alloc(), read_net(rt.alloc(), LOOP)?)?;
-    let parts = split(rt.alloc(), held.net())?;
-    let answer = cycle(rt.alloc(), held.net(), held.live(), &parts)?;
+    let held = held_loop(rt.alloc())?;
+    let answer = answer_of(rt.alloc(), &held)?;
     let text = told(rt.alloc(), held.net(), &answer)?;
     assert!(rt; !text.as_slice().is_empty());
     Ok(())

@@ -1,14 +1,30 @@
 //! Nets that a program makes from lists of its own: names that are looked up, and rows that are
 //! tested. The rules that lists may break are told in `net_examples`.
 use example_nets::{place, transitions};
+use std::alloc::{AllocError, Global};
 use std::test::Fail;
 use teg_due::{Due, DueRow, LogRow, is_due_of, is_log_of};
-use teg_net::{Names, Net, PlaceEnd, PlaceId, PlacesOf, Ratio, TransitionId, is_net};
+use teg_net::{Names, Net, Place, PlaceEnd, PlaceId, PlacesOf, Ratio, TransitionId, is_net};
+
+// Places of these names between the transitions of these numbers.
+fn places_of(alloc: Global, ends: &[(&str, u32, u32)]) -> Result<Vec<Place>, Fail> {
+    let mut places = Vec::new(alloc);
+    for (name, from, to) in ends {
+        places.push(place(alloc, name, *from, *to)?)?;
+    }
+    Ok(places)
+}
+
+// The net of an input and a machine with such places.
+fn net_of(alloc: Global, ends: &[(&str, u32, u32)]) -> Result<Net, Fail> {
+    let places = places_of(alloc, ends)?;
+    Ok(Net::checked(transitions(alloc)?, places, Vec::new(alloc))?)
+}
 
 #[test]
 fn lists_become_a_net(rt: HostRuntime) -> Result<(), Fail> {
     let alloc = rt.alloc();
-    let places = vec![in alloc; place(alloc, "busy", 1, 1)?]?;
+    let places = places_of(alloc, &[("busy", 1, 1)])?;
     let lists = transitions(alloc)?;
     assert!(rt; is_net(&lists, &places, &[]));
     let net = Net::checked(lists, places, Vec::new(alloc))?;
@@ -19,20 +35,27 @@ fn lists_become_a_net(rt: HostRuntime) -> Result<(), Fail> {
 #[test]
 fn names_are_looked_up(rt: HostRuntime) -> Result<(), Fail> {
     let alloc = rt.alloc();
-    let places = vec![in alloc; place(alloc, "belt", 0, 1)?, place(alloc, "busy", 1, 1)?]?;
-    let mut net = Net::checked(transitions(alloc)?, places, Vec::new(alloc))?;
+    let mut net = net_of(alloc, &[("belt", 0, 1), ("busy", 1, 1)])?;
     let names = Names::of(alloc, &net)?;
     if net.contains_place(PlaceId::new(1)) {
         net.set_hold(PlaceId::new(1), 7);
     }
-    assert!(rt; names.transition("work") == Some(TransitionId::new(1)));
-    assert!(rt; names.transition("busy").is_none());
-    assert!(rt; names.place("busy") == Some(PlaceId::new(1)));
-    assert!(rt; names.place("").is_none());
-    let Some(first) = net.transitions().first() else {
-        panic!(rt; "a net has a transition");
-    };
-    let line = format!(in alloc; "{} {}", first.name, Ratio::of(6, 4))?;
+    for (name, transition, place) in [
+        ("work", Some(TransitionId::new(1)), None),
+        ("busy", None, Some(PlaceId::new(1))),
+        ("", None, None),
+    ] {
+        assert!(rt; names.transition(name) == transition, "{name}");
+        assert!(rt; names.place(name) == place, "{name}");
+    }
+    Ok(())
+}
+
+#[test]
+fn names_and_ratios_are_written(rt: HostRuntime) -> Result<(), Fail> {
+    let lists = transitions(rt.alloc())?;
+    let first = lists.first().ok_or("no transition")?;
+    let line = format!(in rt.alloc(); "{} {}", first.name, Ratio::of(6, 4))?;
     assert!(rt; line.as_str() == "in 3/2");
     Ok(())
 }
@@ -40,12 +63,7 @@ fn names_are_looked_up(rt: HostRuntime) -> Result<(), Fail> {
 #[test]
 fn places_stand_by_their_ends(rt: HostRuntime) -> Result<(), Fail> {
     let alloc = rt.alloc();
-    let places = vec![in alloc;
-        place(alloc, "belt", 0, 1)?,
-        place(alloc, "busy", 1, 1)?,
-        place(alloc, "side", 0, 1)?,
-    ]?;
-    let net = Net::checked(transitions(alloc)?, places, Vec::new(alloc))?;
+    let net = net_of(alloc, &[("belt", 0, 1), ("busy", 1, 1), ("side", 0, 1)])?;
     assert!(rt; net.place_count() == 3);
     let leaving = PlacesOf::new(alloc, &net, PlaceEnd::From)?;
     let entering = PlacesOf::new(alloc, &net, PlaceEnd::To)?;
@@ -57,33 +75,60 @@ fn places_stand_by_their_ends(rt: HostRuntime) -> Result<(), Fail> {
     Ok(())
 }
 
-#[test]
-fn rows_of_a_program_are_tested(rt: HostRuntime) -> Result<(), Fail> {
-    let alloc = rt.alloc();
-    let net = Net::checked(transitions(alloc)?, Vec::new(alloc), Vec::new(alloc))?;
-    let due = |transition, number, date| DueRow {
+// A row of this transition, number and date.
+fn due_row(row: (u32, u32, u64)) -> DueRow {
+    let (transition, number, date) = row;
+    DueRow {
         row: 1,
         transition: TransitionId::new(transition),
         number,
         date,
-    };
-    let is_due = |first, second| -> Result<bool, Fail> {
-        let rows = vec![in alloc; first, second]?;
-        Ok(is_due_of(&net, &Due { rows }))
-    };
-    assert!(rt; is_due(due(1, 1, 5), due(1, 2, 5))?);
-    assert!(rt; !is_due(due(1, 1, 5), due(1, 1, 6))?);
-    assert!(rt; !is_due(due(1, 1, 5), due(0, 1, 5))?);
-    assert!(rt; !is_due(due(1, 1, 5), due(2, 1, 5))?);
-    assert!(rt; !is_due(due(1, 0, 5), due(1, 10_001, 5))?);
-    assert!(rt; !is_due(due(1, 1, 5), due(1, 2, 1_000_000_000_001))?);
-    let recorded = |transition, date| LogRow {
+    }
+}
+
+// Two rows that are due.
+fn dues(alloc: Global, first: DueRow, second: DueRow) -> Result<Due, AllocError> {
+    let rows = vec![in alloc; first, second]?;
+    Ok(Due { rows })
+}
+
+#[test]
+fn due_rows_of_a_program_are_tested(rt: HostRuntime) -> Result<(), Fail> {
+    let net = net_of(rt.alloc(), &[])?;
+    for (first, second, is_right) in [
+        ((1, 1, 5), (1, 2, 5), true),
+        ((1, 1, 5), (1, 1, 6), false),
+        ((1, 1, 5), (0, 1, 5), false),
+        ((1, 1, 5), (2, 1, 5), false),
+        ((1, 0, 5), (1, 2, 5), false),
+        ((1, 1, 5), (1, 10_001, 5), false),
+        ((1, 1, 5), (1, 2, 1_000_000_000_001), false),
+    ] {
+        let due = dues(rt.alloc(), due_row(first), due_row(second))?;
+        assert!(rt; is_due_of(&net, &due) == is_right, "{first:?} {second:?}");
+    }
+    Ok(())
+}
+
+// A row of a log, of this transition and date.
+fn log_row(transition: u32, date: u64) -> LogRow {
+    LogRow {
         row: 1,
         transition: TransitionId::new(transition),
         date,
-    };
-    assert!(rt; is_log_of(&net, &[recorded(0, 5), recorded(1, 4)]));
-    assert!(rt; !is_log_of(&net, &[recorded(2, 5)]));
-    assert!(rt; !is_log_of(&net, &[recorded(1, 1_000_000_000_000_000_001)]));
+    }
+}
+
+#[test]
+fn rows_of_a_log_are_tested(rt: HostRuntime) -> Result<(), Fail> {
+    let net = net_of(rt.alloc(), &[])?;
+    for (transition, date, is_right) in [
+        (1, 4, true),
+        (2, 5, false),
+        (1, 1_000_000_000_000_000_001, false),
+    ] {
+        let rows = [log_row(0, 5), log_row(transition, date)];
+        assert!(rt; is_log_of(&net, &rows) == is_right, "{transition} {date}");
+    }
     Ok(())
 }

@@ -12,7 +12,7 @@ const NO_TOKEN: &[u8] =
     b"transition = [{name = 'a'}]\nplace = [{name = 'p', from = 'a', to = 'a', hold = 1}]\n";
 
 #[test]
-fn refusals_have_lines(rt: HostRuntime) -> Result<(), Fail> {
+fn refusals_of_files_have_lines(rt: HostRuntime) -> Result<(), Fail> {
     let alloc = rt.alloc();
     let file = b"transition = [{name = 'a', hold = 1}]\n";
     assert!(rt;
@@ -37,6 +37,13 @@ fn refusals_have_lines(rt: HostRuntime) -> Result<(), Fail> {
             "log row 1 is not a firing"
         )
     );
+    Ok(())
+}
+
+#[test]
+fn refusals_of_nets_have_lines(rt: HostRuntime) -> Result<(), Fail> {
+    let alloc = rt.alloc();
+    let net = read_net(alloc, NO_TOKEN)?;
     let line = "token-free circuit of places 0";
     assert!(rt; says(alloc, LiveNet::new(alloc, net), line));
     assert!(rt; says(alloc, Scheduler::new(alloc, NO_TOKEN), line));

@@ -1,9 +1,14 @@
 //! Answers of the guide, checked by what they print alone; with one digit changed they show
 //! nothing.
+use example_nets::SHOP;
+use std::alloc::Global;
+use std::test::Fail;
 use teg_due::read_due;
+use teg_net::{PlaceId, Ratio, TransitionId};
 use teg_reader::read_net;
 use witness_check::{
-    ShownSize, shown_late, shown_latest, shown_pace, shown_size, shows_deadlock, shows_live,
+    ShownLate, ShownLatest, ShownSize, shown_late, shown_latest, shown_pace, shown_size,
+    shows_deadlock, shows_live,
 };
 
 const LINE: &str = "transition = [{ name = \"cut\" }, { name = \"drill\" }, { name = \"paint\" }]
@@ -25,17 +30,6 @@ place = [
 ]
 ";
 
-const SHOP: &str =
-    "transition = [{ name = \"material\", role = \"input\" }, { name = \"saw\" }, { name = \"drill\" }, { name = \"ship\" }]
-place = [
- { name = \"feed\", from = \"material\", to = \"saw\", hold = 2 },
- { name = \"saw_free\", from = \"saw\", to = \"saw\", hold = 4, tokens = 1 },
- { name = \"to_drill\", from = \"saw\", to = \"drill\", hold = 5 },
- { name = \"drill_free\", from = \"drill\", to = \"drill\", hold = 7, tokens = 1 },
- { name = \"to_ship\", from = \"drill\", to = \"ship\", hold = 8 },
-]
-";
-
 const PLAN: &str = "latest inputs for 3 firings
 input material 1 15 by feed
 input material 2 22 by feed
@@ -51,12 +45,8 @@ latest ship 2 40 due
 latest ship 3 free
 ";
 
-#[test]
-fn a_pace_is_shown(rt: HostRuntime) {
-    let Ok(net) = read_net(rt.alloc(), LINE.as_bytes()) else {
-        panic!(rt; "it is a net");
-    };
-    let told = "cycle time 8/1
+// The cycle times of the line as they are told.
+const PACE: &str = "cycle time 8/1
 circuit to_paint paint_room
 part 1 ratio 8/1
 circuit to_paint paint_room
@@ -64,11 +54,9 @@ potential cut -16
 potential drill 0
 potential paint 8
 ";
-    let Ok(Some(ratio)) = shown_pace(rt.alloc(), &net, told) else {
-        panic!(rt; "it is shown");
-    };
-    assert!(rt; ratio.time() == 8 && ratio.tokens() == 1);
-    let other = "cycle time 9/1
+
+// The same with another cycle time.
+const SLOWER: &str = "cycle time 9/1
 circuit to_paint paint_room
 part 1 ratio 8/1
 circuit to_paint paint_room
@@ -76,8 +64,9 @@ potential cut -16
 potential drill 0
 potential paint 8
 ";
-    assert!(rt; matches!(shown_pace(rt.alloc(), &net, other), Ok(None)));
-    let lifted = "cycle time 8/1
+
+// The same with another potential.
+const LIFTED: &str = "cycle time 8/1
 circuit to_paint paint_room
 part 1 ratio 8/1
 circuit to_paint paint_room
@@ -85,96 +74,161 @@ potential cut -16
 potential drill 1
 potential paint 8
 ";
-    assert!(rt; matches!(shown_pace(rt.alloc(), &net, lifted), Ok(None)));
+
+// The cycle time that the text shows of the line.
+fn pace_shown(alloc: Global, text: &str) -> Result<Option<Ratio>, Fail> {
+    let net = read_net(alloc, LINE.as_bytes())?;
+    Ok(shown_pace(alloc, &net, text)?)
 }
 
 #[test]
-fn it_is_shown_whether_a_net_is_live(rt: HostRuntime) {
-    let (Ok(live), Ok(dead)) = (
-        read_net(rt.alloc(), LINE.as_bytes()),
-        read_net(rt.alloc(), NO_CARDS.as_bytes()),
-    ) else {
-        panic!(rt; "both are nets");
-    };
-    let counts = "live\ntransitions 3\nplaces 7\n";
-    assert!(rt; matches!(shows_live(rt.alloc(), &live, counts), Ok(true)));
-    let fewer = "live\ntransitions 3\nplaces 6\n";
-    assert!(rt; matches!(shows_live(rt.alloc(), &live, fewer), Ok(false)));
-    let circuit = "refused: token-free circuit parts cards\n";
-    assert!(rt; matches!(shows_deadlock(rt.alloc(), &dead, circuit), Ok(true)));
-    let path = "refused: token-free circuit parts\n";
-    assert!(rt; matches!(shows_deadlock(rt.alloc(), &dead, path), Ok(false)));
-    let two = "live\ntransitions 2\nplaces 2\n";
-    assert!(rt; matches!(shows_live(rt.alloc(), &dead, two), Ok(false)));
+fn a_pace_is_shown(rt: HostRuntime) -> Result<(), Fail> {
+    for (text, pace) in [
+        (PACE, Some(Ratio::of(8, 1))),
+        (SLOWER, None),
+        (LIFTED, None),
+    ] {
+        assert!(rt; pace_shown(rt.alloc(), text)? == pace, "{text}");
+    }
+    Ok(())
+}
+
+// Whether the text shows that the net of the file is live.
+fn live_shown(alloc: Global, file: &str, text: &str) -> Result<bool, Fail> {
+    let net = read_net(alloc, file.as_bytes())?;
+    Ok(shows_live(alloc, &net, text)?)
+}
+
+// Whether the text shows that the net of the file is not live.
+fn deadlock_shown(alloc: Global, file: &str, text: &str) -> Result<bool, Fail> {
+    let net = read_net(alloc, file.as_bytes())?;
+    Ok(shows_deadlock(alloc, &net, text)?)
 }
 
 #[test]
-fn sizes_are_shown(rt: HostRuntime) {
-    let Ok(net) = read_net(rt.alloc(), LINE.as_bytes()) else {
-        panic!(rt; "it is a net");
-    };
-    let one = "size paint_room 7/1 extra 1\ncircuit to_paint paint_room\n";
-    let Ok(Some(ShownSize::Enough { extra, .. })) = shown_size(rt.alloc(), &net, one) else {
-        panic!(rt; "it is shown");
-    };
-    assert!(rt; extra == 1);
-    let two = "size paint_room 7/1 extra 2\ncircuit to_paint paint_room\n";
-    assert!(rt; matches!(shown_size(rt.alloc(), &net, two), Ok(None)));
-    let none = "size paint_room 7/1 extra 0\n";
-    assert!(rt; matches!(shown_size(rt.alloc(), &net, none), Ok(None)));
-    let reached = "size paint_room 8/1 extra 0\n";
-    assert!(rt; matches!(shown_size(rt.alloc(), &net, reached), Ok(Some(_))));
-    let slow = "size paint_room 6/1 impossible\ncircuit drill_free\n";
-    assert!(rt;
-        matches!(
-            shown_size(rt.alloc(), &net, slow),
-            Ok(Some(ShownSize::Impossible { .. }))
-        )
-    );
-    let passed = "size paint_room 6/1 impossible\ncircuit to_paint paint_room\n";
-    assert!(rt; matches!(shown_size(rt.alloc(), &net, passed), Ok(None)));
+fn it_is_shown_whether_a_net_is_live(rt: HostRuntime) -> Result<(), Fail> {
+    for (file, text, is_shown) in [
+        (LINE, "live\ntransitions 3\nplaces 7\n", true),
+        (LINE, "live\ntransitions 3\nplaces 6\n", false),
+        (NO_CARDS, "live\ntransitions 2\nplaces 2\n", false),
+    ] {
+        assert!(rt; live_shown(rt.alloc(), file, text)? == is_shown, "{text}");
+    }
+    for (text, is_shown) in [
+        ("refused: token-free circuit parts cards\n", true),
+        ("refused: token-free circuit parts\n", false),
+    ] {
+        assert!(rt;
+            deadlock_shown(rt.alloc(), NO_CARDS, text)? == is_shown,
+            "{text}"
+        );
+    }
+    Ok(())
+}
+
+// What the text shows of the size of a place of the line.
+fn size_shown(alloc: Global, text: &str) -> Result<Option<ShownSize>, Fail> {
+    let net = read_net(alloc, LINE.as_bytes())?;
+    Ok(shown_size(alloc, &net, text)?)
+}
+
+// So many further tokens of `paint_room` for a cycle time of so much.
+fn enough(time: u64, extra: u64) -> Option<ShownSize> {
+    Some(ShownSize::Enough {
+        place: PlaceId::new(6),
+        target: Ratio::of(time, 1),
+        extra,
+    })
 }
 
 #[test]
-fn latest_dates_are_shown(rt: HostRuntime) {
-    let Ok(net) = read_net(rt.alloc(), SHOP.as_bytes()) else {
-        panic!(rt; "it is a net");
-    };
-    let Ok(due) = read_due(rt.alloc(), &net, b"ship,2,40\ndrill,3,36\n") else {
-        panic!(rt; "these are due dates");
-    };
-    let [shipped, drilled] = due.rows.as_slice() else {
-        panic!(rt; "there are two");
-    };
-    let material = "input material 1 15 by feed\n";
-    let Ok(Some(shown)) = shown_latest(rt.alloc(), &net, drilled, material, PLAN) else {
-        panic!(rt; "it is shown");
-    };
-    assert!(rt; shown.number == 1 && shown.date == 15);
-    let early = "input material 1 14 by feed\n";
-    let answer = shown_latest(rt.alloc(), &net, drilled, early, PLAN);
-    assert!(rt; matches!(answer, Ok(None)));
-    let other = shown_latest(rt.alloc(), &net, shipped, material, PLAN);
-    assert!(rt; matches!(other, Ok(None)));
-    let ship = "latest ship 1 40 next\n";
-    let next = shown_latest(rt.alloc(), &net, shipped, ship, PLAN);
-    assert!(rt; matches!(next, Ok(Some(_))));
+fn sizes_are_shown(rt: HostRuntime) -> Result<(), Fail> {
+    let impossible = Some(ShownSize::Impossible {
+        place: PlaceId::new(6),
+        target: Ratio::of(6, 1),
+    });
+    for (text, shown) in [
+        (
+            "size paint_room 7/1 extra 1\ncircuit to_paint paint_room\n",
+            enough(7, 1),
+        ),
+        (
+            "size paint_room 7/1 extra 2\ncircuit to_paint paint_room\n",
+            None,
+        ),
+        ("size paint_room 7/1 extra 0\n", None),
+        ("size paint_room 8/1 extra 0\n", enough(8, 0)),
+        (
+            "size paint_room 6/1 impossible\ncircuit drill_free\n",
+            impossible,
+        ),
+        (
+            "size paint_room 6/1 impossible\ncircuit to_paint paint_room\n",
+            None,
+        ),
+    ] {
+        assert!(rt; size_shown(rt.alloc(), text)? == shown, "{text}");
+    }
+    Ok(())
+}
+
+// What the line shows by the plan and this row of the due file.
+fn latest_shown(alloc: Global, row: usize, line: &str) -> Result<Option<ShownLatest>, Fail> {
+    let net = read_net(alloc, SHOP)?;
+    let due = read_due(alloc, &net, b"ship,2,40\ndrill,3,36\n")?;
+    let asked = due.rows.get(row).ok_or("no such row")?;
+    Ok(shown_latest(alloc, &net, asked, line, PLAN)?)
+}
+
+// That the first firing of this transition comes at this date at the latest.
+fn first(transition: u32, date: u64) -> Option<ShownLatest> {
+    Some(ShownLatest {
+        transition: TransitionId::new(transition),
+        number: 1,
+        date,
+    })
 }
 
 #[test]
-fn a_late_firing_is_shown(rt: HostRuntime) {
-    let Ok(net) = read_net(rt.alloc(), SHOP.as_bytes()) else {
-        panic!(rt; "it is a net");
-    };
-    let told = "late ship 2 due 20 least 22
+fn latest_dates_are_shown(rt: HostRuntime) -> Result<(), Fail> {
+    for (row, line, shown) in [
+        (1, "input material 1 15 by feed\n", first(0, 15)),
+        (1, "input material 1 14 by feed\n", None),
+        (0, "input material 1 15 by feed\n", None),
+        (0, "latest ship 1 40 next\n", first(3, 40)),
+    ] {
+        assert!(rt;
+            latest_shown(rt.alloc(), row, line)? == shown,
+            "{row} {line}"
+        );
+    }
+    Ok(())
+}
+
+const LATE: &str = "late ship 2 due 20 least 22
 path material 1 by feed saw 1 by to_drill drill 1 by drill_free drill 2 by to_ship ship 2
 ";
-    let Ok(Some(shown)) = shown_late(rt.alloc(), &net, told) else {
-        panic!(rt; "it is shown");
-    };
-    assert!(rt; shown.due == 20 && shown.least == 22);
-    let later = "late ship 2 due 20 least 23
+
+// The same with another least date.
+const LATER: &str = "late ship 2 due 20 least 23
 path material 1 by feed saw 1 by to_drill drill 1 by drill_free drill 2 by to_ship ship 2
 ";
-    assert!(rt; matches!(shown_late(rt.alloc(), &net, later), Ok(None)));
+
+// The firing of the shop that the text shows to be late.
+fn late_shown(alloc: Global, text: &str) -> Result<Option<ShownLate>, Fail> {
+    let net = read_net(alloc, SHOP)?;
+    Ok(shown_late(alloc, &net, text)?)
+}
+
+#[test]
+fn a_late_firing_is_shown(rt: HostRuntime) -> Result<(), Fail> {
+    let second = ShownLate {
+        transition: TransitionId::new(3),
+        number: 2,
+        due: 20,
+        least: 22,
+    };
+    assert!(rt; late_shown(rt.alloc(), LATE)? == Some(second));
+    assert!(rt; late_shown(rt.alloc(), LATER)?.is_none());
+    Ok(())
 }
