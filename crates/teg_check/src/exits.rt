@@ -6,8 +6,8 @@ ghost use Rattle.teg_check.specs.Exits.{IsUnranked, IsExit, HasNoExit, HaveExits
 use std::alloc::{AllocError, Global};
 use teg_net::{Net, OutOfMemory, PlaceEnd, PlaceId, PlacesOf, TransitionId};
 
-// The places that leave each transition, and how many at the end of each list are passed over: they
-// have tokens, or lead to transitions with a rank.
+// The places that leave each transition, and how many at the end of each list are passed over for
+// good: they have tokens, or lead to transitions with a rank.
 #[derive(Debug, Drop)]
 pub(crate) struct Exits {
     leaving: PlacesOf,
@@ -25,8 +25,8 @@ impl Exits {
         Ok(Exits { leaving, passed })
     }
 
-    // The last place without tokens from the transition to one that has no rank. The places past it
-    // are passed over for good.
+    // The last place without tokens from the transition to one that has no rank. Those past it are
+    // passed over.
     fn last_exit(&mut self, net: &Net, ranked: &[bool], transition: usize) -> Option<PlaceId>
         requires count { length ranked.now ≡ length net.now.transitions }
         requires exits { AreExitsLeft net.now ranked.now self.old.leaving self.old.passed.items }
@@ -43,8 +43,7 @@ impl Exits {
         'back: while *passed < places.len() {
             let exit = places[places.len() - 1 - *passed];
             let place = net.place(exit);
-            let without_tokens = place.tokens == 0;
-            if without_tokens && !ranked[place.to.index as usize] {
+            if place.tokens == 0 && !ranked[place.to.index as usize] {
                 return Some(exit);
             }
             *passed += 1;
