@@ -33,5 +33,6 @@ NoneIsExit net ranked t ids passed =
 -- the places that leave each transition, of which so many at the end of each list are passed over: they are no exits
 pub record AreExitsLeft (net : NetLists) (ranked : List Bool) (lists : List (List PlaceId)) (passed : List ℕ) : Type 0 where
   pub leaving : ArePlacesOf net From lists
+  pub count_ranked : length ranked ≡ length net.transitions
   pub count : length passed ≡ length net.transitions
   pub no_exits : (t : ℕ) → NoneIsExit net ranked t (slice_index_or lists t []) (slice_index_or passed t 0)

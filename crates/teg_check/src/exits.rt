@@ -18,6 +18,7 @@ impl Exits {
     // The places of the net, none of which is passed over, whatever is ranked.
     pub(crate) fn new(alloc: Global, net: &Net) -> Result<Exits, OutOfMemory>
         ensures { IfOk result (λ exits. (ranked : List Bool)
+            → length ranked ≡ length net.now.transitions
             → AreExitsLeft net.now ranked exits.leaving exits.passed.items) }
     {
         let leaving = PlacesOf::new(alloc, net, PlaceEnd::From)?;
@@ -28,7 +29,6 @@ impl Exits {
     // The last place without tokens from the transition to one that has no rank. Those past it are
     // passed over.
     fn last_exit(&mut self, net: &Net, ranked: &[bool], transition: usize) -> Option<PlaceId>
-        requires count { length ranked.now ≡ length net.now.transitions }
         requires exits { AreExitsLeft net.now ranked.now self.old.leaving self.old.passed.items }
         requires transition { transition < length net.now.transitions }
         ensures exits { AreExitsLeft net.now ranked.now self.new.leaving self.new.passed.items }
@@ -53,7 +53,6 @@ impl Exits {
 
     // The first transition without a rank all of whose places without tokens lead to ranked ones.
     pub(crate) fn first_sink(&mut self, net: &Net, ranked: &[bool]) -> Option<usize>
-        requires count { length ranked.now ≡ length net.now.transitions }
         requires exits { AreExitsLeft net.now ranked.now self.old.leaving self.old.passed.items }
         ensures exits { AreExitsLeft net.now ranked.now self.new.leaving self.new.passed.items }
         ensures none { IfNone result (HaveExits net.now ranked.now) }
@@ -77,7 +76,6 @@ pub(crate) fn circuit_from(
     ranked: &[bool],
     start: usize,
 ) -> Result<Vec<PlaceId>, AllocError>
-    requires count { length ranked.now ≡ length net.now.transitions }
     requires exits { AreExitsLeft net.now ranked.now exits.old.leaving exits.old.passed.items }
     requires have { HaveExits net.now ranked.now }
     requires starts { IsUnranked ranked.now start }

@@ -1,5 +1,4 @@
-use Rattle.std.proofs.Common.{ℕ, ◌+◌, ◌-◌, ◌≡◌, List, [], Bool, true, get_or, set, Option, Some, None, subst, arith, rules}
-use Rattle.std.specs.Prelude.{IsSome, IfNone}
+use Rattle.std.proofs.Common.{ℕ, ◌+◌, ◌-◌, ◌≡◌, List, [], length, length-set, Bool, true, get_or, set, subst, ◌∙◌, arith, rules}
 use Rattle.std.proofs.lemmas.Grind.{common_steps}
 use Rattle.teg_net.specs.declared.entries.PlaceId.{PlaceId}
 use Rattle.teg_net.specs.Nets.{NetLists}
@@ -9,19 +8,17 @@ use Rattle.teg_check.proofs.Liveness.{ranking_is_live}
 use Rattle.teg_check.proofs.Ranking.{Ranked, ranked_more, ranking, some_unranked}
 use Rattle.teg_check.proofs.elimination.check.Goals as goal
 
-some_by : {A : Type 0} (o : Option A) {P : Type 0} → IfNone o P → (P → ⊥) → IsSome o
-some_by None h no' = absurd (no' h)
-some_by (Some x) h no' = search rules
-
 pub unwrap-start-requires : goal.unwrap-start-requires
 unwrap-start-requires c =
     let h = c.loop-rank.invariant.0 in
-    let first = c.loop-rank-test.true in
-    some_by c.first_unranked.result c.first_unranked.ensures.none
-    (rw c.deref-in_default.ensures.value (some_unranked c.loop-rank.ranked.items (omega (arith, h.left, h.count_ranked))))
+    let some = some_unranked c.loop-rank.ranked.items (omega (arith, c.loop-rank-test.true, h.left, h.count_ranked)) in
+    let none = rw c.deref-in_default.ensures.value at c.first_unranked.ensures.none in
+    search rules
 
 pub loop-rank-init : goal.loop-rank-init
-loop-rank-init c = (grind (arith, common_steps), c.in_ok-exits.ensures c.in_ok-ranked.ranked.items)
+loop-rank-init c =
+    let h : Ranked c.args.net.now c.in_ok-ranks.ranks.items c.in_ok-ranked.ranked.items (length c.transitions-count.result.now) = grind (arith, common_steps) in
+    (h, c.in_ok-exits.ensures c.in_ok-ranked.ranked.items h.count_ranked)
 
 -- what is unranked still was so before
 still : (ranked : List Bool) (t s : ℕ) → IsUnranked (set ranked t true) s → IsUnranked ranked s
@@ -33,6 +30,7 @@ sink_ranked :
     → AreExitsLeft net ranked lists passed → AreExitsLeft net (set ranked t true) lists passed
 sink_ranked net ranked lists passed t h = record {
   leaving = h.leaving;
+  count_ranked = length-set ranked t true ∙ h.count_ranked;
   count = h.count;
   no_exits = λ s i d l m x.
       h.no_exits s i d l m (record {
