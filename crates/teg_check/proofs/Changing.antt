@@ -1,6 +1,6 @@
 -- What a change of one number of a net leaves of its ranks, and a change of tokens taken back.
-use Rattle.std.proofs.Common.{ℕ, ◌<◌, ◌≤◌, ◌≡◌, List, length, get_or, set, refl, sym, ap, ◌∙◌}
-use Rattle.std.specs.Prelude.{All, slice_index}
+use Rattle.std.proofs.Common.{ℕ, ◌<◌, ◌≡◌, List, length, set, sym, ap, ◌∙◌}
+use Rattle.std.specs.Prelude.{slice_index}
 use Rattle.std.proofs.Common.{subst}
 use Rattle.std.proofs.lemmas.List.Elements.{All-set}
 use Rattle.std.proofs.lemmas.List.{get_or-set_same, set-set, set-get_or}

@@ -1,5 +1,4 @@
 pub mod Liveness
-pub mod ExitLaws
 pub mod Trail
 pub mod Ranking
 pub mod Changing

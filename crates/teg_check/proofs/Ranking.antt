@@ -32,7 +32,7 @@ pub record Ranked (net : NetLists) (ranks : List ℕ) (ranked : List Bool) (rank
 not_unranked : (ranked : List Bool) (t : ℕ) → (IsUnranked ranked t → ⊥) → IsDone ranked t
 not_unranked ranked t h = ⊎_elim (λ e. e) (λ e. absurd (h e)) (cases_Bool (get_or ranked t true))
 
-unranked_in : (ranked : List Bool) (t : ℕ) → IsUnranked ranked t → t < length ranked
+pub unranked_in : (ranked : List Bool) (t : ℕ) → IsUnranked ranked t → t < length ranked
 unranked_in ranked t f = ⊎_elim (λ l. l) (λ (p : length ranked ≤ t). let e = get_or_past ranked t true p in cc) (cases_lt t (length ranked))
 
 -- a ranked transition is not an unranked one
@@ -64,7 +64,7 @@ ranked_more net ranks ranked rank t ok h unranked no_exit =
           let to_in : to < length ranks = omega (arith, (ok.each_place k no_place l).to_in, h.count_ranks) in
           ⊎_elim
           (λ (q : from ≡ t).
-          let to_done : IsDone ranked to = not_unranked ranked to (λ f. no_exit (record { index = k }) (record { leaves = record { in_range = l; begins = q; no_tokens = z }; ends_unranked = f })) in
+          let to_done : IsDone ranked to = not_unranked ranked to (λ f. no_exit (record { index = k }) (record { in_range = l; begins = q; no_tokens = z; ends_unranked = f })) in
           let high = h.above to to_in to_done in
           let a : get_or (set ranks t rank) from 0 ≡ rank = ap (λ x. get_or (set ranks t rank) x 0) q ∙ mine in
           (kept to to_done, omega (arith, a, same_rank to to_done, high)))

@@ -1,60 +1,38 @@
 -- Working definitions of the elimination: the exits of transitions towards those without a rank.
-use Rattle.std.specs.Prelude.{ℕ, ◌<◌, ◌≤◌, ◌≡◌, ◌≢◌, List, length, Option, Some, None, slice_index_or, Bool, true, false}
+use Rattle.std.specs.Prelude.{ℕ, ◌+◌, ◌<◌, ◌≤◌, ◌≡◌, List, [], length, slice_index_or, Bool, true, false}
 use Rattle.teg_net.specs.declared.entries.PlaceId.{PlaceId}
+use Rattle.teg_net.specs.declared.places_of.PlaceEnd.TheVariants.{From}
 use Rattle.teg_net.specs.Nets.{NetLists}
 use Rattle.teg_net.specs.Circuits.{place_at, from_of}
+use Rattle.teg_net.specs.PlaceLists.{ArePlacesOf}
 
 -- the transition of this number has no rank yet
 abbrev pub IsUnranked : List Bool → ℕ → Type 0
 IsUnranked ranked t = slice_index_or ranked t true ≡ false
 
--- a place without tokens that leaves this transition
-pub record Leaves (net : NetLists) (from : ℕ) (id : PlaceId) : Type 0 where
+-- a place without tokens from this transition to one without a rank
+pub record IsExit (net : NetLists) (ranked : List Bool) (from : ℕ) (id : PlaceId) : Type 0 where
   pub in_range : id.index < length net.places
   pub begins : from_of net id ≡ from
   pub no_tokens : (place_at net id).tokens ≡ 0
-
--- a place without tokens from this transition to one without a rank
-pub record IsExit (net : NetLists) (ranked : List Bool) (from : ℕ) (id : PlaceId) : Type 0 where
-  pub leaves : Leaves net from id
   pub ends_unranked : IsUnranked ranked (place_at net id).to.index
 
--- the place is the one that is told, or stands before it
-abbrev pub IsExitUpTo : Option PlaceId → PlaceId → Type 0
-IsExitUpTo None id = ⊥
-IsExitUpTo (Some last) id = id.index ≤ last.index
-
--- of each place without tokens the one before it that leaves the same transition
-pub record AreBefore (net : NetLists) (before : List (Option PlaceId)) : Type 0 where
-  pub count : length before ≡ length net.places
-  pub sound : (id b : PlaceId) → slice_index_or before id.index None ≡ Some b → Leaves net (from_of net id) b
-  pub lower : (id b : PlaceId) → slice_index_or before id.index None ≡ Some b → b.index < id.index
-  pub complete : (id q : PlaceId) → Leaves net (from_of net id) id → Leaves net (from_of net id) q → q.index < id.index → IsExitUpTo (slice_index_or before id.index None) q
-
--- of each transition the last place without tokens that leaves it
-pub record AreAllExits (net : NetLists) (last before : List (Option PlaceId)) : Type 0 where
-  pub count : length last ≡ length net.transitions
-  pub links : AreBefore net before
-  pub sound : (t : ℕ) (id : PlaceId) → slice_index_or last t None ≡ Some id → Leaves net t id
-  pub complete : (t : ℕ) (id : PlaceId) → Leaves net t id → IsExitUpTo (slice_index_or last t None) id
-
--- of each transition a place without tokens that leaves it, past which none leads to one without a rank; ranked ones have none
-pub record AreExitsLeft (net : NetLists) (ranked : List Bool) (last before : List (Option PlaceId)) : Type 0 where
-  pub count : length last ≡ length net.transitions
-  pub links : AreBefore net before
-  pub sound : (t : ℕ) (id : PlaceId) → slice_index_or last t None ≡ Some id → Leaves net t id
-  pub complete : (t : ℕ) (id : PlaceId) → IsExit net ranked t id → IsExitUpTo (slice_index_or last t None) id
-  pub unranked : (t : ℕ) → slice_index_or last t None ≢ None → IsUnranked ranked t
+-- no place is an exit of this transition
+abbrev pub HasNoExit : NetLists → List Bool → ℕ → Type 0
+HasNoExit net ranked t = (id : PlaceId) → IsExit net ranked t id → ⊥
 
 -- each transition without a rank has an exit
-abbrev pub HaveExits : NetLists → List Bool → List (Option PlaceId) → Type 0
-HaveExits net ranked last = (t : ℕ) → IsUnranked ranked t → (id : PlaceId) × (slice_index_or last t None ≡ Some id) × IsExit net ranked t id
+abbrev pub HaveExits : NetLists → List Bool → Type 0
+HaveExits net ranked = (t : ℕ) → IsUnranked ranked t → HasNoExit net ranked t → ⊥
 
--- a place without tokens from this transition to one that has an exit
-pub record LeadsToExit (net : NetLists) (exits : List (Option PlaceId)) (from : ℕ) (id : PlaceId) : Type 0 where
-  pub leaves : Leaves net from id
-  pub goes_on : slice_index_or exits (place_at net id).to.index None ≢ None
+-- so many places at the end of a list of those that leave the transition are no exits of it
+abbrev pub NoneIsExit : NetLists → List Bool → ℕ → List PlaceId → ℕ → Type 0
+NoneIsExit net ranked t ids passed =
+    (i : ℕ) (d : PlaceId) → i < length ids → length ids ≤ i + passed → IsExit net ranked t (slice_index_or ids i d) → ⊥
 
--- the exits lead on from transition to transition without end
-abbrev pub ExitsGoOn : NetLists → List (Option PlaceId) → Type 0
-ExitsGoOn net exits = (t : ℕ) (id : PlaceId) → slice_index_or exits t None ≡ Some id → LeadsToExit net exits t id
+-- the places that leave each transition, of which so many at the end of each list are passed over: they are no exits
+pub record AreExitsLeft (net : NetLists) (ranked : List Bool) (lists : List (List PlaceId)) (passed : List ℕ) : Type 0 where
+  pub leaving : ArePlacesOf net From lists
+  pub count_ranked : length ranked ≡ length net.transitions
+  pub count : length passed ≡ length net.transitions
+  pub no_exits : (t : ℕ) → NoneIsExit net ranked t (slice_index_or lists t []) (slice_index_or passed t 0)

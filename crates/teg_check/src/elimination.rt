@@ -45,7 +45,7 @@ pub fn check(alloc: Global, net: &Net) -> Result<Live, CheckRefusal>
             ranked[sink] = true;
         } else {
             let start = first_unranked(&ranked).unwrap();
-            let places = circuit_from(alloc, net, &exits.last, start)?;
+            let places = circuit_from(alloc, net, &mut exits, &ranked, start)?;
             let mut circuit = Circuit { places };
             circuit.begin_lowest(net);
             return Err(CheckRefusal::TokenFree { circuit });

@@ -1,78 +1,67 @@
 //! Exits of transitions towards those that have no rank yet, and the circuit that they close.
-ghost use Rattle.std.specs.Prelude.{◌≡◌, ◌≢◌, ◌<◌, length, IfOk, IfSome, IfNone, slice_index_or, None};
-ghost use Rattle.teg_net.specs.declared.entries.PlaceId.{PlaceId};
+ghost use Rattle.std.specs.Prelude.{◌≡◌, ◌<◌, length, List, Bool, IfOk, IfSome, IfNone};
 ghost use Rattle.teg_net.specs.Circuits.{IsCircuit, tokens_of};
-ghost use Rattle.teg_check.specs.Exits.{IsUnranked, IsExit, IsExitUpTo, AreAllExits, AreExitsLeft, HaveExits, ExitsGoOn};
+ghost use Rattle.teg_check.specs.Exits.{IsUnranked, IsExit, HasNoExit, HaveExits, AreExitsLeft};
 
 use std::alloc::{AllocError, Global};
-use teg_net::{Net, PlaceId};
+use teg_net::{Net, OutOfMemory, PlaceEnd, PlaceId, PlacesOf, TransitionId};
 
-// The places without tokens by the transition that they leave: of each transition the last that may
-// lead to one without a rank, and of each such place the one before it.
+// The places that leave each transition, and how many at the end of each list are passed over for
+// good: they have tokens, or lead to transitions with a rank.
 #[derive(Debug, Drop)]
 pub(crate) struct Exits {
-    pub(crate) last: Vec<Option<PlaceId>>,
-    before: Vec<Option<PlaceId>>,
+    leaving: PlacesOf,
+    passed: Vec<usize>,
 }
 
 impl Exits {
-    // The places without tokens, none of which is passed over.
-    pub(crate) fn new(alloc: Global, net: &Net) -> Result<Exits, AllocError>
-        ensures { IfOk result (λ exits. AreAllExits net.now exits.last.items exits.before.items) }
+    // The places of the net, none of which is passed over, whatever is ranked.
+    pub(crate) fn new(alloc: Global, net: &Net) -> Result<Exits, OutOfMemory>
+        ensures { IfOk result (λ exits. (ranked : List Bool)
+            → length ranked ≡ length net.now.transitions
+            → AreExitsLeft net.now ranked exits.leaving exits.passed.items) }
     {
-        let mut last = vec![in alloc; None; net.transitions().len()]?;
-        let mut before = vec![in alloc; None; net.places().len()]?;
-        for (index, place) in net.places().iter().enumerate() {
-            let without_tokens = place.tokens == 0;
-            if without_tokens {
-                let from = place.from.index as usize;
-                before[index] = last[from];
-                last[from] = Some(PlaceId {
-                    index: index as u32,
-                });
-            }
-        }
-        Ok(Exits { last, before })
+        let leaving = PlacesOf::new(alloc, net, PlaceEnd::From)?;
+        let passed = vec![in alloc; 0; net.transitions().len()]?;
+        Ok(Exits { leaving, passed })
     }
 
-    // The last place without tokens from the transition to one that has no rank.
-    fn last_exit(&self, net: &Net, ranked: &[bool], transition: usize) -> Option<PlaceId>
-        requires count { length ranked.now ≡ length net.now.transitions }
-        requires exits { AreExitsLeft net.now ranked.now self.now.last.items self.now.before.items }
+    // The last place without tokens from the transition to one that has no rank. Those past it are
+    // passed over.
+    fn last_exit(&mut self, net: &Net, ranked: &[bool], transition: usize) -> Option<PlaceId>
+        requires exits { AreExitsLeft net.now ranked.now self.old.leaving self.old.passed.items }
         requires transition { transition < length net.now.transitions }
+        ensures exits { AreExitsLeft net.now ranked.now self.new.leaving self.new.passed.items }
         ensures exit { IfSome result (IsExit net.now ranked.now transition) }
-        ensures last { (id : PlaceId) → IsExit net.now ranked.now transition id → IsExitUpTo result
-            id }
+        ensures none { IfNone result (HasNoExit net.now ranked.now transition) }
     {
-        let places = net.places();
-        let mut exit = self.last[transition];
-        'back: while let Some(id) = exit {
-            let place = &places[id.index as usize];
-            if !ranked[place.to.index as usize] {
-                return exit;
+        net.rules();
+        let places = self.leaving.of(TransitionId {
+            index: transition as u32,
+        });
+        let passed = &mut self.passed[transition];
+        'back: while *passed < places.len() {
+            let exit = places[places.len() - 1 - *passed];
+            let place = net.place(exit);
+            if place.tokens == 0 && !ranked[place.to.index as usize] {
+                return Some(exit);
             }
-            exit = self.before[id.index as usize];
+            *passed += 1;
         }
         None
     }
 
     // The first transition without a rank all of whose places without tokens lead to ranked ones.
-    // The places that do are passed over for good.
     pub(crate) fn first_sink(&mut self, net: &Net, ranked: &[bool]) -> Option<usize>
-        requires count { length ranked.now ≡ length net.now.transitions }
-        requires exits { AreExitsLeft net.now ranked.now self.old.last.items self.old.before.items }
-        ensures exits { AreExitsLeft net.now ranked.now self.new.last.items self.new.before.items }
-        ensures none { IfNone result (HaveExits net.now ranked.now self.new.last.items) }
-        ensures unranked { IfSome result (λ t. IsUnranked ranked.now t) }
-        ensures no_exit { IfSome result (λ t. slice_index_or self.new.last.items t None ≡ None) }
+        requires exits { AreExitsLeft net.now ranked.now self.old.leaving self.old.passed.items }
+        ensures exits { AreExitsLeft net.now ranked.now self.new.leaving self.new.passed.items }
+        ensures none { IfNone result (HaveExits net.now ranked.now) }
+        ensures unranked { IfSome result (IsUnranked ranked.now) }
+        ensures no_exit { IfSome result (HasNoExit net.now ranked.now) }
     {
         for (t, is_ranked) in ranked.iter().enumerate() {
-            if !*is_ranked {
-                let exit = self.last_exit(net, ranked, t);
-                self.last[t] = exit;
-                if exit.is_none() {
-                    return Some(t);
-                }
+            if !*is_ranked && self.last_exit(net, ranked, t).is_none() {
+                return Some(t);
             }
         }
         None
@@ -83,23 +72,24 @@ impl Exits {
 pub(crate) fn circuit_from(
     alloc: Global,
     net: &Net,
-    exits: &[Option<PlaceId>],
+    exits: &mut Exits,
+    ranked: &[bool],
     start: usize,
 ) -> Result<Vec<PlaceId>, AllocError>
-    requires goes_on { ExitsGoOn net.now exits.now }
-    requires starts { slice_index_or exits.now start None ≢ None }
+    requires exits { AreExitsLeft net.now ranked.now exits.old.leaving exits.old.passed.items }
+    requires have { HaveExits net.now ranked.now }
+    requires starts { IsUnranked ranked.now start }
     ensures circuit { IfOk result (λ ps. IsCircuit net.now ps.items) }
     ensures no_tokens { IfOk result (λ ps. tokens_of net.now ps.items ≡ 0) }
 {
-    let places = net.places();
-    let mut left: Vec<Option<usize>> = vec![in alloc; None; exits.len()]?;
+    let mut left: Vec<Option<usize>> = vec![in alloc; None; ranked.len()]?;
     let mut trail = Vec::new(alloc);
     let mut at = start;
     'walk: while left[at].is_none() {
         left[at] = Some(trail.len());
-        let exit = exits[at].unwrap();
+        let exit = exits.last_exit(net, ranked, at).unwrap();
         trail.push(exit)?;
-        at = places[exit.index as usize].to.index as usize;
+        at = net.place(exit).to.index as usize;
     }
     let first = left[at].unwrap();
     trail.split_off(first)

@@ -25,6 +25,14 @@ impl From<AllocError> for CheckRefusal {
     }
 }
 
+impl From<teg_net::OutOfMemory> for CheckRefusal {
+    ghost from_gives = { λ _ e. e ≡ OutOfMemory };
+
+    fn from(_error: teg_net::OutOfMemory) -> CheckRefusal {
+        CheckRefusal::OutOfMemory
+    }
+}
+
 impl fmt::Display for CheckRefusal {
     fn fmt<W: fmt::Write>(&self, f: &mut fmt::Formatter<W>) -> fmt::Result {
         match self {

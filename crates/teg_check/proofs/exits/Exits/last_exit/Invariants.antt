@@ -1,12 +1,11 @@
-use Rattle.std.proofs.Common.{◌≡◌, Some}
-use Rattle.teg_net.specs.declared.entries.PlaceId.{PlaceId}
-use Rattle.teg_check.specs.Exits.{Leaves, IsExit, IsExitUpTo}
-use Rattle.teg_check.proofs.ExitLaws.{place_count}
+use Rattle.std.proofs.Common.{◌-◌, length}
+use Rattle.teg_net.specs.declared.places_of.PlaceEnd.TheVariants.{From}
+use Rattle.teg_net.specs.PlaceLists.{ListsPlacesAt}
+use Rattle.teg_check.specs.Exits.{NoneIsExit}
 use Rattle.teg_check.proofs.exits.Exits.last_exit.Given as goal
 
 abbrev pub invariant-back : goal.invariant-back
-invariant-back l =
-    ((id : PlaceId) → l.exit ≡ Some id → Leaves l.net l.transition id) × ((id : PlaceId) → IsExit l.net l.ranked l.transition id → IsExitUpTo l.exit id)
+invariant-back l = ListsPlacesAt l.net From l.transition l.places × NoneIsExit l.net l.ranked l.transition l.places l.passed
 
 abbrev pub decreases-back : goal.decreases-back
-decreases-back l = place_count l.exit
+decreases-back l = length l.places - l.passed

@@ -1,4 +1,4 @@
-use Rattle.std.proofs.Common.{◌<◌, ◌≡◌, length, subst, sym, ap, ◌∙◌}
+use Rattle.std.proofs.Common.{◌<◌, length, subst, sym, ap, ◌∙◌}
 use Rattle.teg_net.specs.Changes.{MayHaveTokens, with_tokens}
 use Rattle.teg_net.specs.Circuits.{place_at}
 use Rattle.teg_check.proofs.Changing.{tokens_go_back, tokens_may_go_back}
