@@ -5,7 +5,7 @@ ghost use Rattle.teg_net.specs.Certificates.{IsPartCertificate, IsCertificate};
 ghost use Rattle.teg_certificates.specs.Checks.{AreNumbersOf, HasRatio, FitsBest, ArePartCertificates, FitsLists};
 
 use crate::first_best::is_first_best;
-use crate::inner_places::{all_inner, has_no_place};
+use crate::inner_places::{Part, all_inner, has_no_place};
 use crate::potentials::potentials_fit;
 use crate::sums::attains;
 use teg_net::{CycleAnswer, Net, PartAnswer, Place, PlaceId, Potential, Ratio, is_circuit};
@@ -57,11 +57,11 @@ pub(crate) fn is_within(ratio: Ratio) -> bool
 }
 
 // Whether the places are a circuit in the part that has the ratio.
-fn has_ratio(net: &Net, part_of: &[u32], part: usize, ratio: Ratio, places: &[PlaceId]) -> bool
-    requires { length part_of.now ≡ length net.now.transitions }
-    ensures { IsTrue result ↔ HasRatio net.now part_of.now part ratio places.now }
+fn has_ratio(part: &Part, ratio: Ratio, places: &[PlaceId]) -> bool
+    ensures { IsTrue result ↔ HasRatio part.now.net.now part.now.part_of.now part.now.number
+        ratio places.now }
 {
-    is_circuit(net, places) && all_inner(net, part_of, part, places) && attains(net, ratio, places)
+    is_circuit(part.net, places) && all_inner(part, places) && attains(part.net, ratio, places)
 }
 
 // What is told of a part with a circuit.
@@ -73,24 +73,23 @@ struct BestTold<'a> {
 }
 
 // Whether ratio, circuit and potentials are a certificate of the part.
-fn best_fits(net: &Net, part_of: &[u32], part: usize, told: &BestTold) -> bool
-    requires { length part_of.now ≡ length net.now.transitions }
-    ensures fits { IsTrue result ↔ FitsBest net.now part_of.now part told.now.ratio
-        told.now.circuit.now told.now.potentials.now }
+fn best_fits(part: &Part, told: &BestTold) -> bool
+    ensures fits { IsTrue result ↔ FitsBest part.now.net.now part.now.part_of.now part.now.number
+        told.now.ratio told.now.circuit.now told.now.potentials.now }
     ensures terms { IsLowestTerms told.now.ratio }
 {
     is_within(told.ratio)
-        && has_ratio(net, part_of, part, told.ratio, told.circuit)
-        && potentials_fit(net, part_of, part, told.ratio, told.potentials)
+        && has_ratio(part, told.ratio, told.circuit)
+        && potentials_fit(part, told.ratio, told.potentials)
 }
 
 // Whether the answer is a certificate of the part.
-fn part_fits(net: &Net, part_of: &[u32], part: usize, answer: &PartAnswer) -> bool
-    requires { length part_of.now ≡ length net.now.transitions }
-    ensures { IsTrue result ↔ IsPartCertificate net.now part_of.now part answer.now }
+fn part_fits(part: &Part, answer: &PartAnswer) -> bool
+    ensures { IsTrue result ↔ IsPartCertificate part.now.net.now part.now.part_of.now
+        part.now.number answer.now }
 {
     match answer {
-        PartAnswer::NoCircuit => has_no_place(net, part_of, part),
+        PartAnswer::NoCircuit => has_no_place(part),
         PartAnswer::Best {
             ratio,
             circuit,
@@ -101,7 +100,7 @@ fn part_fits(net: &Net, part_of: &[u32], part: usize, answer: &PartAnswer) -> bo
                 circuit: &circuit.places,
                 potentials,
             };
-            best_fits(net, part_of, part, &told)
+            best_fits(part, &told)
         }
     }
 }
@@ -111,8 +110,13 @@ fn parts_fit(net: &Net, part_of: &[u32], answers: &[PartAnswer]) -> bool
     requires { length part_of.now ≡ length net.now.transitions }
     ensures { IsTrue result ↔ ArePartCertificates net.now part_of.now answers.now }
 {
-    for (index, answer) in answers.iter().enumerate() {
-        if !part_fits(net, part_of, index, answer) {
+    for (number, answer) in answers.iter().enumerate() {
+        let part = Part {
+            net,
+            part_of,
+            number,
+        };
+        if !part_fits(&part, answer) {
             return false;
         }
     }

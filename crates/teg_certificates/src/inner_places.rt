@@ -1,9 +1,18 @@
-//! Which places have both ends in a part, by the numbers of an answer.
+//! A part of a net by the numbers of an answer, and which places have both ends in it.
 ghost use Rattle.std.specs.Prelude.{◌≡◌, ◌↔◌, ◌<◌, All, IsTrue, length};
 ghost use Rattle.teg_net.specs.declared.entries.PlaceId.{PlaceId};
 ghost use Rattle.teg_net.specs.Parts.{IsMember, IsPlaceOfPart};
 
 use teg_net::{Net, Place, PlaceId};
+
+// A part of a net: the net, the number of each transition's part, and that of this one.
+#[derive(Drop)]
+pub(crate) struct Part<'a> {
+    pub(crate) net: &'a Net,
+    pub(crate) part_of: &'a [u32],
+    pub(crate) number: usize,
+    ghost count: { length part_of.now ≡ length net.now.transitions },
+}
 
 // Whether both ends of the place lie in the part.
 pub(crate) fn is_inner(part_of: &[u32], part: usize, place: &Place) -> bool
@@ -17,12 +26,12 @@ pub(crate) fn is_inner(part_of: &[u32], part: usize, place: &Place) -> bool
 }
 
 // Whether no place has both ends in the part.
-pub(crate) fn has_no_place(net: &Net, part_of: &[u32], part: usize) -> bool
-    requires { length part_of.now ≡ length net.now.transitions }
-    ensures { IsTrue result ↔ ((p : PlaceId) → IsPlaceOfPart net.now part_of.now part p → ⊥) }
+pub(crate) fn has_no_place(part: &Part) -> bool
+    ensures { IsTrue result ↔ ((p : PlaceId) → IsPlaceOfPart part.now.net.now part.now.part_of.now
+        part.now.number p → ⊥) }
 {
-    for place in net.places() {
-        if is_inner(part_of, part, place) {
+    for place in part.net.places() {
+        if is_inner(part.part_of, part.number, place) {
             return false;
         }
     }
@@ -30,24 +39,22 @@ pub(crate) fn has_no_place(net: &Net, part_of: &[u32], part: usize) -> bool
 }
 
 // Whether the number is that of a place with both ends in the part.
-fn is_place_of_part(net: &Net, part_of: &[u32], part: usize, id: PlaceId) -> bool
-    requires { length part_of.now ≡ length net.now.transitions }
-    ensures { IsTrue result ↔ IsPlaceOfPart net.now part_of.now part id }
+fn is_place_of_part(part: &Part, id: PlaceId) -> bool
+    ensures { IsTrue result ↔ IsPlaceOfPart part.now.net.now part.now.part_of.now
+        part.now.number id }
 {
-    let own = net.places();
+    let own = part.net.places();
     let index = id.index as usize;
     if own.len() <= index {
         return false;
     }
-    is_inner(part_of, part, &own[index])
+    is_inner(part.part_of, part.number, &own[index])
 }
 
 // Whether each number is that of a place with both ends in the part.
-pub(crate) fn all_inner(net: &Net, part_of: &[u32], part: usize, places: &[PlaceId]) -> bool
-    requires { length part_of.now ≡ length net.now.transitions }
-    ensures { IsTrue result ↔ All (IsPlaceOfPart net.now part_of.now part) places.now }
+pub(crate) fn all_inner(part: &Part, places: &[PlaceId]) -> bool
+    ensures { IsTrue result ↔ All (IsPlaceOfPart part.now.net.now part.now.part_of.now
+        part.now.number) places.now }
 {
-    places
-        .iter()
-        .all(|id| is_place_of_part(net, part_of, part, *id))
+    places.iter().all(|id| is_place_of_part(part, *id))
 }

@@ -7,8 +7,8 @@ ghost use Rattle.teg_net.specs.Certificates.{potential_at, ArePotentials};
 ghost use Rattle.teg_net.specs.Ratios.{IsRatioWithin};
 ghost use Rattle.teg_certificates.specs.Checks.{HasPotentialTold, TellsMembers, KeepsPotential, FitsPotentials};
 
-use crate::inner_places::is_inner;
-use teg_net::{Net, Place, Potential, Ratio};
+use crate::inner_places::{Part, is_inner};
+use teg_net::{Place, Potential, Ratio};
 
 // The greatest magnitude of a potential in an answer that is checked.
 pub(crate) const GREATEST_CHECKED_POTENTIAL: i128 = 1_000_000_000_000_000_000;
@@ -163,21 +163,15 @@ fn keeps_potential(
 }
 
 // Whether no place of the part lifts its end above the potential there.
-fn all_keep_potentials(
-    net: &Net,
-    part_of: &[u32],
-    part: usize,
-    ratio: Ratio,
-    potentials: &[Potential],
-) -> bool
-    requires count { length part_of.now ≡ length net.now.transitions }
+fn all_keep_potentials(part: &Part, ratio: Ratio, potentials: &[Potential]) -> bool
     requires limits { IsRatioWithin ratio }
     requires within { All (λ v. IsMagnitudeWithin greatest_checked_potential v.value)
         potentials.now }
-    ensures { IsTrue result ↔ ArePotentials net.now part_of.now part ratio potentials.now }
+    ensures { IsTrue result ↔ ArePotentials part.now.net.now part.now.part_of.now
+        part.now.number ratio potentials.now }
 {
-    for place in net.places() {
-        if !keeps_potential(part_of, part, ratio, potentials, place) {
+    for place in part.net.places() {
+        if !keeps_potential(part.part_of, part.number, ratio, potentials, place) {
             return false;
         }
     }
@@ -186,18 +180,12 @@ fn all_keep_potentials(
 
 // Whether the potentials are those of the part's members, within limits, and no place of the part
 // exceeds them.
-pub(crate) fn potentials_fit(
-    net: &Net,
-    part_of: &[u32],
-    part: usize,
-    ratio: Ratio,
-    potentials: &[Potential],
-) -> bool
-    requires count { length part_of.now ≡ length net.now.transitions }
-    requires limits { IsRatioWithin ratio }
-    ensures { IsTrue result ↔ FitsPotentials net.now part_of.now part ratio potentials.now }
+pub(crate) fn potentials_fit(part: &Part, ratio: Ratio, potentials: &[Potential]) -> bool
+    requires { IsRatioWithin ratio }
+    ensures { IsTrue result ↔ FitsPotentials part.now.net.now part.now.part_of.now
+        part.now.number ratio potentials.now }
 {
-    tells_members(part_of, part, potentials)
+    tells_members(part.part_of, part.number, potentials)
         && all_within(potentials)
-        && all_keep_potentials(net, part_of, part, ratio, potentials)
+        && all_keep_potentials(part, ratio, potentials)
 }

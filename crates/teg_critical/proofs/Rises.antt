@@ -6,7 +6,7 @@ use Rattle.std.proofs.Math.Nat.{mul-le-mul_right}
 use Rattle.teg_net.specs.declared.entries.PlaceId.{PlaceId}
 use Rattle.teg_net.specs.Nets.{NetLists}
 use Rattle.teg_net.specs.Ratios.{Fraction}
-use Rattle.teg_net.specs.Circuits.{IsCircuit, time_of, tokens_of}
+use Rattle.teg_net.specs.Circuits.{IsCircuit, time_of}
 use Rattle.teg_net.specs.GreatestRatios.{IsGreatestRatio, IsAnyPlace}
 use Rattle.teg_certificates.specs.SlackWitnesses.{IsAboveWhenRaised, MayRise}
 use Rattle.teg_critical.specs.Slacks.{raised}

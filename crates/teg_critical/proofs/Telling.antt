@@ -1,6 +1,6 @@
 -- What the least loss of the paths back tells of a place.
 use Rattle.std.proofs.Common.{ℕ, suc, ◌+◌, ◌-◌, ◌*◌, ◌/◌, ◌<◌, ◌≤◌, ◌≡◌, List, ◌∷◌, length, Option, Some, None, refl, sym, ap, subst, ◌∙◌, arith}
-use Rattle.std.specs.Prelude.{All}
+use Rattle.std.specs.Prelude.{All, IfNone, IfSome}
 use Rattle.std.proofs.lemmas.List.Sums.{sum_by-cons}
 use Rattle.std.proofs.Math.Nat.{mul-le-mul_left, mul-le-mul_right, le_of_mul-le-mul_left, mul-div_cancel_left}
 use Rattle.teg_net.specs.declared.entries.PlaceId.{PlaceId}
@@ -161,10 +161,14 @@ module _ (net : NetLists) (ok : IsNet net) (r : Fraction) (losses : List (Option
     gap_within = subst (IsGapWithin net r p) (sym quotient) (record { is = is_gap; low = gap_low })
 
   -- what the gap tells is the slack
-  pub tells_slack : (gap : ℕ) → IsGap net r p gap → (s : Slack) → IsSlackOfGap gap r s → IsSlackOf net r p s
-  tells_slack gap is NoCircuit h = absurd h
-  tells_slack gap is Critical h = (gaps_tell net r p gap can.greatest l is).critical.0 h
-  tells_slack gap is (Rise by) h =
+  pub tells_slack :
+      (gap : Option ℕ) → IfNone gap (IsOnCircuit net p → ⊥) → IfSome gap (IsGapWithin net r p)
+      → (s : Slack) → IsSlackOfGap gap r s → IsSlackOf net r p s
+  tells_slack None none some s h = subst (IsSlackOf net r p) (sym h) none
+  tells_slack (Some gap) none some NoCircuit h = absurd h
+  tells_slack (Some gap) none some Critical h = (gaps_tell net r p gap can.greatest l some.is).critical.0 h
+  tells_slack (Some gap) none some (Rise by) h =
+      let is : IsGap net r p gap = some.is in
       let tells : GapTells net r p gap = gaps_tell net r p gap can.greatest l is in (
         (pass_back net p l).1 (is.attained.0, is.attained.1),
         λ c. (let some = h.0 in let none = tells.critical.1 c in omega arith),

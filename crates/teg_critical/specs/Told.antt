@@ -1,5 +1,5 @@
 -- Working definitions of how each place is told its slack.
-use Rattle.std.specs.Prelude.{ℕ, ◌/◌, ◌<◌, ◌≤◌, ◌≡◌, List, length, Option, slice_index_or, replicate, All}
+use Rattle.std.specs.Prelude.{ℕ, ◌/◌, ◌<◌, ◌≤◌, ◌≡◌, List, length, Option, None, Some, slice_index_or, replicate, All}
 use Rattle.teg_net.specs.declared.entries.PlaceId.{PlaceId}
 use Rattle.teg_net.specs.declared.answers.CycleAnswer.{CycleAnswer}
 use Rattle.teg_net.specs.Nets.{NetLists, IsNet}
@@ -20,11 +20,12 @@ pub record IsGapWithin (net : NetLists) (r : Fraction) (p : PlaceId) (gap : ℕ)
   pub is : IsGap net r p gap
   pub low : gap ≤ most_gap
 
--- the slack that a gap tells
-abbrev pub IsSlackOfGap : ℕ → Fraction → Slack → Type 0
-IsSlackOfGap gap r NoCircuit = ⊥
-IsSlackOfGap gap r Critical = gap ≡ 0
-IsSlackOfGap gap r (Rise by) = (0 < gap) × (by ≡ gap / r.tokens)
+-- the slack that a gap tells, and no circuit where there is none
+abbrev pub IsSlackOfGap : Option ℕ → Fraction → Slack → Type 0
+IsSlackOfGap None r s = s ≡ NoCircuit
+IsSlackOfGap (Some gap) r NoCircuit = ⊥
+IsSlackOfGap (Some gap) r Critical = gap ≡ 0
+IsSlackOfGap (Some gap) r (Rise by) = (0 < gap) × (by ≡ gap / r.tokens)
 
 -- the losses are those of a certified answer, against the greatest ratio of a live net
 pub record CanTellSlack (net : NetLists) (r : Fraction) (losses : List (Option Loss)) : Type 0 where

@@ -7,7 +7,7 @@ ghost use Rattle.teg_net.specs.GreatestRatios.{IsGreatestRatio, IsAnyPlace, HasN
 ghost use Rattle.teg_net.specs.Certificates.{IsCertificate};
 ghost use Rattle.teg_certificates.specs.BestRatios.{best_ratio_of};
 ghost use Rattle.teg_critical.specs.declared.slacks.Slack.TheVariants.{NoCircuit};
-ghost use Rattle.teg_critical.specs.Slacks.{IsOnCircuit, IsSlackOf, AreSlacks};
+ghost use Rattle.teg_critical.specs.Slacks.{IsOnCircuit, AreSlacks};
 ghost use Rattle.teg_critical.specs.LossEndings.{IsEnding};
 ghost use Rattle.teg_critical.specs.Losses.{LeavesGap};
 ghost use Rattle.teg_critical.specs.LeastLosses.{CanSearch, AreToldBack, IsToldBack};
@@ -54,31 +54,20 @@ pub(crate) fn gap_from(
     Some(gap_by(loss.amount + rest, loss.scale))
 }
 
-// The slack that a gap tells.
-fn slack_by(gap: u64, best: Ratio) -> Slack
+// The slack that a gap tells; no circuit where there is none.
+fn slack_by(gap: Option<u64>, best: Ratio) -> Slack
     requires { 1 ≤ best.tokens }
     ensures { IsSlackOfGap gap best result }
 {
+    let Some(gap) = gap else {
+        return Slack::NoCircuit;
+    };
     if gap == 0 {
         Slack::Critical
     } else {
         Slack::Rise {
             by: gap / best.tokens(),
         }
-    }
-}
-
-// The slack of a place, given the least that the paths back from its end to its start lose.
-fn slack_from(known: &NetLosses, best: Ratio, back: &[Option<u128>], ending: Ending) -> Slack
-    requires can { CanTellSlack known.now.net.now best known.now.losses.now }
-    requires ending { IsEnding known.now.net.now ending }
-    requires count { length back.now ≡ length known.now.net.now.transitions }
-    requires back { IsToldBack known.now.net.now known.now.losses.now back.now ending }
-    ensures { IsSlackOf known.now.net.now best ending.place result }
-{
-    match gap_from(known, best, back, ending) {
-        None => Slack::NoCircuit,
-        Some(gap) => slack_by(gap, best),
     }
 }
 
@@ -97,7 +86,8 @@ fn tell_places(
     ensures { AreToldMore known.now.net.now best endings.now slacks.old slacks.new }
 {
     for ending in endings {
-        slacks[ending.place.index as usize] = slack_from(known, best, back, *ending);
+        let gap = gap_from(known, best, back, *ending);
+        slacks[ending.place.index as usize] = slack_by(gap, best);
     }
 }
 

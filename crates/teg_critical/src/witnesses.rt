@@ -122,38 +122,6 @@ fn witness_by(alloc: Global, net: &Net, raised: &Raised) -> Result<SlackWitness,
     Ok(SlackWitness::Rise { rise })
 }
 
-// What the best circuit that passes the place lacks to the greatest ratio; none where none does.
-fn gap_of(
-    alloc: Global,
-    net: &Net,
-    answer: &CycleAnswer,
-    best: Ratio,
-    place: PlaceId,
-) -> Result<Option<u64>, OutOfMemory>
-    requires certificate { IsCertificate net.now answer.now }
-    requires live { IsLive net.now }
-    requires best { best_ratio_of answer.now ≡ Some best }
-    requires place { place.index < length net.now.places }
-    ensures none { IfOk result (λ gap. IfNone gap (IsOnCircuit net.now place → ⊥)) }
-    ensures some { IfOk result (λ gap. IfSome gap (IsGapWithin net.now best place)) }
-    ensures rules { IfOk result (λ _. IsNet net.now) }
-{
-    let losses = losses_of(alloc, net, answer, best)?;
-    let leaving = PlacesOf::new(alloc, net, PlaceEnd::From)?;
-    let known = NetLosses {
-        net,
-        losses: &losses,
-        leaving: &leaving,
-    };
-    let ending = Ending {
-        start: start_of(net, place),
-        end: end_of(net, place),
-        place,
-    };
-    let back = least_losses(alloc, &known, ending.end, &[ending])?;
-    Ok(gap_from(&known, best, &back, ending))
-}
-
 // What shows the slack of a place, at the greatest ratio.
 fn witness_at(
     alloc: Global,
@@ -168,7 +136,20 @@ fn witness_at(
     requires place { place.index < length net.now.places }
     ensures { IfOk result (IsWitnessAt net.now best place) }
 {
-    let Some(gap) = gap_of(alloc, net, answer, best, place)? else {
+    let losses = losses_of(alloc, net, answer, best)?;
+    let leaving = PlacesOf::new(alloc, net, PlaceEnd::From)?;
+    let known = NetLosses {
+        net,
+        losses: &losses,
+        leaving: &leaving,
+    };
+    let ending = Ending {
+        start: start_of(net, place),
+        end: end_of(net, place),
+        place,
+    };
+    let back = least_losses(alloc, &known, ending.end, &[ending])?;
+    let Some(gap) = gap_from(&known, best, &back, ending) else {
         let numbers = numbers_from(alloc, net, place)?;
         return Ok(SlackWitness::NoCircuit { numbers });
     };

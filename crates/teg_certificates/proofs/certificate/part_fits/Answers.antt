@@ -6,9 +6,9 @@ returns-in-NoCircuit c = rw c.in-NoCircuit.is c.has_no_place.ensures
 
 pub returns-in-Best : goal.returns-in-Best
 returns-in-Best c =
-    let net = c.args.net.now in
-    let part_of = c.args.part_of.now in
-    let part = c.args.part in
+    let net = c.args.part.now.net.now in
+    let part_of = c.args.part.now.part_of.now in
+    let part = c.args.part.now.number in
     let ratio = c.in-Best.ratio in
     let circuit = c.in-Best.circuit.places.items in
     let told = c.in-Best.potentials.items in

@@ -8,21 +8,21 @@ use Rattle.teg_certificates.proofs.inner_places.has_no_place.Goals as goal
 
 pub returns-then-is_inner : goal.returns-then-is_inner
 returns-then-is_inner c =
-    let net = c.args.net.now in
-    let part_of = c.args.part_of.now in
+    let net = c.args.part.now.net.now in
+    let part_of = c.args.part.now.part_of.now in
     let i = c.loop-place.place-index in
     let p : PlaceId = record { index = i } in
     let own_in = c.loop-place-test.true in
     let item : c.place-item.result ≡ place_at net p = rw c.places-place-items.ensures.value at (get_or_read c.places-place-items.result.now i c.place-item.result own_in c.place-item.is no_place) in
     let in_net : i < length net.places = rw c.places-place-items.ensures.value at own_in in
-    let both : IsMember part_of c.args.part (from_of net p) × IsMember part_of c.args.part (to_of net p) = rw item at (c.is_inner.ensures.0 c.if-is_inner.true) in
-    let inside : IsPlaceOfPart net part_of c.args.part p = record { in_range = in_net; from_member = both.0; to_member = both.1 } in
+    let both : IsMember part_of c.args.part.now.number (from_of net p) × IsMember part_of c.args.part.now.number (to_of net p) = rw item at (c.is_inner.ensures.0 c.if-is_inner.true) in
+    let inside : IsPlaceOfPart net part_of c.args.part.now.number p = record { in_range = in_net; from_member = both.0; to_member = both.1 } in
     (λ (e : false ≡ true). absurd (false≢true e), λ h. absurd (h p inside))
 
 pub loop-place-preserved : goal.loop-place-preserved
 loop-place-preserved c =
-    let net = c.args.net.now in
-    let part_of = c.args.part_of.now in
+    let net = c.args.part.now.net.now in
+    let part_of = c.args.part.now.part_of.now in
     let i = c.loop-place.place-index in
     let p : PlaceId = record { index = i } in
     let own_in = c.loop-place-test.true in
@@ -32,5 +32,5 @@ loop-place-preserved c =
 
 pub returns : goal.returns
 returns c =
-    let past : length c.args.net.now.places ≤ c.loop-place.place-index = rw c.places-place-items.ensures.value at c.loop-place-test.false in
+    let past : length c.args.part.now.net.now.places ≤ c.loop-place.place-index = rw c.places-place-items.ensures.value at c.loop-place-test.false in
     (λ t p q. let l = q.in_range in c.loop-place.invariant p.index (omega arith) q, λ h. refl)

@@ -4,4 +4,4 @@ use Rattle.teg_certificates.specs.Checks.{KeepsPotential}
 use Rattle.teg_certificates.proofs.potentials.all_keep_potentials.Given as goal
 
 abbrev pub invariant-loop-place : goal.invariant-loop-place
-invariant-loop-place l = (k : ℕ) → k < l.place-index → KeepsPotential l.part_of l.part l.ratio l.potentials (place_at l.net (record { index = k }))
+invariant-loop-place l = (k : ℕ) → k < l.place-index → KeepsPotential l.part.part_of.now l.part.number l.ratio l.potentials (place_at l.part.net.now (record { index = k }))

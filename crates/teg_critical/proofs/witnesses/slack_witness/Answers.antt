@@ -1,5 +1,5 @@
 use Rattle.std.proofs.Common.{sym, ◌∙◌}
-use Rattle.teg_critical.proofs.WitnessLaws.{witness_named, passes_none}
+use Rattle.teg_critical.proofs.WitnessLaws.{passes_none}
 use Rattle.teg_critical.proofs.witnesses.slack_witness.Goals as goal
 
 pub witness_at-requires-clause-best : goal.witness_at-requires-clause-best
