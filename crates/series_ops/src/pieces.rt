@@ -134,7 +134,7 @@ pub(crate) fn is_moved(first: Date, second: Date, step: i128) -> bool
     }
 }
 
-// The piece from a place on, of those that `most` places have room for.
+// The piece from a place on: so many turns as go on by one step, within `most` places.
 fn piece_from(first: &[Date], from: usize, most: usize, period: usize) -> Piece
     requires places { from + most ≤ length first.now }
     requires some { 0 < most }
