@@ -6,9 +6,6 @@ use Rattle.std.specs.Int.RustNames.{unsigned_abs}
 use Rattle.std.proofs.lemmas.Int.{ints, to_z-of_z, to_z_pos, fits_signed_from_abs, unsigned_abs-mul}
 use Rattle.std.proofs.lemmas.Nat.{mul-le, div-add-mod'}
 use Rattle.std.proofs.Math.Nat.{le-mul_of_pos_right}
-use Rattle.series_form.specs.NumberBounds.{IsWithinReach, IsModerateDate}
-use Rattle.dioid.specs.declared.dates.Date.{Date}
-use Rattle.dioid.specs.declared.dates.Date.TheVariants.{Early, At, Never}
 use Rattle.series_laws.specs.Periodic.{times}
 use Rattle.series_form.specs.SeriesLimits.{greatest_value, most_common_shifts, greatest_gain, greatest_moderate, greatest_reach}
 
@@ -56,7 +53,7 @@ product_abs m x h = rw (unsigned_abs-mul (pos m) x) h
 pub mul_fits : (m : ℕ) (x : ℤ) → m * unsigned_abs x ≤ greatest_reach → FitsSigned w128 (pos m *ℤ x)
 mul_fits m x h = let p : unsigned_abs (pos m *ℤ x) ≤ greatest_reach = product_abs m x h in fits_signed_from_abs w128 (pos m *ℤ x) (omega arith)
 
-pub within_of : (a : ℤ) (m : ℕ) (x : ℤ) → unsigned_abs a ≤ greatest_moderate → m * unsigned_abs x ≤ greatest_reach
+within_of : (a : ℤ) (m : ℕ) (x : ℤ) → unsigned_abs a ≤ greatest_moderate → m * unsigned_abs x ≤ greatest_reach
     → unsigned_abs (a +ℤ pos m *ℤ x) ≤ greatest_moderate + greatest_reach
 within_of a m x g h = abs_sum a (pos m *ℤ x) greatest_moderate greatest_reach g (product_abs m x h)
 
@@ -78,11 +75,6 @@ pub sum_of : (a : ℤ) (m : ℕ) (x : ℤ) → unsigned_abs a ≤ greatest_moder
 sum_of a m x g h k r =
     ap (λ (z : ℤ). z +ℤ to_z w128 (of_z w128 (to_z w128 m *ℤ to_z w128 (of_z w128 x)))) (to_z-of_z w128 a (moderate_fits a g))
     ∙ ap (λ (z : ℤ). a +ℤ to_z w128 (of_z w128 z)) (step_of m x h k) ∙ ap (λ (z : ℤ). a +ℤ z) (to_z-of_z w128 (pos m *ℤ x) (mul_fits m x r))
-
-pub moderate_date_within : (d : Date) → IsModerateDate d → IsWithinReach d
-moderate_date_within Early h = tt
-moderate_date_within (At t) h = let k : unsigned_abs t ≤ greatest_moderate = h in omega arith
-moderate_date_within Never h = tt
 
 pub div_below : (k n : ℕ) → 0 < n → k / n ≤ k
 div_below k n h =

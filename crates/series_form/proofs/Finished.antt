@@ -155,6 +155,18 @@ model_answer s f is need carried (Err (TooGreat v)) cf same has h =
     (h.0, subst (λ (z : Form). IsFirstGreatValue z v ⊎ IsGreatStep z v) e h.1.number)
 model_answer s f is need carried (Err OutOfMemory) cf same has h = tt
 
+-- the answer of a call that ends by the table of its plan
+pub planned_answer : (s : ℕ → Date) (r q : NeedPlan) (l : List Date) (next : Date) → IsTabled s r l next → r ≡ q → need_of r ≤ 20000
+    → (is : Form → Type 0) (x : Result Form SeriesRefused) → ((f : Form) → HasValues f s → is f)
+    → IsShortestSeries (value_at (form_before l r.turn next)) x → AnswersOf is (need_of q) (need_of q) x
+planned_answer s r q l next h e short is x has a = subst (λ (z : NeedPlan). AnswersOf is (need_of z) (need_of z) x) e (tabled_answer s r l next h is x has short a)
+
+-- the same in the model
+pub planned_form : (s : ℕ → Date) (r q : NeedPlan) (l : List Date) (next : Date) → IsTabled s r l next → r ≡ q → need_of r ≤ 20000
+    → (f : Form) (x : Result Form SeriesRefused) → IsCanonical f → HasValues f s → IsShortestSeries (value_at (form_before l r.turn next)) x → AnswersForm (need_of q) f x
+planned_form s r q l next h e short f x cf same a =
+    model_answer s f (λ g. HasValues g s) (need_of q) (need_of q) x cf same (λ g k. k) (planned_answer s r q l next h e short (λ g. HasValues g s) x (λ g k. k) a)
+
 -- ---- constants and monomials
 
 pub constant_series : (d : Date) → IsSmallDate d → IsSeries (form_with (d ∷ []) 1 (pos 0))

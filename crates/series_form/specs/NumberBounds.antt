@@ -1,10 +1,10 @@
 -- The bounds of a series' numbers, and those of the numbers on the way to one.
-use Rattle.std.specs.Prelude.{◌≤◌, ◌+◌, ℕ, get_or}
+use Rattle.std.specs.Prelude.{◌≤◌, ℕ, get_or}
 use Rattle.std.specs.Int.RustNames.{unsigned_abs}
 use Rattle.dioid.specs.declared.dates.Date.{Date}
 use Rattle.dioid.specs.declared.dates.Date.TheVariants.{Early, At, Never}
 use Rattle.series_laws.specs.SeriesForms.{Form, size_of, IsCanonical}
-use Rattle.series_form.specs.SeriesLimits.{greatest_value, greatest_moderate, greatest_reach}
+use Rattle.series_form.specs.SeriesLimits.{greatest_value, greatest_moderate}
 
 -- a number has a magnitude of at most n
 abbrev pub IsMagnitudeUpTo : ℕ → Date → Type 0
@@ -19,10 +19,6 @@ IsSmallDate d = IsMagnitudeUpTo greatest_value d
 -- a date that an operation may compute before its result is found small
 abbrev pub IsModerateDate : Date → Type 0
 IsModerateDate d = IsMagnitudeUpTo greatest_moderate d
-
--- a date that some steps over a moderate one reach
-abbrev pub IsWithinReach : Date → Type 0
-IsWithinReach d = IsMagnitudeUpTo (greatest_moderate + greatest_reach) d
 
 -- each value and the step are moderate
 pub record IsModerate (f : Form) : Type 0 where

@@ -231,8 +231,7 @@ fn one_value(alloc: Global, date: Date) -> Result<Vec<Date>, AllocError>
 
 // The series of the function of a form with numbers of any size.
 fn finish(mut values: Vec<Date>, turn: usize, step: i128) -> Result<Series, SeriesRefused>
-    requires list { IsPeriodicList (form_with values.items turn step) }
-    requires rising { Rising (value_at (form_with values.items turn step)) }
+    requires { IsPeriodicList (form_with values.items turn step) }
     ensures { IsShortestSeries (value_at (form_with values.items turn step)) result }
 {
     let shorter = PeriodicList::new(values.as_slice(), turn, step).shorten();

@@ -39,7 +39,6 @@ fn number_at(series: &Series, shift: usize) -> i128
     requires { shift ≤ 100000 }
     ensures value { result ≡ integer_of_date (value_at series.now shift) }
     ensures bound { unsigned_abs result ≤ greatest_moderate }
-    ensures series { IsSeries series.now }
 {
     match series.at(shift as u64) {
         Date::At(number) => number,
@@ -52,7 +51,6 @@ fn cover(first: &Series, second: &Series) -> usize
     ensures value { result ≡ cover_of first.now second.now }
     ensures bound { result ≤ 20000 }
     ensures left { IsSeries first.now }
-    ensures right { IsSeries second.now }
 {
     (first.period() + (second.period() - 1)) / second.period()
 }
@@ -62,7 +60,6 @@ fn width(first: &Series, second: &Series) -> usize
     ensures value { result ≡ width_of first.now second.now }
     ensures bound { result ≤ 40000 }
     ensures covers { first.now.period ≤ result }
-    ensures left { IsSeries first.now }
     ensures right { IsSeries second.now }
 {
     cover(first, second) * second.period()

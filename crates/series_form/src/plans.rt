@@ -29,18 +29,6 @@ pub(crate) fn turns_between(first: usize, second: usize) -> usize
     second
 }
 
-// The least common multiple.
-fn common_multiple(first: usize, second: usize) -> usize
-    requires first { 0 < first }
-    requires second { 0 < second }
-    requires first_bound { first ≤ 20000 }
-    requires second_bound { second ≤ 20000 }
-    ensures value { result ≡ common first second }
-    ensures bound { result ≤ most_common_shifts }
-{
-    turns_between(first, second) * first
-}
-
 /// The least common multiple of the two periods, in shifts. Takes no memory, and time of the order
 /// of the second period. For the operations of `series_ops`.
 pub fn common_period(first: &Series, second: &Series) -> usize
@@ -50,7 +38,7 @@ pub fn common_period(first: &Series, second: &Series) -> usize
     ensures left { IsSeries first.now }
     ensures right { IsSeries second.now }
 {
-    common_multiple(first.period(), second.period())
+    turns_between(first.period(), second.period()) * first.period()
 }
 
 /// The shift from which the list repeats: its length less the period. Takes no memory. For the

@@ -4,9 +4,8 @@ ghost use Rattle.std.specs.Int.{w128};
 ghost use Rattle.std.specs.Int.RustNames.{unsigned_abs};
 ghost use Rattle.series_laws.specs.SeriesForms.{value_at, form_with, size_of, repeat_start, gap, moves, repeats_test, least_period_of, least_start_of};
 ghost use Rattle.series_form.specs.NumberBounds.{IsModerate, IsModerateDate};
-ghost use Rattle.series_laws.specs.Periodic.{Rising};
 ghost use Rattle.series_form.specs.SeriesAnswers.{IsNumberCheck, IsBeginning, form_before};
-ghost use Rattle.series_form.specs.PeriodicLists.{IsPeriodicList};
+ghost use Rattle.series_form.specs.PeriodicLists.{IsJumpOf, IsPeriodicList};
 ghost use Rattle.series_form.specs.Shapes.{IsPart, IsCanonicalPart, IsShape, IsTooGreat};
 ghost use Rattle.series_form.specs.SeriesLimits.{greatest_value};
 
@@ -28,7 +27,8 @@ pub struct Shape {
     pub step: i128,
 }
 
-// A list of which the last `period` values go on by `step`. Contracts see its form.
+// A list of which the last `period` values go on by `step`, so that it never falls. Contracts see
+// its form.
 #[derive(Drop)]
 pub(crate) struct PeriodicList<'a> {
     values: &'a [Date],
@@ -38,7 +38,7 @@ pub(crate) struct PeriodicList<'a> {
 
 impl<'a> Model for PeriodicList<'a> {
     ghost use Rattle.series_laws.specs.SeriesForms.{Form, form_with};
-    ghost use Rattle.series_form.specs.PeriodicLists.{IsPeriodicList};
+    ghost use Rattle.series_form.specs.PeriodicLists.{IsJumpOf, IsPeriodicList};
 
     ghost Value = { Form };
 
@@ -70,8 +70,7 @@ impl<'a> PeriodicList<'a> {
 
     // The shift from which the list repeats.
     fn start(&self) -> usize
-        ensures value { result ≡ repeat_start self.now }
-        ensures list { IsPeriodicList self.now }
+        ensures { result ≡ repeat_start self.now }
     {
         self.values.len() - self.period
     }
@@ -79,9 +78,8 @@ impl<'a> PeriodicList<'a> {
     // Whether `turn` shifts move the value at a shift of the list by `jump`. A value past the list
     // is one of the list, moved by the step, so that two values of the list are compared.
     fn moves_at(&self, turn: usize, jump: i128, shift: usize) -> bool
-        requires turn { turn ≤ self.now.period }
+        requires jump { IsJumpOf self.now turn jump }
         requires shift { shift < size_of self.now }
-        requires rest { FitsSigned w128 (self.now.step -ℤ jump) }
         ensures { result ≡ moves (value_at self.now) turn jump shift }
     {
         let size = self.values.len();
@@ -95,8 +93,7 @@ impl<'a> PeriodicList<'a> {
 
     // Whether `turn` shifts move the values at `from` and the next ones by `jump`.
     fn repeats(&self, turn: usize, jump: i128, from: usize, count: usize) -> bool
-        requires turn { turn ≤ self.now.period }
-        requires rest { FitsSigned w128 (self.now.step -ℤ jump) }
+        requires jump { IsJumpOf self.now turn jump }
         requires short { size_of self.now ≤ 20000 }
         requires listed { from + count ≤ size_of self.now }
         ensures { result ≡ repeats_test (value_at self.now) turn jump from count }
@@ -112,8 +109,7 @@ impl<'a> PeriodicList<'a> {
     // What the function gains over up to a period from where the list repeats; 0 for Never and
     // Early.
     fn gain_of(&self, turn: usize) -> i128
-        requires rising { Rising (value_at self.now) }
-        requires turn { turn ≤ self.now.period }
+        requires { turn ≤ self.now.period }
         ensures gain { let f = value_at self.now in result
             ≡ gap (f (repeat_start self.now)) (f (repeat_start self.now + turn)) }
         ensures rest { FitsSigned w128 (self.now.step -ℤ result) }
@@ -131,10 +127,8 @@ impl<'a> PeriodicList<'a> {
     // The least period of the form's function. It divides every other, so only divisors of the
     // period are tried.
     fn least_period(&self) -> usize
-        requires { Rising (value_at self.now) }
         ensures value { result ≡ least_period_of (value_at self.now) (repeat_start self.now)
             self.now.period }
-        ensures positive { 0 < result }
         ensures within { result ≤ self.now.period }
         ensures list { IsPeriodicList self.now }
     {
@@ -154,8 +148,7 @@ impl<'a> PeriodicList<'a> {
     // The first shift from which the function repeats by `turn` shifts and `jump`, looked for
     // backwards from where the list repeats.
     fn least_start(&self, turn: usize, jump: i128) -> usize
-        requires turn { turn ≤ self.now.period }
-        requires rest { FitsSigned w128 (self.now.step -ℤ jump) }
+        requires { IsJumpOf self.now turn jump }
         ensures value { result ≡ least_start_of (value_at self.now) (repeat_start self.now) turn
             jump }
         ensures within { result ≤ repeat_start self.now }
@@ -171,7 +164,6 @@ impl<'a> PeriodicList<'a> {
 
     // The canonical form of the function: its list is the first part of the list.
     fn shape(&self) -> Shape
-        requires { Rising (value_at self.now) }
         ensures { IsPart self.now.values self.now.period self.now.step result }
     {
         let period = self.least_period();
@@ -185,7 +177,6 @@ impl<'a> PeriodicList<'a> {
 
     // The same, or the first number that is too great.
     pub(crate) fn shorten(&self) -> Result<Shape, i128>
-        requires { Rising (value_at self.now) }
         ensures { MatchResult result (IsShape self.now.values self.now.period self.now.step)
             (IsTooGreat self.now.values self.now.period self.now.step) }
     {

@@ -4,7 +4,7 @@ ghost use Rattle.std.specs.Int.{w128};
 ghost use Rattle.std.specs.Int.RustNames.{unsigned_abs};
 ghost use Rattle.dioid.specs.declared.dates.Date.{Date};
 ghost use Rattle.series_laws.specs.SeriesForms.{value_at, form_with, date_eqb, gap};
-ghost use Rattle.series_form.specs.NumberBounds.{IsModerate, IsModerateDate, IsWithinReach};
+ghost use Rattle.series_form.specs.NumberBounds.{IsModerate, IsModerateDate};
 ghost use Rattle.dioid.specs.Dates.{move};
 ghost use Rattle.series_laws.specs.Periodic.{times};
 ghost use Rattle.series_form.specs.SeriesLimits.{greatest_value, greatest_moderate, greatest_reach};
@@ -33,8 +33,7 @@ pub(crate) fn value_of(values: &[Date], period: usize, step: i128, shift: u64) -
     requires moderate { IsModerate (form_with values.now period step) }
     requires within { shift ≤ greatest_value }
     requires reach { shift * unsigned_abs step ≤ greatest_reach }
-    ensures value { result ≡ value_at (form_with values.now period step) shift }
-    ensures within { IsWithinReach result }
+    ensures { result ≡ value_at (form_with values.now period step) shift }
 {
     let shift = shift as usize;
     if shift < values.len() {
@@ -51,8 +50,7 @@ fn later_by(date: Date, turns: usize, step: i128) -> Date
     requires turns { turns ≤ greatest_value }
     requires step { unsigned_abs step ≤ greatest_moderate }
     requires reach { turns * unsigned_abs step ≤ greatest_reach }
-    ensures value { result ≡ move (times turns step) date }
-    ensures within { IsWithinReach result }
+    ensures { result ≡ move (times turns step) date }
 {
     match date {
         Date::At(time) => Date::At(time + turns as i128 * step),

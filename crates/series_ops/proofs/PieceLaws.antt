@@ -200,15 +200,6 @@ turns_more l m a r p q n w v x again fits room ea er =
     joined_listed (window (value_listed l) (value_listed m) p (n * w)) (window (value_listed l) (value_listed m) p (n * w)) (n * v) (length m) (At (times v x)) a a r er size ea ea
     ∙ table_same _ (window (value_listed l) (value_listed m) p (n * (w + v))) (length m) (λ k u. turns_doubled (value_listed l) (value_listed m) p q n w v k x again fits room)
 
--- no turn more
-pub joined_none : (l : List Date) (n m : ℕ) (x : ℤ) → m ≡ 0 → n ≡ 0 → l ≡ table (joined_at (value_listed l) (value_listed l) n (At (times m x))) (length l)
-joined_none l n m x em en = own_table l ∙ table_same (value_listed l) (joined_at (value_listed l) (value_listed l) n (At (times m x))) (length l) (λ k w.
-    let at : k - 0 ≡ k = omega arith in
-    sym (ap (λ (z : ℕ). joined_at (value_listed l) (value_listed l) z (At (times m x)) k) en
-    ∙ ap (λ (z : ℕ). joined_at (value_listed l) (value_listed l) 0 (At (times z x)) k) em
-    ∙ ap (later_of (value_listed l k)) (carried_high (value_listed l) 0 (At (pos 0)) k (omega arith) ∙ one_times (value_listed l (k - 0)) ∙ ap (value_listed l) at)
-    ∙ later_idempotent (value_listed l k)))
-
 -- one piece more
 pub pieces_more : (l m a b r : List Date) (p i j : ℕ) → a ≡ table (window (value_listed l) (value_listed m) p i) (length m) → b ≡ table (window (value_listed l) (value_listed m) (p + i) j) (length m)
     → r ≡ table (joined_at (value_listed a) (value_listed b) 0 (At (pos 0))) (length a) → r ≡ table (window (value_listed l) (value_listed m) p (i + j)) (length m)

@@ -28,7 +28,7 @@ use Rattle.series_form.specs.declared.shorten.Shape.{Shape}
 use Rattle.series_laws.specs.Needs.{need_of, sum_plan, form_sum}
 use Rattle.series_laws.proofs.Sums.{Serves, form_repeats_own}
 use Rattle.series_form.proofs.DateNumbers.{abs_difference}
-use Rattle.series_form.proofs.Finished.{IsTabled, up_to_more}
+use Rattle.series_form.proofs.Finished.{IsTabled, tabled_begins, up_to_more}
 use Rattle.series_laws.proofs.Shifts.{monomial_below, monomial_from}
 use Rattle.series_form.proofs.PointwiseTables.{later_up_to, listed_up_to}
 use Rattle.series_ops.specs.ListFunctions.{value_listed, AreUpTo, all_but_last, last_value, later_part}
@@ -119,7 +119,7 @@ star_tabled f r l h low e short items = listed_tabled (parts_star (value_at f)) 
 
 -- ---- the numbers of the sum's canonical form
 
-pub sum_up_to : (f g : Form) → IsSeries f → IsSeries g → (k : ℕ) → k ≤ 20000 → IsMagnitudeUpTo greatest_value_ahead (sum_at (value_at f) (value_at g) k)
+sum_up_to : (f g : Form) → IsSeries f → IsSeries g → (k : ℕ) → k ≤ 20000 → IsMagnitudeUpTo greatest_value_ahead (sum_at (value_at f) (value_at g) k)
 sum_up_to f g sf sg k w = later_up_to greatest_value_ahead (value_at f k) (value_at g k) (listed_up_to f sf k w) (listed_up_to g sg k w)
 
 step_of_tail : (g : Form) (m : ℕ) → IsCanonical g → ((k : ℕ) → k ≤ size_of g → IsMagnitudeUpTo m (value_at g k)) → unsigned_abs g.step ≤ m + m
@@ -175,8 +175,7 @@ taken_up_to m k l fits low i = ⊎_elim
     (λ w. let e : length (take k l) ≡ k = length-take-le k l fits in subst (λ (z : Date). IsMagnitudeUpTo m z) (sym (get_or-eq_default (take k l) Early {n = i} (omega arith))) tt)
     (cases_lt i k)
 
--- what the plan by the canonical part asks
-pub part_ready : (l m : List Date) (n : ℕ) (next : Date) (s : Shape) → IsBeginning l n next → IsCanonicalPart l n next s
+part_ready : (l m : List Date) (n : ℕ) (next : Date) (s : Shape) → IsBeginning l n next → IsCanonicalPart l n next s
     → AreUpTo greatest_value_ahead l → IsMagnitudeUpTo greatest_value_ahead next → m ≡ take s.size l
     → (0 < s.period) × (length m ≤ 20000) × (s.period ≤ length m) × (unsigned_abs (to_z w128 (of_z w128 s.step)) ≤ greatest_part_value) × AreUpTo greatest_part_value m
 part_ready l m n next s b h low last e =
@@ -195,15 +194,25 @@ part_ready l m n next s b h low last e =
       all_more greatest_value_ahead greatest_part_value m (omega arith) (subst (λ (z : List Date). AreUpTo greatest_value_ahead z) (sym e) (taken_up_to greatest_value_ahead s.size l fits low)),
     )
 
-pub part_form : (l m : List Date) (n : ℕ) (next : Date) (s : Shape) → IsCanonicalPart l n next s → m ≡ take s.size l → (g : Form) → IsCanonical g → HasValues g (value_at (form_before l n next))
-    → form_with m s.period (to_z w128 (of_z w128 s.step)) ≡ g
-part_form l m n next s h e g cg has =
+-- the form of the part
+pub part_form : (k l m : List Date) (n : ℕ) (next : Date) (s : Shape) → k ≡ l → IsCanonicalPart k n next s → m ≡ take s.size l → (g : Form) → IsCanonical g
+    → HasValues g (value_at (form_before l n next)) → form_with m s.period (to_z w128 (of_z w128 s.step)) ≡ g
+part_form k l m n next s ek hk e g cg has =
+    let h : IsCanonicalPart l n next s = subst (λ (z : List Date). IsCanonicalPart z n next s) ek hk in
     ap (form_with m s.period) (to_z-of_z w128 s.step h.step_fits) ∙ ap (λ (z : List Date). form_with z s.period s.step) e
-    ∙ one_canonical (form_with (take s.size l) s.period s.step) g h.canonical cg (λ k. h.values k ∙ sym (has k))
+    ∙ one_canonical (form_with (take s.size l) s.period s.step) g h.canonical cg (λ i. h.values i ∙ sym (has i))
 
 -- the values of a sum
-pub sums_up_to : (f g : Form) → IsSeries f → IsSeries g → (n : ℕ) (l : List Date) → n ≤ 20000 → l ≡ table (sum_at (value_at f) (value_at g)) n → AreUpTo greatest_value_ahead l
+sums_up_to : (f g : Form) → IsSeries f → IsSeries g → (n : ℕ) (l : List Date) → n ≤ 20000 → l ≡ table (sum_at (value_at f) (value_at g)) n → AreUpTo greatest_value_ahead l
 sums_up_to f g sf sg n l short e = all_up_to greatest_value_ahead (sum_at (value_at f) (value_at g)) n l e (λ k w. sum_up_to f g sf sg k (omega arith))
+
+-- what the plan by the canonical part of a sum asks
+pub sum_ready : (f g : Form) (r : NeedPlan) (k l m : List Date) (next : Date) (s : Shape) → IsSeries f → IsSeries g → IsTabled (sum_at (value_at f) (value_at g)) r l next → need_of r ≤ 20000
+    → k ≡ l → IsCanonicalPart k r.turn next s → m ≡ take s.size l
+    → (0 < s.period) × (length m ≤ 20000) × (s.period ≤ length m) × (unsigned_abs (to_z w128 (of_z w128 s.step)) ≤ greatest_part_value) × AreUpTo greatest_part_value m
+sum_ready f g r k l m next s sf sg tabled short ek h e =
+    part_ready l m r.turn next s (tabled_begins (sum_at (value_at f) (value_at g)) r l next tabled short) (subst (λ (z : List Date). IsCanonicalPart z r.turn next s) ek h)
+    (sums_up_to f g sf sg (need_of r) l short tabled.values) (subst (λ (z : Date). IsMagnitudeUpTo greatest_value_ahead z) (sym tabled.next_is) (sum_up_to f g sf sg (need_of r) short)) e
 
 -- ---- the monomial of shift 1 and date 0
 

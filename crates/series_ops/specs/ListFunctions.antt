@@ -1,5 +1,6 @@
 -- Working definitions of lists as functions, and of a list without its last value.
 use Rattle.std.specs.Prelude.{◌≡◌, ◌≤◌, ◌<◌, ◌-◌, ℕ, suc, List, length, get_or, take}
+use Rattle.std.proofs.Props.{props}
 use Rattle.std.specs.Int.RustNames.{unsigned_abs}
 use Rattle.dioid.specs.declared.dates.Date.{Date}
 use Rattle.dioid.specs.declared.dates.Date.TheVariants.{Early, At, Never}
@@ -14,6 +15,15 @@ value_listed l k = get_or l k Early
 -- each number of the list has a magnitude of at most n
 abbrev pub AreUpTo : ℕ → List Date → Type 0
 AreUpTo n l = (k : ℕ) → IsMagnitudeUpTo n (get_or l k Early)
+
+magnitude_once : (n : ℕ) (d : Date) → IsProp (IsMagnitudeUpTo n d)
+magnitude_once n Early = hlevel props
+magnitude_once n (At t) = hlevel props
+magnitude_once n Never = hlevel props
+
+-- which has one proof at most
+pub AreUpTo-prop : (n : ℕ) (l : List Date) → IsProp (AreUpTo n l)
+AreUpTo-prop n l = hlevel (props, magnitude_once)
 
 -- the first n values are Early
 abbrev pub AreEarlyTo : ℕ → List Date → Type 0

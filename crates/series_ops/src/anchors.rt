@@ -8,7 +8,7 @@ ghost use Rattle.series_form.specs.NumberBounds.{IsMagnitudeUpTo};
 ghost use Rattle.series_laws.specs.Needs.{greatest_int};
 ghost use Rattle.series_laws.specs.ProductNeeds.{beats, anchor_step, anchor_of, loss_of_part, natural_of, own_plan, anchored_plan};
 ghost use Rattle.series_form.specs.SeriesLimits.{greatest_part_value, greatest_part_product, greatest_part_loss, greatest_star_need};
-ghost use Rattle.series_ops.specs.ListFunctions.{AreUpTo, IsModest};
+ghost use Rattle.series_ops.specs.ListFunctions.{AreUpTo, AreUpTo-prop, IsModest};
 
 use dioid::Date;
 use series_form::NeedPlan;
@@ -47,30 +47,6 @@ fn is_less(first: i128, second: i128) -> bool
     first < second
 }
 
-// The anchor after one more part.
-fn next_anchor(anchor: Anchor, shift: usize, date: Date) -> Anchor
-    requires anchor { IsModest anchor }
-    requires shift { shift ≤ 20000 }
-    requires date { IsMagnitudeUpTo greatest_part_value date }
-    ensures value { result ≡ anchor_step anchor shift date }
-    ensures modest { IsModest result }
-{
-    match date {
-        Date::At(value) => {
-            if is_better(anchor, shift, value) {
-                Anchor {
-                    found: true,
-                    shift,
-                    value,
-                }
-            } else {
-                anchor
-            }
-        }
-        _ => anchor,
-    }
-}
-
 // The parts of a star: a list of which the last `period` values go on by `step`, in moderate
 // numbers.
 #[derive(Drop)]
@@ -82,12 +58,12 @@ pub(crate) struct Parts<'a> {
     ghost short: { length values.now ≤ 20000 },
     ghost fits: { period ≤ length values.now },
     ghost small_step: { unsigned_abs step ≤ greatest_part_value },
+    ghost up: { AreUpTo greatest_part_value values.now } by { AreUpTo-prop greatest_part_value values.now },
 }
 
 impl<'a> Parts<'a> {
     // The anchor among the shifts of the list from 1 on.
     fn anchor(&self) -> Anchor
-        requires { AreUpTo greatest_part_value self.now.values.now }
         ensures value { result ≡ anchor_of (form_with self.now.values.now self.now.period self.now.step) }
         ensures modest { IsModest result }
     {
@@ -97,7 +73,16 @@ impl<'a> Parts<'a> {
             value: self.step,
         };
         for place in 0..self.values.len() - 1 {
-            anchor = next_anchor(anchor, place + 1, self.values[place + 1]);
+            let shift = place + 1;
+            if let Date::At(value) = self.values[shift] {
+                if is_better(anchor, shift, value) {
+                    anchor = Anchor {
+                        found: true,
+                        shift,
+                        value,
+                    };
+                }
+            }
         }
         anchor
     }
@@ -105,7 +90,6 @@ impl<'a> Parts<'a> {
     // What a part of the list loses against steps.
     fn loss(&self, place: usize) -> i128
         requires place { place < length self.now.values.now }
-        requires small { AreUpTo greatest_part_value self.now.values.now }
         ensures value { result ≡ loss_of_part (form_with self.now.values.now self.now.period self.now.step) place }
         ensures bound { unsigned_abs result ≤ greatest_part_loss }
     {
@@ -117,7 +101,6 @@ impl<'a> Parts<'a> {
 
     // The greatest loss of one part that stands in the tail.
     fn greatest_loss(&self) -> i128
-        requires { AreUpTo greatest_part_value self.now.values.now }
         ensures value { result ≡ greatest_int (λ i. loss_of_part (form_with self.now.values.now self.now.period self.now.step) (repeat_start (form_with self.now.values.now self.now.period self.now.step)
             + i)) (self.now.period - 1) }
         ensures bound { unsigned_abs result ≤ greatest_part_loss }
@@ -130,41 +113,33 @@ impl<'a> Parts<'a> {
         worst
     }
 
-    // From where the star repeats where the tail is a number: by the anchor if there is one, else
-    // past the greatest loss by the period.
-    fn plan_of_number(&self) -> NeedPlan
-        requires { AreUpTo greatest_part_value self.now.values.now }
-        ensures value { result ≡ anchored_plan (anchor_of (form_with self.now.values.now self.now.period self.now.step)) (form_with self.now.values.now self.now.period self.now.step) }
-        ensures bound { result.from ≤ greatest_star_need }
-    {
-        let size = self.values.len();
-        let anchor = self.anchor();
-        if anchor.found {
-            return NeedPlan {
-                from: (anchor.shift * size + 1) as u128,
-                turn: anchor.shift,
-            };
-        }
-        let worst = at_least_zero(self.greatest_loss());
-        let more = self.period as u128 + 1;
-        let turns = if more < worst { worst } else { more };
-        NeedPlan {
-            from: size as u128 * turns + 1,
-            turn: self.period,
-        }
-    }
-
-    // From where the star of the form repeats, the form at least 0 from shift 1 on.
+    // From where the star of the form repeats, the form at least 0 from shift 1 on. Where the tail
+    // is a number: by the anchor if there is one, else past the greatest loss by the period.
     pub(crate) fn plan(&self) -> NeedPlan
-        requires { AreUpTo greatest_part_value self.now.values.now }
         ensures value { result ≡ own_plan (form_with self.now.values.now self.now.period self.now.step) }
         ensures bound { result.from ≤ greatest_star_need }
     {
-        match self.values[self.values.len() - self.period] {
+        let size = self.values.len();
+        match self.values[size - self.period] {
             Date::Early => NeedPlan { from: 0, turn: 1 },
-            Date::At(_) => self.plan_of_number(),
+            Date::At(_) => {
+                let anchor = self.anchor();
+                if anchor.found {
+                    return NeedPlan {
+                        from: (anchor.shift * size + 1) as u128,
+                        turn: anchor.shift,
+                    };
+                }
+                let worst = at_least_zero(self.greatest_loss());
+                let more = self.period as u128 + 1;
+                let turns = if more < worst { worst } else { more };
+                NeedPlan {
+                    from: size as u128 * turns + 1,
+                    turn: self.period,
+                }
+            }
             Date::Never => NeedPlan {
-                from: self.values.len() as u128,
+                from: size as u128,
                 turn: 1,
             },
         }

@@ -71,26 +71,6 @@ fn times_star(alloc: Global, list: &Cells, stride: Stride) -> Result<Cells, Allo
     Ok(values)
 }
 
-// The greatest sums with a core whose first part is at one of the places of the span, where it is
-// short and has few pieces there; and else none.
-fn known_sums(
-    alloc: Global,
-    first: &Cells,
-    second: &Cells,
-    span: Span,
-) -> Result<Vec<Date>, AllocError>
-    requires fits { span.from + span.count ≤ length first.now }
-    requires period { 0 < span.period }
-    requires values { length first.now ≤ 20000 → AreUpTo greatest_value_ahead first.now }
-    ensures { IfOk result (λ values. ArePieceSums values.items first.now second.now span.from
-        span.count) }
-{
-    if first.len() > 20_000 {
-        return Ok(Vec::new(alloc));
-    }
-    sums_in_few_pieces(alloc, first, second, second.len(), span)
-}
-
 // The greatest sums of the values of a series and of a list. From where a stride of it serves on,
 // the series is its core times the star of the stride: so they are those of the core with the list
 // times that star, and before it those with the list. The places where the core is still Early add
@@ -148,8 +128,9 @@ impl<'a> CoreSums<'a> {
             count: core.len() - stride.from,
             period,
         };
-        let head = known_sums(alloc, &core, &list, below)?;
-        let rest = known_sums(alloc, &core, &by_star, others)?;
+        let size = list.len();
+        let head = sums_in_few_pieces(alloc, &core, &list, size, below)?;
+        let rest = sums_in_few_pieces(alloc, &core, &by_star, size, others)?;
         Ok(CoreSums {
             first,
             stride,

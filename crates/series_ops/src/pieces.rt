@@ -28,19 +28,6 @@ struct Piece {
     step: i128,
 }
 
-// The sum of a date with the value `back` shifts before, Early where there is none.
-fn carried(others: &[Date], back: usize, date: Date, shift: usize) -> Date
-    requires shift { shift < length others.now }
-    requires date { IsMagnitudeUpTo greatest_part_product date }
-    requires others { AreUpTo greatest_moderate others.now }
-    ensures { result ≡ carried_at (value_listed others.now) back date shift }
-{
-    if shift < back {
-        return Date::Early;
-    }
-    added(date, others[shift - back])
-}
-
 // The later of each sum and of the sum of a date with another list `back` shifts before.
 fn joined(
     alloc: Global,
@@ -57,7 +44,12 @@ fn joined(
 {
     let mut values = Vec::new(alloc);
     for shift in 0..sums.len() {
-        values.push(sums[shift].later(carried(others, back, date, shift)))?;
+        let carried = if shift < back {
+            Date::Early
+        } else {
+            added(date, others[shift - back])
+        };
+        values.push(sums[shift].later(carried))?;
     }
     Ok(values)
 }
@@ -104,41 +96,17 @@ fn sums_by_turns(
     let mut sums = sums_by_places(alloc, first, second, from, piece.size)?;
     let mut done = 1;
     for _turn in 0..piece.turns {
-        let more = lesser(done, piece.turns - done);
-        let next = with_turns(alloc, sums, piece.size * more, more, piece.step)?;
+        if done == piece.turns {
+            return Ok(sums);
+        }
+        let more = done.min(piece.turns - done);
+        let known = sums.as_slice();
+        let date = Date::At(many(more, piece.step));
+        let next = joined(alloc, known, known, piece.size * more, date)?;
         sums = next;
         done += more;
     }
     Ok(sums)
-}
-
-// The later of each sum and of the one `back` shifts before, so many steps later.
-fn with_turns(
-    alloc: Global,
-    sums: Vec<Date>,
-    back: usize,
-    more: usize,
-    step: i128,
-) -> Result<Vec<Date>, AllocError>
-    requires more { more ≤ 20000 }
-    requires back { more ≡ 0 → back ≡ 0 }
-    requires step { unsigned_abs step ≤ 40002000000000000000000 }
-    requires sums { AreUpTo greatest_moderate sums.items }
-    ensures { IfOk result (λ values. values.items ≡ table (joined_at (value_listed sums.items)
-        (value_listed sums.items) back (At (times more step))) (length sums.items)) }
-{
-    if more == 0 {
-        return Ok(sums);
-    }
-    let known = sums.as_slice();
-    joined(alloc, known, known, back, Date::At(many(more, step)))
-}
-
-// The lesser of two numbers.
-fn lesser(first: usize, second: usize) -> usize
-    ensures { result ≡ min first second }
-{
-    if first < second { first } else { second }
 }
 
 // What the second date is above the first, 0 unless both are numbers.
@@ -166,27 +134,7 @@ pub(crate) fn is_moved(first: Date, second: Date, step: i128) -> bool
     }
 }
 
-// How many turns of `size` places from `from` on go on by a step, of those that `most` places have
-// room for.
-fn turns_from(first: &[Date], from: usize, most: usize, size: usize, step: i128) -> usize
-    requires places { from + most ≤ length first.now }
-    requires positive { 0 < size }
-    requires room { size ≤ most }
-    requires first { AreUpTo greatest_value_ahead first.now }
-    requires step { unsigned_abs step ≤ 40002000000000000000000 }
-    ensures some { 0 < result }
-    ensures room { size * result ≤ most }
-    ensures repeats { RepeatsIn (value_listed first.now) from (size * result) size step }
-{
-    for place in 0..most - size {
-        if !is_moved(first[from + place], first[from + place + size], step) {
-            return 1 + place / size;
-        }
-    }
-    most / size
-}
-
-// The piece from a place on.
+// The piece from a place on: so many turns as go on by one step, within `most` places.
 fn piece_from(first: &[Date], from: usize, most: usize, period: usize) -> Piece
     requires places { from + most ≤ length first.now }
     requires some { 0 < most }
@@ -202,7 +150,13 @@ fn piece_from(first: &[Date], from: usize, most: usize, period: usize) -> Piece
     } else {
         0
     };
-    let turns = turns_from(first, from, most, size, step);
+    for place in 0..most - size {
+        if !is_moved(first[from + place], first[from + place + size], step) {
+            let turns = 1 + place / size;
+            return Piece { size, turns, step };
+        }
+    }
+    let turns = most / size;
     Piece { size, turns, step }
 }
 
@@ -229,44 +183,6 @@ fn is_short_in_pieces(first: &[Date], span: Span) -> bool
     work < count
 }
 
-// The greatest sums whose first part is at one of so many places.
-#[derive(Drop)]
-struct PartialSums {
-    places: usize,
-    values: Vec<Date>,
-}
-
-// The sums over one piece more, if there is one.
-fn with_piece(
-    alloc: Global,
-    begun: PartialSums,
-    first: &[Date],
-    second: &[Date],
-    span: Span,
-) -> Result<PartialSums, AllocError>
-    requires span { IsSpanOf first.now span }
-    requires second { AreUpTo greatest_listed second.now }
-    requires begun { begun.values.items ≡ table (window (value_listed first.now) (value_listed
-        second.now) span.from
-        begun.places) (length second.now) }
-    requires within { begun.places ≤ span.count }
-    ensures values { IfOk result (λ next. next.values.items ≡ table (window (value_listed first.now)
-        (value_listed second.now) span.from next.places) (length second.now)) }
-    ensures within { IfOk result (λ next. next.places ≤ span.count) }
-    ensures more { IfOk result (λ next. min (begun.places + 1) span.count ≤ next.places) }
-{
-    if begun.places >= span.count {
-        return Ok(begun);
-    }
-    let at = span.from + begun.places;
-    let piece = piece_from(first, at, span.count - begun.places, span.period);
-    let more = sums_by_turns(alloc, first, second, at, piece)?;
-    let known = begun.values.as_slice();
-    let values = joined(alloc, known, more.as_slice(), 0, Date::At(0))?;
-    let places = begun.places + piece.size * piece.turns;
-    Ok(PartialSums { places, values })
-}
-
 // The greatest sums whose first part is at one of the places of the span, piece by piece.
 fn sums_by_pieces(
     alloc: Global,
@@ -279,13 +195,21 @@ fn sums_by_pieces(
     ensures { IfOk result (λ values. values.items ≡ table (window (value_listed first.now)
         (value_listed second.now) span.from span.count) (length second.now)) }
 {
-    let values = repeated(alloc, Date::Early, second.len())?;
-    let mut begun = PartialSums { places: 0, values };
+    let mut sums = repeated(alloc, Date::Early, second.len())?;
+    let mut done = 0;
     for _place in 0..span.count {
-        let next = with_piece(alloc, begun, first, second, span)?;
-        begun = next;
+        if done == span.count {
+            return Ok(sums);
+        }
+        let at = span.from + done;
+        let piece = piece_from(first, at, span.count - done, span.period);
+        let more = sums_by_turns(alloc, first, second, at, piece)?;
+        let known = sums.as_slice();
+        let next = joined(alloc, known, more.as_slice(), 0, Date::At(0))?;
+        sums = next;
+        done += piece.size * piece.turns;
     }
-    Ok(begun.values)
+    Ok(sums)
 }
 
 // The span by the stride of its few pieces: 1, or the period; none where there are many.
@@ -310,8 +234,8 @@ fn in_few_pieces(first: &[Date], span: Span) -> Option<Span>
 }
 
 // The greatest sums whose first part is at one of the places of the span, at the first `size`
-// shifts, where the first list has few pieces there, of equal steps from place to place or from
-// period to period; and else none.
+// shifts, where the first list is short and has few pieces there, of equal steps from place to place
+// or from period to period; and else none.
 pub(crate) fn sums_in_few_pieces(
     alloc: Global,
     first: &Cells,
@@ -319,10 +243,15 @@ pub(crate) fn sums_in_few_pieces(
     size: usize,
     span: Span,
 ) -> Result<Vec<Date>, AllocError>
-    requires { IsSpanOf first.now span }
+    requires fits { span.from + span.count ≤ length first.now }
+    requires period { 0 < span.period }
+    requires values { length first.now ≤ 20000 → AreUpTo greatest_value_ahead first.now }
     ensures { IfOk result (λ values. ArePieceSums values.items first.now second.now span.from
         span.count) }
 {
+    if first.len() > 20_000 {
+        return Ok(Vec::new(alloc));
+    }
     let dates = dates_of(alloc, first, first.len())?;
     let own = dates.as_slice();
     match in_few_pieces(own, span) {

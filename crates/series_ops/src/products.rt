@@ -53,35 +53,6 @@ fn waits(first: &Series, second: &Series) -> u128
     gains_for(gain_on_lifts(first, second), lead_gain(first, second))
 }
 
-// From where the product repeats where both tails are numbers and the first slope is greater.
-fn plan_of_numbers(first: &Series, second: &Series) -> NeedPlan
-    requires gain { pos 0 <ℤ (rise_of first.now second.now -ℤ fall_of first.now second.now) }
-    requires number { IsNumberDate (tail_of first.now) }
-    ensures value { result ≡ product_first first.now second.now }
-    ensures bound { result.from ≤ greatest_reach }
-{
-    let shifts = common_period(first, second) as u128;
-    let begun = (first.values().len() + start(second)) as u128;
-    NeedPlan {
-        from: begun + (lifts(first, second) as u128 * shifts + waits(first, second) * shifts),
-        turn: first.period(),
-    }
-}
-
-// From where the product repeats where the first tail is Never and the second one a number.
-fn plan_of_never(first: &Series, second: &Series) -> NeedPlan
-    requires never { tail_of first.now ≡ Never }
-    requires number { IsNumberDate (tail_of second.now) }
-    ensures value { result ≡ product_first first.now second.now }
-    ensures bound { result.from ≤ greatest_reach }
-{
-    let shifts = common_period(first, second);
-    NeedPlan {
-        from: (first.values().len() + start(second) + lifts(first, second) * shifts) as u128,
-        turn: 1,
-    }
-}
-
 // From where the product repeats where the first slope is greater and the second tail not Early.
 fn plan_of_steeper(first: &Series, second: &Series) -> NeedPlan
     requires slopes { slopes_of first.now second.now ≡ First }
@@ -89,31 +60,19 @@ fn plan_of_steeper(first: &Series, second: &Series) -> NeedPlan
     ensures value { result ≡ product_first first.now second.now }
     ensures bound { result.from ≤ greatest_reach }
 {
+    let shifts = common_period(first, second) as u128;
+    let begun = (first.values().len() + start(second)) as u128;
+    let lifted = begun + lifts(first, second) as u128 * shifts;
     match (tail(first), tail(second)) {
-        (Date::At(_), Date::At(_)) => plan_of_numbers(first, second),
-        (Date::Never, Date::At(_)) => plan_of_never(first, second),
+        (Date::At(_), Date::At(_)) => NeedPlan {
+            from: lifted + waits(first, second) * shifts,
+            turn: first.period(),
+        },
+        (Date::Never, Date::At(_)) => NeedPlan {
+            from: lifted,
+            turn: 1,
+        },
         _ => NeedPlan { from: 0, turn: 1 },
-    }
-}
-
-// From where the product repeats where no factor is Early everywhere.
-fn plan_by_slopes(first: &Series, second: &Series) -> NeedPlan
-    requires left { tail_of first.now ≡ Early → ⊥ }
-    requires right { tail_of second.now ≡ Early → ⊥ }
-    ensures value { result ≡ product_by_slopes (slopes_of first.now second.now) first.now
-        second.now }
-    ensures bound { result.from ≤ greatest_reach }
-{
-    match compare_slopes(first, second) {
-        Slopes::Equal => {
-            let shifts = common_period(first, second);
-            NeedPlan {
-                from: (start(first) + start(second) + shifts) as u128,
-                turn: shifts,
-            }
-        }
-        Slopes::First => plan_of_steeper(first, second),
-        Slopes::Second => plan_of_steeper(second, first),
     }
 }
 
@@ -126,7 +85,17 @@ fn plan_of_product(first: &Series, second: &Series) -> NeedPlan
 {
     match (tail(first), tail(second)) {
         (Date::Early, _) | (_, Date::Early) => NeedPlan { from: 0, turn: 1 },
-        _ => plan_by_slopes(first, second),
+        _ => match compare_slopes(first, second) {
+            Slopes::Equal => {
+                let shifts = common_period(first, second);
+                NeedPlan {
+                    from: (start(first) + start(second) + shifts) as u128,
+                    turn: shifts,
+                }
+            }
+            Slopes::First => plan_of_steeper(first, second),
+            Slopes::Second => plan_of_steeper(second, first),
+        },
     }
 }
 

@@ -27,7 +27,6 @@ use std::marker::Model;
 fn offsets(first: &Series, second: &Series) -> usize
     ensures value { result ≡ offsets_of first.now second.now }
     ensures bound { result ≤ most_covering_shifts }
-    ensures positive { 0 < result }
 {
     common_start(first, second) + common_period(first, second)
 }
@@ -162,41 +161,6 @@ impl<'a> LeftPlan<'a> {
     }
 }
 
-// The first values of the residual where the offsets decide.
-fn values_by_offsets(
-    alloc: Global,
-    first: &Series,
-    second: &Series,
-    count: usize,
-) -> Result<Vec<Date>, AllocError>
-    requires decide { OffsetsDecide first.now second.now }
-    requires few { offsets_of first.now second.now ≤ 40000 }
-    requires count { count ≤ 20001 }
-    ensures { IfOk result (λ values. values.items ≡ table (left_over first.now second.now) count) }
-{
-    let plan = LeftPlan::new(alloc, first, second)?;
-    plan.values(alloc, count)
-}
-
-// The first values of the residual where the first series is not Early everywhere.
-fn values_by_slopes(
-    alloc: Global,
-    first: &Series,
-    second: &Series,
-    count: usize,
-) -> Result<Vec<Date>, AllocError>
-    requires late { tail_of first.now ≡ Early → ⊥ }
-    requires short { need_of (left_plan first.now second.now) ≤ 20000 }
-    requires count { count ≤ 20001 }
-    ensures { IfOk result (λ values. values.items ≡ table (residual_at first.now second.now)
-        count) }
-{
-    match compare_slopes(first, second) {
-        Slopes::First => repeated(alloc, Date::Early, count),
-        _ => values_by_offsets(alloc, first, second, count),
-    }
-}
-
 // The first values of the residual.
 fn left_values(
     alloc: Global,
@@ -209,9 +173,13 @@ fn left_values(
     ensures { IfOk result (λ values. values.items ≡ table (residual_at first.now second.now)
         count) }
 {
-    match tail(first) {
-        Date::Early => repeated(alloc, Date::Never, count),
-        _ => values_by_slopes(alloc, first, second, count),
+    match (tail(first), compare_slopes(first, second)) {
+        (Date::Early, _) => repeated(alloc, Date::Never, count),
+        (_, Slopes::First) => repeated(alloc, Date::Early, count),
+        _ => {
+            let plan = LeftPlan::new(alloc, first, second)?;
+            plan.values(alloc, count)
+        }
     }
 }
 

@@ -37,34 +37,13 @@ fn raised(need: usize, own: NeedPlan) -> NeedPlan
     }
 }
 
-// From where the star repeats, by the first values of the sum with the monomial of shift 1 and
-// date 0 and the value after them.
-fn plan_by_sum(mut values: Vec<Date>, turn: usize, next: Date, need: usize) -> NeedPlan
-    requires beginning { IsBeginning values.items turn next }
-    requires values { AreUpTo greatest_value_ahead values.items }
-    requires next { IsMagnitudeUpTo greatest_value_ahead next }
-    requires need { need ≤ 20000 }
-    ensures value { (g : Form) → IsCanonical g → HasValues g
-        (value_at (form_before values.items turn next)) → result ≡ at_least need (own_plan g) }
-    ensures bound { result.from ≤ greatest_star_need }
-{
-    let shape = canonical_part(values.as_slice(), turn, next);
-    values.truncate(shape.size);
-    let parts = Parts {
-        values: values.as_slice(),
-        period: shape.period,
-        step: shape.step,
-    };
-    raised(need, parts.plan())
-}
-
-// The values of a series from shift 1 on.
-fn later_values(alloc: Global, series: &Series, count: usize) -> Result<Cells, AllocError>
-    requires { count ≤ 20000 }
-    ensures { IfOk result (λ values. values ≡ table (later_part (value_at series.now)) count) }
+// The values of a series from shift 1 on, as many as its list has.
+fn later_values(alloc: Global, series: &Series) -> Result<Cells, AllocError>
+    ensures { IfOk result (λ values. values ≡ table (later_part (value_at series.now))
+        (size_of series.now)) }
 {
     let mut values = Cells::new(alloc);
-    for shift in 0..count {
+    for shift in 0..series.values().len() {
         values.push(series.at((shift + 1) as u64))?;
     }
     Ok(values)
@@ -73,17 +52,13 @@ fn later_values(alloc: Global, series: &Series, count: usize) -> Result<Cells, A
 // The star over lists of parts at the shifts up to `need`, by the values from shift 1 on and the
 // sums whose first part is in their tail. The work is the need times the number of those values, or
 // where these have few pieces the need times the number of pieces.
-fn star_list(
-    alloc: Global,
-    first: &Series,
-    rest: &Cells,
-    need: usize,
-) -> Result<Vec<Date>, AllocError>
-    requires rest { rest.now ≡ table (later_part (value_at first.now)) (size_of first.now) }
+fn star_list(alloc: Global, first: &Series, need: usize) -> Result<Vec<Date>, AllocError>
     requires need { need ≤ 20000 }
     ensures { IfOk result (λ values. values.items ≡ table (parts_star (value_at first.now))
         (need + 1)) }
 {
+    let list = later_values(alloc, first)?;
+    let rest = &list;
     let tail = Tail::new(rest, first.period(), first.step());
     let span = Span {
         from: 0,
@@ -109,37 +84,8 @@ fn star_list(
     Ok(stars)
 }
 
-// The same, of the series alone.
-fn star_values(alloc: Global, first: &Series, need: usize) -> Result<Vec<Date>, AllocError>
-    requires need { need ≤ 20000 }
-    ensures { IfOk result (λ values. values.items ≡ table (parts_star (value_at first.now))
-        (need + 1)) }
-{
-    let rest = later_values(alloc, first, first.values().len())?;
-    star_list(alloc, first, &rest, need)
-}
-
-// The star by its plan.
-fn star_by_plan(alloc: Global, first: &Series, plan: NeedPlan) -> Result<Series, SeriesRefused>
-    requires series { IsSeries first.now }
-    requires low { Le (value_at first.now 0) (At (pos 0)) }
-    requires plan { plan ≡ star_plan first.now }
-    requires bound { plan.from ≤ greatest_star_need }
-    ensures { AnswersOf (λ r. HasValues r (parts_star (value_at first.now))) (need_of plan)
-        (need_of plan) result }
-{
-    let need = plan.from + plan.turn as u128;
-    if need > 20_000 {
-        return Err(SeriesRefused::TooLong { need });
-    }
-    match star_values(alloc, first, need as usize) {
-        Ok(values) => ended(values, plan.turn),
-        Err(_) => Err(SeriesRefused::OutOfMemory),
-    }
-}
-
 // From where the star repeats, by the sum with the monomial of shift 1 and date 0 and its plan.
-fn plan_with(first: &Series, one: &Series, plan: NeedPlan, values: Vec<Date>) -> NeedPlan
+fn plan_with(first: &Series, one: &Series, plan: NeedPlan, mut values: Vec<Date>) -> NeedPlan
     requires left { IsSeries first.now }
     requires right { IsSeries one.now }
     requires one { HasValues one.now (monomial_at 1 (pos 0)) }
@@ -152,10 +98,17 @@ fn plan_with(first: &Series, one: &Series, plan: NeedPlan, values: Vec<Date>) ->
 {
     let need = plan.from as usize + plan.turn;
     let next = later_at(first, one, need);
-    plan_by_sum(values, plan.turn, next, need)
+    let shape = canonical_part(values.as_slice(), plan.turn, next);
+    values.truncate(shape.size);
+    let parts = Parts {
+        values: values.as_slice(),
+        period: shape.period,
+        step: shape.step,
+    };
+    raised(need, parts.plan())
 }
 
-// The star with the monomial of shift 1 and date 0 at hand.
+// The star of a series whose first value is not above 0, with the monomial of shift 1 and date 0.
 fn star_with(alloc: Global, first: &Series, one: &Series) -> Result<Series, SeriesRefused>
     requires low { Le (value_at first.now 0) (At (pos 0)) }
     requires one { HasValues one.now (monomial_at 1 (pos 0)) }
@@ -170,20 +123,15 @@ fn star_with(alloc: Global, first: &Series, one: &Series) -> Result<Series, Seri
     match sum_values(alloc, first, one, need as usize) {
         Ok(values) => {
             let plan = plan_with(first, one, plan, values);
-            star_by_plan(alloc, first, plan)
+            let need = plan.from + plan.turn as u128;
+            if need > 20_000 {
+                return Err(SeriesRefused::TooLong { need });
+            }
+            match star_list(alloc, first, need as usize) {
+                Ok(values) => ended(values, plan.turn),
+                Err(_) => Err(SeriesRefused::OutOfMemory),
+            }
         }
-        Err(_) => Err(SeriesRefused::OutOfMemory),
-    }
-}
-
-// The star of a series whose first value is not above 0.
-fn star_of_parts(alloc: Global, first: &Series) -> Result<Series, SeriesRefused>
-    requires low { Le (value_at first.now 0) (At (pos 0)) }
-    ensures { AnswersOf (λ r. HasValues r (parts_star (value_at first.now)))
-        (need_of (star_plan first.now)) (carried_of first.now) result }
-{
-    match Series::monomial(alloc, 1, 0) {
-        Ok(one) => star_with(alloc, first, &one),
         Err(_) => Err(SeriesRefused::OutOfMemory),
     }
 }
@@ -215,5 +163,8 @@ pub fn star(alloc: Global, first: &Series) -> Result<Series, SeriesRefused>
     if is_above_zero(first.at(0)) {
         return Series::constant(alloc, Date::Never);
     }
-    star_of_parts(alloc, first)
+    match Series::monomial(alloc, 1, 0) {
+        Ok(one) => star_with(alloc, first, &one),
+        Err(_) => Err(SeriesRefused::OutOfMemory),
+    }
 }

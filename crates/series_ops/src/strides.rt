@@ -6,7 +6,7 @@ ghost use Rattle.std.specs.Int.RustNames.{unsigned_abs};
 ghost use Rattle.dioid.specs.Dates.{move};
 ghost use Rattle.dioid.specs.DateOrder.{Le};
 ghost use Rattle.series_laws.specs.SeriesForms.{size_of, repeat_start, value_at, table};
-ghost use Rattle.series_form.specs.NumberBounds.{IsMagnitudeUpTo, IsSeries};
+ghost use Rattle.series_form.specs.NumberBounds.{IsMagnitudeUpTo};
 ghost use Rattle.series_form.specs.SeriesLimits.{greatest_value, greatest_value_far_ahead};
 ghost use Rattle.series_ops.specs.Strides.{AreRaised, IsCoreAt, IsStride, IsCore};
 ghost use Rattle.series_ops.specs.ListFunctions.{value_listed, AreUpTo};
@@ -163,8 +163,7 @@ const PLACES_A_CORE_JUMP: usize = 16;
 // The core of a series by a stride that leaves few jumps, and serves from an early place on; else
 // by its period from its start on, by which the core is its list.
 pub(crate) fn core_of(alloc: Global, first: &Series) -> Result<Core, AllocError>
-    ensures core { IfOk result (λ core. IsCore first.now core.stride core.cells) }
-    ensures series { IsSeries first.now }
+    ensures { IfOk result (λ core. IsCore first.now core.stride core.cells) }
 {
     let size = first.values().len();
     let values = first_values(alloc, first, start(first) + size)?;

@@ -16,7 +16,7 @@ loop-start-init c =
     let g = c.args.second.now in
     let first = to_z-of_z w128 c.first_lead-best.result (record { sfits = c.first_lead-best.type_inv }) ∙ c.first_lead-best.ensures.value in (
       subst (λ (z : ℤ). z ≤ℤ lead_of f g) (sym first)
-          (lead_below f g c.width-width.ensures.left.canonical.form c.width-width.ensures.right.canonical.form c.requires 0),
+          (lead_below f g c.period.ensures.series.canonical.form c.width-width.ensures.right.canonical.form c.requires 0),
       λ s l. absurd (omega arith),
     )
 
@@ -41,7 +41,7 @@ pub returns-clause-value : goal.returns-clause-value
 returns-clause-value c =
     let f = c.args.first.now in
     let g = c.args.second.now in
-    let isf = c.width-width.ensures.left.canonical.form in
+    let isf = c.period.ensures.series.canonical.form in
     let isg = c.width-width.ensures.right.canonical.form in
     let turns : c.turns_between-turns.result ≡ turns_of f.period (width_of f g) =
     c.turns_between-turns.ensures.value ∙ ap (λ (z : ℕ). turns_of z c.width-width.result) c.period.ensures.value ∙ ap (turns_of f.period) c.width-width.ensures.value in
@@ -57,4 +57,4 @@ pub returns-clause-bound : goal.returns-clause-bound
 returns-clause-bound c =
     let f = c.args.first.now in
     let g = c.args.second.now in
-    subst (λ (z : ℤ). unsigned_abs z ≤ greatest_moderate) (sym (returns-clause-value c)) (lead_moderate f g c.width-width.ensures.left c.width-width.ensures.right)
+    subst (λ (z : ℤ). unsigned_abs z ≤ greatest_moderate) (sym (returns-clause-value c)) (lead_moderate f g c.period.ensures.series c.width-width.ensures.right)

@@ -11,19 +11,15 @@ use Rattle.series_laws.proofs.Canonical.{canonical_is, canonical_values}
 use Rattle.series_form.proofs.shorten.canonical_part.Goals as goal
 
 pub new-requires : goal.new-requires
-new-requires c = record {
-  positive = c.requires.positive;
-  fits = c.requires.fits;
-  short = c.requires.short;
-  step_fits = subst (λ (z : ℤ). FitsSigned w128 z) (sym (to_z-of_z w128 c.step_before-step.result (record { sfits = c.step_before-step.type_inv })))
-      (record { sfits = c.step_before-step.type_inv });
-}
-
-pub shape-requires : goal.shape-requires
-shape-requires c =
-    let e : form_with c.args.values.now c.args.turn (to_z w128 (of_z w128 c.step_before-step.result)) ≡ form_before c.args.values.now c.args.turn c.args.next =
-    ap (form_with c.args.values.now c.args.turn) (to_z-of_z w128 c.step_before-step.result (record { sfits = c.step_before-step.type_inv })) ∙ c.step_before-step.ensures in
-    subst (λ (z : Form). Rising (value_at z)) (sym (c.new.ensures ∙ e)) c.requires.rising
+new-requires c =
+    let e : to_z w128 (of_z w128 c.step_before-step.result) ≡ c.step_before-step.result = to_z-of_z w128 c.step_before-step.result (record { sfits = c.step_before-step.type_inv }) in
+    record {
+      positive = c.requires.positive;
+      fits = c.requires.fits;
+      short = c.requires.short;
+      step_fits = subst (λ (z : ℤ). FitsSigned w128 z) (sym e) (record { sfits = c.step_before-step.type_inv });
+      rising = subst (λ (z : Form). Rising (value_at z)) (sym (ap (form_with c.args.values.now c.args.turn) e ∙ c.step_before-step.ensures)) c.requires.rising;
+    }
 
 pub returns : goal.returns
 returns c =

@@ -1,7 +1,7 @@
 use Rattle.std.proofs.Common.{ap, sym, ◌∙◌, ℤ, ◌+ℤ◌, to_z, of_z, pos, ◌*ℤ◌}
 use Rattle.std.specs.Int.{w128}
 use Rattle.std.proofs.lemmas.Int.{to_z-of_z}
-use Rattle.series_form.proofs.DateNumbers.{times_product, mul_fits, add_fits, step_of, sum_of, within_of}
+use Rattle.series_form.proofs.DateNumbers.{times_product, mul_fits, add_fits, step_of, sum_of}
 use Rattle.dioid.specs.declared.dates.Date.TheVariants.{At}
 use Rattle.series_form.proofs.values.later_by.Goals as goal
 
@@ -13,18 +13,9 @@ overflow_add-result c =
     let small = rw c.in-At.is at c.requires.date in
     rw (sum_of c.in-At.time c.args.turns c.args.step small c.requires.turns c.requires.step c.requires.reach) (add_fits c.in-At.time c.args.turns c.args.step small c.requires.reach)
 
-pub returns-in-At-clause-value : goal.returns-in-At-clause-value
-returns-in-At-clause-value c =
+pub returns-in-At : goal.returns-in-At
+returns-in-At c =
     let small = rw c.in-At.is at c.requires.date in
     rw c.in-At.is (ap At (ap (λ (z : ℤ). to_z w128 (of_z w128 z)) (sum_of c.in-At.time c.args.turns c.args.step small c.requires.turns c.requires.step c.requires.reach)
     ∙ to_z-of_z w128 (c.in-At.time +ℤ pos c.args.turns *ℤ c.args.step) (add_fits c.in-At.time c.args.turns c.args.step small c.requires.reach)
     ∙ ap (λ (z : ℤ). c.in-At.time +ℤ z) (sym (times_product c.args.turns c.args.step))))
-
-pub returns-in-At-clause-within : goal.returns-in-At-clause-within
-returns-in-At-clause-within c =
-    let small = rw c.in-At.is at c.requires.date in
-    rw (
-      sum_of c.in-At.time c.args.turns c.args.step small c.requires.turns c.requires.step c.requires.reach,
-      to_z-of_z w128 (c.in-At.time +ℤ pos c.args.turns *ℤ c.args.step) (add_fits c.in-At.time c.args.turns c.args.step small c.requires.reach),
-    )
-    (within_of c.in-At.time c.args.turns c.args.step small c.requires.reach)

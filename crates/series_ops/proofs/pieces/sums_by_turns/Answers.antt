@@ -21,26 +21,28 @@ loop-turn-init c =
       omega arith,
     )
 
-pub with_turns-requires-clause-sums : goal.with_turns-requires-clause-sums
-with_turns-requires-clause-sums c = windows_up_to c.args.first.now c.args.second.now c.loop-turn.sums.items c.args.from
-    (c.args.piece.size * c.loop-turn.done) (length c.args.second.now) c.requires.first c.requires.second c.loop-turn.invariant.0
+pub joined-requires-clause-others : goal.joined-requires-clause-others
+joined-requires-clause-others c = windows_up_to c.args.first.now c.args.second.now c.as_slice-known.result.now c.args.from
+    (c.args.piece.size * c.loop-turn.done) (length c.args.second.now) c.requires.first c.requires.second (c.as_slice-known.ensures.value ∙ c.loop-turn.invariant.0)
 
 pub loop-turn-preserved : goal.loop-turn-preserved
 loop-turn-preserved c =
     let n = c.args.piece.size in
     let w = c.args.piece.turns in
-    let more = c.lesser-more.ensures in
+    let v = c.min-more.result in
+    let x = c.args.piece.step in
+    let more = c.min-more.ensures in
     let within = c.loop-turn.invariant.1 in
     let far = c.loop-turn.invariant.2 in
     let again = c.loop-turn-test.true in
-    let low : unsigned_abs c.args.piece.step ≤ 40002000000000000000000 = c.requires.piece.step in
-    let step : to_z w128 (of_z w128 c.args.piece.step) ≡ c.args.piece.step = to_z-of_z w128 c.args.piece.step (moderate_fits c.args.piece.step (omega arith)) in
-    let room : n * (c.loop-turn.done + c.lesser-more.result) ≤ n * w = mul-le n (c.loop-turn.done + c.lesser-more.result) n w (omega arith) (omega arith) in (
-      turns_more c.args.first.now c.args.second.now c.loop-turn.sums.items c.in_ok-next.next.items c.args.from (n * w) n c.loop-turn.done c.lesser-more.result c.args.piece.step
-          c.requires.piece.repeats (omega arith) room c.loop-turn.invariant.0
+    let low : unsigned_abs x ≤ 40002000000000000000000 = c.requires.piece.step in
+    let date : to_z w128 (of_z w128 c.many.result) ≡ times v x =
+    to_z-of_z w128 c.many.result (record { sfits = c.many.type_inv }) ∙ c.many.ensures.value ∙ ap (times v) (to_z-of_z w128 x (moderate_fits x (omega arith))) in
+    let room : n * (c.loop-turn.done + v) ≤ n * w = mul-le n (c.loop-turn.done + v) n w (omega arith) (omega arith) in (
+      turns_more c.args.first.now c.args.second.now c.as_slice-known.result.now c.in_ok-next.next.items c.args.from (n * w) n c.loop-turn.done v x
+          c.requires.piece.repeats (omega arith) room (c.as_slice-known.ensures.value ∙ c.loop-turn.invariant.0)
           (c.in_ok-next.ensures ∙ ap (λ (z : ℤ). table
-          (joined_at (value_listed c.loop-turn.sums.items) (value_listed c.loop-turn.sums.items) (n * c.lesser-more.result)
-          (At (times c.lesser-more.result z))) (length c.loop-turn.sums.items)) step),
+          (joined_at (value_listed c.as_slice-known.result.now) (value_listed c.as_slice-known.result.now) (n * v) (At z)) (length c.as_slice-known.result.now)) date),
       omega arith,
       omega arith,
     )

@@ -23,7 +23,7 @@ loop-shift-init c = (
   c.in_ok-push.ensures.items ∙ ap (λ (z : List Date). z ++ (At (pos 0) ∷ [])) c.new-stars.ensures.items,
   c.in_ok-push-2.ensures ∙ ap (λ (z : List Date). z ++ (At (pos 0) ∷ [])) c.new-cells.ensures,
   c.new-tails.ensures.items,
-  begun_none c.args.rest.now _ (repeat_start c.args.first.now) c.nothing_begun-begun.result.count
+  begun_none c.in_ok-list.list _ (repeat_start c.args.first.now) c.nothing_begun-begun.result.count
       c.nothing_begun-begun.result.sums.items c.nothing_begun-begun.ensures.count c.nothing_begun-begun.ensures.sums,
 )
 
@@ -35,62 +35,62 @@ form_of f rest tail n x h en ex e = e ∙ passed_form f rest n x h en ex
 pub new-tail-requires : goal.new-tail-requires
 new-tail-requires c =
     let f = c.args.first.now in
-    subst (λ (z : Form). IsTailed z) (sym (passed_form f c.args.rest.now c.period.result c.step.result c.step.ensures.series c.period.ensures.value c.step.ensures.value))
+    subst (λ (z : Form). IsTailed z) (sym (passed_form f c.in_ok-list.list c.period.result c.step.result c.step.ensures.series c.period.ensures.value c.step.ensures.value))
     (record {
       positive = c.step.ensures.series.canonical.form.period_positive;
-      fits = later_fits f c.step.ensures.series c.args.rest.now c.requires.rest;
+      fits = later_fits f c.step.ensures.series c.in_ok-list.list c.in_ok-list.ensures;
       step = let low : unsigned_abs f.step ≤ greatest_value = c.step.ensures.series.small.step in omega arith;
     })
 
 pub next_sum-last-requires : goal.next_sum-last-requires
 next_sum-last-requires c =
     let f = c.args.first.now in
-    let form : c.new-tail.result ≡ form_with c.args.rest.now f.period f.step =
-    form_of f c.args.rest.now c.new-tail.result c.period.result c.step.result c.step.ensures.series c.period.ensures.value c.step.ensures.value c.new-tail.ensures in
+    let form : c.new-tail.result ≡ form_with c.in_ok-list.list f.period f.step =
+    form_of f c.in_ok-list.list c.new-tail.result c.period.result c.step.result c.step.ensures.series c.period.ensures.value c.step.ensures.value c.new-tail.ensures in
     let more = c.loop-shift-test.true in
-    let short = c.requires.need in
+    let short = c.requires in
     let stars : c.loop-shift.cells ≡ table (parts_star (value_at f)) (c.loop-shift.shift + 1) = c.loop-shift.invariant.1 in
     let size : length c.loop-shift.cells ≡ c.loop-shift.shift + 1 = ap length stars ∙ table_length (parts_star (value_at f)) (c.loop-shift.shift + 1) in
-    let tails : c.as_slice.result.now ≡ table (tail_product (form_with c.args.rest.now f.period f.step) (parts_star (value_at f))) c.loop-shift.shift =
+    let tails : c.as_slice.result.now ≡ table (tail_product (form_with c.in_ok-list.list f.period f.step) (parts_star (value_at f))) c.loop-shift.shift =
     c.as_slice.ensures.value ∙ c.loop-shift.invariant.2 in
     let long : length c.as_slice.result.now ≡ c.loop-shift.shift =
-    ap length tails ∙ table_length (tail_product (form_with c.args.rest.now f.period f.step) (parts_star (value_at f))) c.loop-shift.shift in
+    ap length tails ∙ table_length (tail_product (form_with c.in_ok-list.list f.period f.step) (parts_star (value_at f))) c.loop-shift.shift in
     record {
       second = omega arith;
       known = refl;
-      tails_bound = later_tails_up f c.step.ensures.series c.args.rest.now c.requires.rest c.loop-shift.shift c.as_slice.result.now (omega arith) tails;
+      tails_bound = later_tails_up f c.step.ensures.series c.in_ok-list.list c.in_ok-list.ensures c.loop-shift.shift c.as_slice.result.now (omega arith) tails;
       tails = subst (λ (z : Form). c.as_slice.result.now ≡ table (tail_product z (value_listed c.loop-shift.cells)) (length c.as_slice.result.now)) (sym form)
-          (later_carried f c.step.ensures.series c.args.rest.now c.requires.rest c.loop-shift.shift c.loop-shift.cells c.as_slice.result.now stars tails
-          ∙ ap (table (tail_product (form_with c.args.rest.now f.period f.step) (value_listed c.loop-shift.cells))) (sym long));
+          (later_carried f c.step.ensures.series c.in_ok-list.list c.in_ok-list.ensures c.loop-shift.shift c.loop-shift.cells c.as_slice.result.now stars tails
+          ∙ ap (table (tail_product (form_with c.in_ok-list.list f.period f.step) (value_listed c.loop-shift.cells))) (sym long));
     }
 
 pub renewed-requires : goal.renewed-requires
 renewed-requires c =
     let f = c.args.first.now in
-    let whole : length c.args.rest.now ≡ size_of f = ap length c.requires.rest ∙ table_length (later_part (value_at f)) (size_of f) in
+    let whole : length c.in_ok-list.list ≡ size_of f = ap length c.in_ok-list.ensures ∙ table_length (later_part (value_at f)) (size_of f) in
     let here : c.start.result ≡ repeat_start f = c.start.ensures.value in
     let size : length c.loop-shift.cells ≡ c.loop-shift.shift + 1 = ap length c.loop-shift.invariant.1 ∙ table_length (parts_star (value_at f)) (c.loop-shift.shift + 1) in
     let short = c.period.ensures.series.short in
     let some = c.period.ensures.series.canonical.form.period_positive in
     let own = c.period.ensures.value in
-    let need = c.requires.need in
+    let need = c.requires in
     let more = c.loop-shift-test.true in
     record {
       span = record {
         fits = omega arith;
         short = omega arith;
         period = let same = c.period-2.ensures.value in omega arith;
-        values = later_up f c.period.ensures.series c.args.rest.now c.requires.rest;
+        values = later_up f c.period.ensures.series c.in_ok-list.list c.in_ok-list.ensures;
       };
       first_places = refl;
       long = omega arith;
-      old = subst (λ (z : ℕ). IsPieceBegun c.loop-shift.begun.count c.loop-shift.begun.sums.items c.args.rest.now c.loop-shift.cells z) (sym here) c.loop-shift.invariant.3;
+      old = subst (λ (z : ℕ). IsPieceBegun c.loop-shift.begun.count c.loop-shift.begun.sums.items c.in_ok-list.list c.loop-shift.cells z) (sym here) c.loop-shift.invariant.3;
     }
 
 pub greatest_begun-requires : goal.greatest_begun-requires
 greatest_begun-requires c =
     let f = c.args.first.now in
-    let whole : length c.args.rest.now ≡ size_of f = ap length c.requires.rest ∙ table_length (later_part (value_at f)) (size_of f) in
+    let whole : length c.in_ok-list.list ≡ size_of f = ap length c.in_ok-list.ensures ∙ table_length (later_part (value_at f)) (size_of f) in
     let here : c.start.result ≡ repeat_start f = c.start.ensures.value in
     let size : length c.loop-shift.cells ≡ c.loop-shift.shift + 1 = ap length c.loop-shift.invariant.1 ∙ table_length (parts_star (value_at f)) (c.loop-shift.shift + 1) in
     record { first = omega arith; second = omega arith; begun = c.in_ok-more.ensures }
@@ -99,18 +99,18 @@ pub push-requires-in-loop-shift-2 : goal.push-requires-in-loop-shift-2
 push-requires-in-loop-shift-2 c =
     let f = c.args.first.now in
     let more = c.loop-shift-test.true in
-    let short = c.requires.need in
+    let short = c.requires in
     let following : suc c.loop-shift.shift ≡ c.loop-shift.shift + 1 = omega arith in
-    let form : c.new-tail.result ≡ form_with c.args.rest.now f.period f.step =
-    form_of f c.args.rest.now c.new-tail.result c.period.result c.step.result c.step.ensures.series c.period.ensures.value c.step.ensures.value c.new-tail.ensures in
+    let form : c.new-tail.result ≡ form_with c.in_ok-list.list f.period f.step =
+    form_of f c.in_ok-list.list c.new-tail.result c.period.result c.step.result c.step.ensures.series c.period.ensures.value c.step.ensures.value c.new-tail.ensures in
     let long : length c.as_slice.result.now ≡ c.loop-shift.shift =
-    ap length (c.as_slice.ensures.value ∙ c.loop-shift.invariant.2) ∙ table_length (tail_product (form_with c.args.rest.now f.period f.step) (parts_star (value_at f))) c.loop-shift.shift in
-    let tail : c.next_sum-last.result ≡ tail_product (form_with c.args.rest.now f.period f.step) (value_listed c.loop-shift.cells) c.loop-shift.shift =
+    ap length (c.as_slice.ensures.value ∙ c.loop-shift.invariant.2) ∙ table_length (tail_product (form_with c.in_ok-list.list f.period f.step) (parts_star (value_at f))) c.loop-shift.shift in
+    let tail : c.next_sum-last.result ≡ tail_product (form_with c.in_ok-list.list f.period f.step) (value_listed c.loop-shift.cells) c.loop-shift.shift =
     c.next_sum-last.ensures ∙ ap (λ (z : Form). tail_product z (value_listed c.loop-shift.cells) (length c.as_slice.result.now)) form
-    ∙ ap (tail_product (form_with c.args.rest.now f.period f.step) (value_listed c.loop-shift.cells)) long in
+    ∙ ap (tail_product (form_with c.in_ok-list.list f.period f.step) (value_listed c.loop-shift.cells)) long in
     let next : c.later-next.result ≡ parts_star (value_at f) (c.loop-shift.shift + 1) =
     c.later-next.ensures.value ∙ ap (later_of (At (pos 0))) (c.later-best.ensures.value ∙ ap (λ (z : Date). later_of z c.next_sum-last.result) c.greatest_begun.ensures)
-    ∙ star_next f c.period.ensures.series c.args.rest.now c.requires.rest c.loop-shift.shift c.start.result
+    ∙ star_next f c.period.ensures.series c.in_ok-list.list c.in_ok-list.ensures c.loop-shift.shift c.start.result
     c.loop-shift.cells c.next_sum-last.result c.loop-shift.invariant.1 c.start.ensures.value tail
     ∙ ap (parts_star (value_at f)) following in
     subst (λ (z : Date). IsMagnitudeUpTo greatest_listed z) (sym next) (star_moderate f c.period.ensures.series (c.loop-shift.shift + 1) (omega arith))
@@ -119,24 +119,24 @@ pub loop-shift-preserved : goal.loop-shift-preserved
 loop-shift-preserved c =
     let f = c.args.first.now in
     let following : suc c.loop-shift.shift ≡ c.loop-shift.shift + 1 = omega arith in
-    let form : c.new-tail.result ≡ form_with c.args.rest.now f.period f.step =
-    form_of f c.args.rest.now c.new-tail.result c.period.result c.step.result c.step.ensures.series c.period.ensures.value c.step.ensures.value c.new-tail.ensures in
+    let form : c.new-tail.result ≡ form_with c.in_ok-list.list f.period f.step =
+    form_of f c.in_ok-list.list c.new-tail.result c.period.result c.step.result c.step.ensures.series c.period.ensures.value c.step.ensures.value c.new-tail.ensures in
     let long : length c.as_slice.result.now ≡ c.loop-shift.shift =
-    ap length (c.as_slice.ensures.value ∙ c.loop-shift.invariant.2) ∙ table_length (tail_product (form_with c.args.rest.now f.period f.step) (parts_star (value_at f))) c.loop-shift.shift in
-    let tail : c.next_sum-last.result ≡ tail_product (form_with c.args.rest.now f.period f.step) (value_listed c.loop-shift.cells) c.loop-shift.shift =
+    ap length (c.as_slice.ensures.value ∙ c.loop-shift.invariant.2) ∙ table_length (tail_product (form_with c.in_ok-list.list f.period f.step) (parts_star (value_at f))) c.loop-shift.shift in
+    let tail : c.next_sum-last.result ≡ tail_product (form_with c.in_ok-list.list f.period f.step) (value_listed c.loop-shift.cells) c.loop-shift.shift =
     c.next_sum-last.ensures ∙ ap (λ (z : Form). tail_product z (value_listed c.loop-shift.cells) (length c.as_slice.result.now)) form
-    ∙ ap (tail_product (form_with c.args.rest.now f.period f.step) (value_listed c.loop-shift.cells)) long in
+    ∙ ap (tail_product (form_with c.in_ok-list.list f.period f.step) (value_listed c.loop-shift.cells)) long in
     let next : c.later-next.result ≡ parts_star (value_at f) (c.loop-shift.shift + 1) =
     c.later-next.ensures.value ∙ ap (later_of (At (pos 0))) (c.later-best.ensures.value ∙ ap (λ (z : Date). later_of z c.next_sum-last.result) c.greatest_begun.ensures)
-    ∙ star_next f c.period.ensures.series c.args.rest.now c.requires.rest c.loop-shift.shift c.start.result
+    ∙ star_next f c.period.ensures.series c.in_ok-list.list c.in_ok-list.ensures c.loop-shift.shift c.start.result
     c.loop-shift.cells c.next_sum-last.result c.loop-shift.invariant.1 c.start.ensures.value tail
     ∙ ap (parts_star (value_at f)) following in (
       c.in_ok-push-5.ensures.items ∙ table_push (parts_star (value_at f)) (c.loop-shift.shift + 1) c.loop-shift.stars.items _ c.loop-shift.invariant.0 next,
       c.in_ok-push-4.ensures ∙ table_push (parts_star (value_at f)) (c.loop-shift.shift + 1) c.loop-shift.cells _ c.loop-shift.invariant.1 next,
-      c.in_ok-push-3.ensures.items ∙ table_push (tail_product (form_with c.args.rest.now f.period f.step)
+      c.in_ok-push-3.ensures.items ∙ table_push (tail_product (form_with c.in_ok-list.list f.period f.step)
           (parts_star (value_at f))) c.loop-shift.shift c.loop-shift.tails.items _ c.loop-shift.invariant.2
-          (tail ∙ later_tails f c.period.ensures.series c.args.rest.now c.requires.rest c.loop-shift.shift c.loop-shift.cells c.loop-shift.invariant.1 c.loop-shift.shift (omega arith)),
-      begun_pushed c.in_ok-more.more.count c.in_ok-more.more.sums.items c.args.rest.now c.loop-shift.cells _ (repeat_start f) _
-          (subst (λ (z : ℕ). IsPieceBegun c.in_ok-more.more.count c.in_ok-more.more.sums.items c.args.rest.now c.loop-shift.cells z)
+          (tail ∙ later_tails f c.period.ensures.series c.in_ok-list.list c.in_ok-list.ensures c.loop-shift.shift c.loop-shift.cells c.loop-shift.invariant.1 c.loop-shift.shift (omega arith)),
+      begun_pushed c.in_ok-more.more.count c.in_ok-more.more.sums.items c.in_ok-list.list c.loop-shift.cells _ (repeat_start f) _
+          (subst (λ (z : ℕ). IsPieceBegun c.in_ok-more.more.count c.in_ok-more.more.sums.items c.in_ok-list.list c.loop-shift.cells z)
           c.start.ensures.value c.in_ok-more.ensures) c.in_ok-push-4.ensures,
     )

@@ -15,13 +15,13 @@ answered s n (Err (TooLong m)) short h = absurd h
 answered s n (Err (TooGreat v)) short h = (short, h)
 answered s n (Err OutOfMemory) short h = absurd h
 
-pub finish-requires-clause-list : goal.finish-requires-clause-list
-finish-requires-clause-list c =
+pub finish-requires : goal.finish-requires
+finish-requires c =
     let same : form_with c.in-Ok.list.items c.args.period (to_z w128 (of_z w128 c.args.step)) ≡ form_with c.args.values.now c.args.period c.args.step =
     ap (λ (z : List Date). form_with z c.args.period (to_z w128 (of_z w128 c.args.step))) c.in-Ok.ensures
     ∙ ap (form_with c.args.values.now c.args.period) (to_z-of_z w128 c.args.step c.ranges.step) in
     subst (λ (z : Form). IsPeriodicList z) (sym same)
-    (record { positive = c.requires.positive; fits = c.requires.fits; short = c.if-values-gt20000.false; step_fits = c.ranges.step })
+    (record { positive = c.requires.positive; fits = c.requires.fits; short = c.if-values-gt20000.false; step_fits = c.ranges.step; rising = c.requires.rising })
 
 pub returns-in-Ok : goal.returns-in-Ok
 returns-in-Ok c =

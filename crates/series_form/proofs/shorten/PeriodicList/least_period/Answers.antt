@@ -19,13 +19,13 @@ loop-turn-preserved c =
       | then-period-turn-eq0+else-repeats w ↦
           let jump : to_z w128 (of_z w128 w.gain_of-jump.result) ≡ gap (f p) (f (p + c.loop-turn.turn)) =
           to_z-of_z w128 w.gain_of-jump.result (record { sfits = w.gain_of-jump.type_inv }) ∙ w.gain_of-jump.ensures.gain in
-          let tested = rw (c.start-from.ensures.value, c.period-period.ensures.value) at w.repeats.ensures in
+          let tested = rw (c.start-from.ensures, c.period-period.ensures.value) at w.repeats.ensures in
           turn_step f p n c.loop-turn.turn _
           (to_z w128 (of_z w128 w.gain_of-jump.result)) w.repeats.result c.loop-turn.invariant (omega arith) jump tested w.if-repeats.false
       | else-period-turn-eq0 w ↦
           let again : Repeats f p n c.args.self.now.step = value_repeats c.args.self.now h.positive h.fits in
           turn_passed f p n c.loop-turn.turn c.loop-turn.invariant (omega arith)
-          (least_divides f p n c.args.self.now.step c.requires h.positive again)
+          (least_divides f p n c.args.self.now.step h.rising h.positive again)
           (λ e. w.if-period-turn-eq0.false (rw c.period-period.ensures.value e))
     ]
 
@@ -36,7 +36,7 @@ returns-then-repeats-clause-value c =
     let n : ℕ = c.args.self.now.period in
     let jump : to_z w128 (of_z w128 c.gain_of-jump.result) ≡ gap (f p) (f (p + c.loop-turn.turn)) =
     to_z-of_z w128 c.gain_of-jump.result (record { sfits = c.gain_of-jump.type_inv }) ∙ c.gain_of-jump.ensures.gain in
-    let tested = rw (c.start-from.ensures.value, c.period-period.ensures.value) at c.repeats.ensures in
+    let tested = rw (c.start-from.ensures, c.period-period.ensures.value) at c.repeats.ensures in
     turn_found f p n c.loop-turn.turn _ (to_z w128 (of_z w128 c.gain_of-jump.result)) c.repeats.result c.loop-turn.invariant jump tested c.if-repeats.true
 
 pub returns-clause-value : goal.returns-clause-value

@@ -19,7 +19,7 @@ found f n x p b r w old e h = start_found f n x p (p - b) (omega arith) old (λ 
 
 pub loop-back-preserved : goal.loop-back-preserved
 loop-back-preserved c =
-    let moved = rw c.start-from.ensures.value at c.moves_at.ensures in
+    let moved = rw c.start-from.ensures at c.moves_at.ensures in
     one_more (value_at c.args.self.now) c.args.turn (to_z w128 (of_z w128 c.args.jump)) (repeat_start c.args.self.now) c.loop-back.back c.moves_at.result
     (omega arith) c.loop-back.invariant moved c.if-not-moves_at.false
 
@@ -27,8 +27,8 @@ pub returns-then-not-moves_at-clause-value : goal.returns-then-not-moves_at-clau
 returns-then-not-moves_at-clause-value c =
     let f = value_at c.args.self.now in
     let p : ℕ = repeat_start c.args.self.now in
-    let moved = rw c.start-from.ensures.value at c.moves_at.ensures in
-    ap (λ (z : ℕ). z - c.loop-back.back) c.start-from.ensures.value
+    let moved = rw c.start-from.ensures at c.moves_at.ensures in
+    ap (λ (z : ℕ). z - c.loop-back.back) c.start-from.ensures
     ∙ found f c.args.turn (to_z w128 (of_z w128 c.args.jump)) p c.loop-back.back c.moves_at.result
     (omega arith) c.loop-back.invariant moved c.if-not-moves_at.true
     ∙ ap (least_start_of f p c.args.turn) (to_z-of_z w128 c.args.jump c.ranges.jump)

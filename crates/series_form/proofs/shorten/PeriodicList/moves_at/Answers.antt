@@ -14,7 +14,7 @@ pub overflow_add-there : goal.overflow_add-there
 overflow_add-there c =
     let some = c.self.invariant.fits in
     let few = c.self.invariant.short in
-    let turn : c.args.turn ≤ c.self.inside.period = rw (← c.self.view_is) at c.requires.turn in
+    let turn : c.args.turn ≤ c.self.inside.period = rw (← c.self.view_is) at c.requires.jump.within in
     let shift : c.args.shift < length c.self.inside.values.now = rw (← c.self.view_is) at c.requires.shift in
     omega arith
 
@@ -44,9 +44,9 @@ returns c =
     let j : ℤ = c.args.jump in
     let some = c.self.invariant.positive in
     let fits = c.self.invariant.fits in
-    let turn : m ≤ n = rw (← c.self.view_is) at c.requires.turn in
+    let turn : m ≤ n = rw (← c.self.view_is) at c.requires.jump.within in
     let shift : k < length l = rw (← c.self.view_is) at c.requires.shift in
-    let room : FitsSigned w128 (x -ℤ j) = rw (← c.self.view_is) at c.requires.rest in
+    let room : FitsSigned w128 (x -ℤ j) = rw (← c.self.view_is) at c.requires.jump.rest in
     let a : Date = get_or l (k + m - n) Early in
     let b : Date = get_or l k Early in
     let here : V l n x k ≡ b = value_in (form_with l n x) k shift in

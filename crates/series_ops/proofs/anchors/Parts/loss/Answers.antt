@@ -26,7 +26,7 @@ lost f place v w e = sym (ap (λ (z : Date). gap (scaled f.period z) (At (times 
 
 pub returns-in-At-clause-value : goal.returns-in-At-clause-value
 returns-in-At-clause-value c =
-    let low : unsigned_abs c.in-At.value ≤ greatest_part_value = subst (λ (z : Date). IsMagnitudeUpTo greatest_part_value z) c.in-At.is (c.requires.small c.args.place) in
+    let low : unsigned_abs c.in-At.value ≤ greatest_part_value = subst (λ (z : Date). IsMagnitudeUpTo greatest_part_value z) c.in-At.is (c.args.self.now.up c.args.place) in
     let a : c.many.result ≡ times c.args.place c.args.self.now.step = c.many.ensures.value
     ∙ ap (times c.args.place) (to_z-of_z w128 c.args.self.now.step (moderate_fits c.args.self.now.step (omega (arith, c.args.self.now.small_step)))) in
     let b : c.many-in-At.result ≡ times c.args.self.now.period c.in-At.value = c.many-in-At.ensures.value

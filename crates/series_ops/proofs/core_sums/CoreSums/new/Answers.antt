@@ -6,17 +6,17 @@ use Rattle.series_ops.proofs.core_sums.CoreSums.new.Goals as goal
 pub places_begun-begun-requires : goal.places_begun-begun-requires
 places_begun-begun-requires c =
     let size : length c.values.result.now ≡ size_of c.args.first.now = ap length c.values.ensures.value in
-    let from = c.in_ok-found.ensures.core.is_stride.from in
+    let from = c.in_ok-found.ensures.is_stride.from in
     omega arith
 
 pub invariant_of-result : goal.invariant_of-result
 invariant_of-result c =
-    let h = c.in_ok-found.ensures.core in
+    let h = c.in_ok-found.ensures in
     let begun = c.places_begun-begun.ensures.within in
     let size = h.size in
     let start = h.is_stride.from in
     record {
-      series = c.in_ok-found.ensures.series;
+      series = c.period-period.ensures.series;
       is_core = h;
       star = c.in_ok-by_star.ensures.sums;
       size = c.in_ok-by_star.ensures.size;
@@ -29,8 +29,8 @@ invariant_of-result c =
       rest_sums = c.in_ok-rest.ensures;
     }
 
-pub known_sums-requires-clause-values : goal.known_sums-requires-clause-values
-known_sums-requires-clause-values c = core_up_to c.args.first.now c.in_ok-found.found.stride c.in_ok-found.found.cells c.in_ok-found.ensures.series c.in_ok-found.ensures.core
+pub sums_in_few_pieces-requires-clause-values : goal.sums_in_few_pieces-requires-clause-values
+sums_in_few_pieces-requires-clause-values c = core_up_to c.args.first.now c.in_ok-found.found.stride c.in_ok-found.found.cells c.period-period.ensures.series c.in_ok-found.ensures
 
-pub known_sums-requires-2-clause-values : goal.known_sums-requires-2-clause-values
-known_sums-requires-2-clause-values c = core_up_to c.args.first.now c.in_ok-found.found.stride c.in_ok-found.found.cells c.in_ok-found.ensures.series c.in_ok-found.ensures.core
+pub sums_in_few_pieces-requires-2-clause-values : goal.sums_in_few_pieces-requires-2-clause-values
+sums_in_few_pieces-requires-2-clause-values c = core_up_to c.args.first.now c.in_ok-found.found.stride c.in_ok-found.found.cells c.period-period.ensures.series c.in_ok-found.ensures
