@@ -31,24 +31,6 @@ fn transpose_number(
     }
 }
 
-// The dates transition by transition.
-fn transpose(
-    alloc: Global,
-    width: usize,
-    numbers: usize,
-    dates: &LatestList,
-) -> Result<LatestList, AllocError>
-    requires { HasShape width numbers dates.now }
-    ensures { IfOk result (λ columns. AreTransposedTo width numbers dates.now columns
-        (numbers * width)) }
-{
-    let mut columns = LatestList::new(alloc, numbers * width)?;
-    for number in 0..numbers {
-        transpose_number(width, numbers, dates, &mut columns, number);
-    }
-    Ok(columns)
-}
-
 // Latest dates that are read transition by transition. Contracts see the list of them number by
 // number.
 #[derive(Debug, Drop)]
@@ -81,7 +63,10 @@ impl TransposedList {
         requires { HasShape width numbers dates.now }
         ensures { IfOk result (λ list. list ≡ dates.now) }
     {
-        let columns = transpose(alloc, width, numbers, dates)?;
+        let mut columns = LatestList::new(alloc, numbers * width)?;
+        for number in 0..numbers {
+            transpose_number(width, numbers, dates, &mut columns, number);
+        }
         Ok(TransposedList {
             width,
             numbers,
