@@ -2,7 +2,6 @@
 //! lowered to that of the next number, and to what each place leaves of the date at its end.
 ghost use Rattle.std.specs.Prelude.{◌≡◌, ◌+◌, ◌-◌, ◌*◌, ◌<◌, ◌≤◌, ℕ, List, length, IfOk, IfSome, slice_index_or, slice_set, Option};
 ghost use Rattle.teg_check.specs.Ranks.{IsRanking};
-ghost use Rattle.teg_dates.specs.DateTables.{most_numbers};
 ghost use Rattle.teg_due.specs.RowRules.{due_in};
 ghost use Rattle.teg_jit.specs.BackwardOrder.{IsBackOrder};
 ghost use Rattle.teg_jit.specs.declared.answers.LatestDate.TheVariants.{Free};

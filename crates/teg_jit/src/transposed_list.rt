@@ -1,6 +1,6 @@
 //! Latest dates that stand transition by transition, as they are read, where the passes have them
 //! number by number.
-ghost use Rattle.std.specs.Prelude.{◌≡◌, ◌+◌, ◌*◌, ◌≤◌, ◌<◌, length, slice_index_or, IfOk};
+ghost use Rattle.std.specs.Prelude.{◌≡◌, ◌+◌, ◌*◌, ◌<◌, length, slice_index_or, IfOk};
 ghost use Rattle.teg_jit.specs.declared.answers.LatestDate.TheVariants.{Free};
 ghost use Rattle.teg_jit.specs.Transposed.{AreTransposedTo, HasShape};
 

@@ -18,27 +18,6 @@ use std::alloc::{AllocError, Global};
 use teg_net::{Circuit, Net, OutOfMemory, TransitionId};
 use teg_text::{push_circuit, row_fault};
 
-// Appends the delays of a transition at the numbers from 1 to `count`, each behind a blank.
-fn push_delays(
-    text: &mut String,
-    delayed: &Delayed,
-    transition: TransitionId,
-    count: u64,
-) -> Result<(), AllocError>
-    requires transition { transition.index < length delayed.now.firsts }
-    requires count { count ≤ greatest_firing_number }
-    ensures text { IfOk result (λ _. string_bytes text.new ≡
-        string_bytes text.old ++ flat_map (λ k. 32 ∷ decimal (delay_by_spread delayed.now
-        transition.index k)) (range_with_len 1 count)) }
-    ensures small { IfOk result (λ _. AreLeftDelaysShort delayed.now transition.index count) }
-{
-    for index in 0..count {
-        let delay = delayed.delay(transition, index + 1);
-        write!(text, " {delay}")?;
-    }
-    Ok(())
-}
-
 // Begins the line of the delays of the transition of this number, counted from 0.
 fn begin_line(text: &mut String, net: &Net, index: usize) -> Result<(), AllocError>
     requires { index < length net.now.transitions }
@@ -73,7 +52,10 @@ fn push_line(
         index: index as u32,
     };
     begin_line(text, net, index)?;
-    push_delays(text, delayed, transition, count)?;
+    for done in 0..count {
+        let delay = delayed.delay(transition, done + 1);
+        write!(text, " {delay}")?;
+    }
     text.push('\n')?;
     Ok(())
 }
