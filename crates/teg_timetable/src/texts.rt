@@ -1,7 +1,5 @@
 //! The texts of answers about timetables.
-ghost use Rattle.std.specs.Prelude.{ℕ, ◌≡◌, ◌++◌, ◌∷◌, ◌<◌, ◌≤◌, [], IfOk, codes, IfSome, length, string_bytes};
-ghost use Rattle.std.specs.Fmt.{decimal};
-ghost use Rattle.std.specs.List.{flat_map, range_with_len};
+ghost use Rattle.std.specs.Prelude.{◌≡◌, ◌++◌, ◌<◌, ◌≤◌, [], IfOk, codes, IfSome, length, string_bytes};
 ghost use Rattle.teg_net.specs.Circuits.{AreInRange};
 ghost use Rattle.teg_net.specs.Limits.{greatest_firing_number};
 ghost use Rattle.teg_text.specs.Lines.{line_then, written};
@@ -60,23 +58,6 @@ fn push_line(
     Ok(())
 }
 
-// Appends the lines of the delays of all transitions in order.
-fn push_lines(text: &mut String, net: &Net, delayed: &Delayed, count: u64) -> Result<(), AllocError>
-    requires width { length delayed.now.firsts ≡ length net.now.transitions }
-    requires count { count ≤ greatest_firing_number }
-    ensures text { IfOk result (λ _. string_bytes text.new ≡
-        string_bytes text.old ++ flat_map (λ i. line_then (delays_line net.now i (delays_up_to
-        (delay_by_spread delayed.now i) count)) []) (range_with_len 0 (length
-        net.now.transitions))) }
-    ensures small { IfOk result (λ _. (i : ℕ) → i < length net.now.transitions
-        → AreLeftDelaysShort delayed.now i count) }
-{
-    for index in 0..net.transitions().len() {
-        push_line(text, net, delayed, index, count)?;
-    }
-    Ok(())
-}
-
 // Appends the two lines of the circuit that keeps delays.
 fn push_kept(text: &mut String, net: &Net, circuit: &Circuit) -> Result<(), AllocError>
     requires { AreInRange net.now circuit.now.places.items }
@@ -120,7 +101,10 @@ pub fn spread_text(alloc: Global, net: &Net, delayed: &Delayed) -> Result<String
     let period = delayed.period();
     let mut text = format!(in alloc; "settled after {after} period {period}\n")?;
     push_outcome(&mut text, net, delayed.outcome())?;
-    push_lines(&mut text, net, delayed, after + period)?;
+    let count = after + period;
+    for index in 0..net.transitions().len() {
+        push_line(&mut text, net, delayed, index, count)?;
+    }
     Ok(text)
 }
 
