@@ -1,11 +1,12 @@
 -- Latest dates in eight bytes each.
-use Rattle.std.proofs.Common.{ℕ, zero, suc, ◌<◌, ◌≤◌, ◌≡◌, List, ◌∷◌, length, get_or, set, map, replicate, refl, sym, ap, ◌∙◌, arith, ⊎_elim}
+use Rattle.std.proofs.Common.{ℕ, zero, suc, ◌+◌, ◌*◌, ◌<◌, ◌≤◌, ◌≡◌, List, ◌∷◌, length, get_or, set, map, replicate, refl, sym, ap, ◌∙◌, arith, ⊎_elim}
 use Rattle.std.proofs.lemmas.Bool.{cases_lt}
 use Rattle.std.proofs.lemmas.List.{get_or-map, map-set, length-map, get_or-replicate, get_or_past, length-replicate}
 use Rattle.teg_dates.specs.DateCells.{no_number}
+use Rattle.teg_jit.specs.declared.answers.Onward.{Onward}
 use Rattle.teg_jit.specs.declared.answers.LatestDate.{LatestDate}
-use Rattle.teg_jit.specs.declared.answers.LatestDate.TheVariants.{Free}
-use Rattle.teg_jit.specs.LatestCells.{latest_of}
+use Rattle.teg_jit.specs.declared.answers.LatestDate.TheVariants.{Free, At}
+use Rattle.teg_jit.specs.LatestCells.{latest_of, most_cell_date, step_of_number}
 
 free_of : (n : ℕ) → map latest_of (replicate n no_number) ≡ replicate n Free
 free_of zero = refl
@@ -31,3 +32,6 @@ cell_set cells i c b is = map-set latest_of cells i c ∙ ap (λ z. set (map lat
 
 pub cell_copied : (cells other : List ℕ) (i j c : ℕ) → j < length other → c ≡ get_or other j c → map latest_of (set cells i c) ≡ set (map latest_of cells) i (get_or (map latest_of other) j Free)
 cell_copied cells other i j c l is = cell_set cells i c (get_or (map latest_of other) j Free) (ap latest_of is ∙ cell_at other j c l)
+
+pub packed_is : (date n : ℕ) (o : Onward) → date < most_cell_date → n ≤ 4001 → step_of_number n ≡ o → latest_of (date * 4096 + n) ≡ At date o
+packed_is date n o l m is = grind arith

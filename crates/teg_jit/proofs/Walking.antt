@@ -162,13 +162,15 @@ pub step_next : (b : LatestDate) → IsFirstStep b (Some to_next) → (d : ℕ) 
 step_next Free h = absurd (none_is_no_step to_next (sym h))
 step_next (At d o) h = (d, ap (At d) (onward_next o h))
 
--- the place of a step is one of the net
-pub place_in : (net : NetLists) (plan : PlanDates) (due : ℕ → ℕ → Option ℕ) (at count d : ℕ) (p : PlaceId) → IsPlanFor net due plan
-    → at < plan.width → 1 ≤ count → latest_at plan at count ≡ At d (By p) → p.index < length net.places
-place_in net plan due at count d p for l o here =
+-- a first step by a place, which is one of the net
+pub steps_by : (net : NetLists) (plan : PlanDates) (due : ℕ → ℕ → Option ℕ) (t k : ℕ) (steps : List Step) (at count : ℕ) → IsNet net
+    → KeepsSizes plan → IsPlanFor net due plan → WalkedTo net plan t k steps at count → (p : PlaceId) → IsFirstStep (latest_at plan at count) (Some (by_place p))
+    → (p.index < length net.places) × IsStepTo net plan t k steps (by_place p) at count (place_at net p).to.index (count + (place_at net p).tokens)
+steps_by net plan due t k steps at count ok is for h p step =
+    let here = step_by (latest_at plan at count) p step in
     let w = for.width in
-    let onward : HasOnward net due (dates_of_plan plan) at count (At d (By p)) = rw here at (rw (← w) at (for.onward at count (rw w at l) o)) in
-    onward.0
+    let onward : HasOnward net due (dates_of_plan plan) at count (At here.0 (By p)) = rw here.1 at (rw (← w) at (for.onward at count (rw w at h.at_in) h.from_one)) in
+    (onward.0, place_step net plan due t k steps at count ok is for h here.0 p here.1)
 
 -- ---- the end
 

@@ -75,21 +75,6 @@ fn take_dates(asked: &AskedRows<'_>, first: &mut FirstRows, cells: &mut [u64], d
     }
 }
 
-// The dates of the rows' firings, from the first row of dates on: cells of eight bytes.
-fn asked_dates(alloc: Global, live: &Live, asked: &AskedRows<'_>) -> Result<Vec<u64>, OutOfMemory>
-    requires stands { IsRanking asked.now.net.now live.now }
-    requires asked { AreAsked asked.now.net.now asked.now.rows.now asked.now.order.now }
-    ensures dates { IfOk result (λ dates. (x : ℕ → ℕ → Date) → IsLeastDating asked.now.net.now x
-        → AreDatesOfRows x asked.now.rows.now dates.items) }
-    ensures exists { IfOk result (λ _. (x : ℕ → ℕ → Date) × IsLeastDating asked.now.net.now x) }
-{
-    let mut cells = vec![in alloc; 0u64; asked.net.transitions().len()]?;
-    let mut dates = vec![in alloc; 0u64; asked.rows.len()]?;
-    let mut first = FirstRows::new(alloc, asked.net, live)?;
-    take_dates(asked, &mut first, &mut cells, &mut dates);
-    Ok(dates)
-}
-
 // The dates of the rows' firings by the least dating of the net.
 pub(crate) fn dates_of_rows(
     alloc: Global,
@@ -110,5 +95,9 @@ pub(crate) fn dates_of_rows(
         rows,
         order: &order,
     };
-    asked_dates(alloc, live, &asked)
+    let mut cells = vec![in alloc; 0u64; net.transitions().len()]?;
+    let mut dates = vec![in alloc; 0u64; rows.len()]?;
+    let mut first = FirstRows::new(alloc, net, live)?;
+    take_dates(&asked, &mut first, &mut cells, &mut dates);
+    Ok(dates)
 }

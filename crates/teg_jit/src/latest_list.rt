@@ -1,7 +1,7 @@
 //! Latest dates one after another, in eight bytes each.
 ghost use Rattle.std.specs.Prelude.{◌≡◌, ◌≤◌, ◌<◌, ℕ, length, slice_index_or, slice_set, IfOk};
 ghost use Rattle.teg_jit.specs.declared.answers.LatestDate.TheVariants.{Free, At};
-ghost use Rattle.teg_jit.specs.LatestCells.{most_cell_date, step_numbers, step_of_number, latest_of, HasStepNumber, FitsCell};
+ghost use Rattle.teg_jit.specs.LatestCells.{most_cell_date, step_numbers, step_of_number, HasStepNumber, FitsCell};
 
 use crate::answers::{LatestDate, Onward};
 use std::alloc::{AllocError, Global};
@@ -43,30 +43,6 @@ fn step_of(number: u64) -> Onward
     }
 }
 
-// The eight bytes of a date with its first step.
-fn packed(date: u64, onward: Onward) -> u64
-    requires date { date < most_cell_date }
-    requires step { HasStepNumber onward }
-    ensures { latest_of result ≡ At date onward }
-{
-    date * STEPS + number_of(onward)
-}
-
-// The latest date of eight bytes.
-fn unpacked(cell: u64) -> LatestDate
-    ensures value { result ≡ latest_of cell }
-    ensures fits { FitsCell result }
-{
-    if cell == FREE {
-        LatestDate::Free
-    } else {
-        LatestDate::At {
-            date: cell / STEPS,
-            onward: step_of(cell % STEPS),
-        }
-    }
-}
-
 // Latest dates one after another, in eight bytes each. Contracts see the list of them.
 #[derive(Debug, Drop)]
 pub(crate) struct LatestList {
@@ -101,18 +77,26 @@ impl LatestList {
         ensures value { result ≡ slice_index_or self.now index Free }
         ensures fits { FitsCell result }
     {
-        unpacked(self.cells[index])
+        let cell = self.cells[index];
+        if cell == FREE {
+            LatestDate::Free
+        } else {
+            LatestDate::At {
+                date: cell / STEPS,
+                onward: step_of(cell % STEPS),
+            }
+        }
     }
 
     // Sets the date at this index. It takes no memory.
-    #[tactic(auto, using(crate::proofs::Packing::cell_set))]
+    #[tactic(auto, using(crate::proofs::Packing::cell_set, crate::proofs::Packing::packed_is))]
     pub(crate) fn set(&mut self, index: usize, date: u64, onward: Onward)
         requires index { index < length self.old }
         requires date { date < most_cell_date }
         requires step { HasStepNumber onward }
         ensures { self.new ≡ slice_set self.old index (At date onward) }
     {
-        self.cells[index] = packed(date, onward);
+        self.cells[index] = date * STEPS + number_of(onward);
     }
 
     // Sets the date at this index to one of another list. It takes no memory.

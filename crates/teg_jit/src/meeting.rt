@@ -8,7 +8,7 @@ ghost use Rattle.teg_jit.specs.GoingBack.{AreListedUpTo};
 ghost use Rattle.teg_jit.specs.Plans.{IsPlanFor};
 
 use crate::order::by_depth;
-use crate::passes::{begin, pass_all};
+use crate::passes::{begin, pass_next, pass_places};
 use crate::plan::Plan;
 use crate::transposed_list::TransposedList;
 use std::alloc::{AllocError, Global};
@@ -33,7 +33,11 @@ pub(crate) fn plan_for(
 {
     let order = by_depth(alloc, net, live)?;
     let mut dates = begin(alloc, net, rows, last)?;
-    pass_all(net, &order, &mut dates, last);
+    for done in 0..last {
+        let number = last - done;
+        pass_next(net, &mut dates, last, number);
+        pass_places(net, &order, &mut dates, last, number);
+    }
     let width = net.transitions().len();
     let dates = TransposedList::new(alloc, width, last as usize, &dates)?;
     Ok(Plan::new(width, last, dates))

@@ -2,7 +2,6 @@
 //! lowered to that of the next number, and to what each place leaves of the date at its end.
 ghost use Rattle.std.specs.Prelude.{◌≡◌, ◌+◌, ◌-◌, ◌*◌, ◌<◌, ◌≤◌, ℕ, List, length, IfOk, IfSome, slice_index_or, slice_set, Option};
 ghost use Rattle.teg_check.specs.Ranks.{IsRanking};
-ghost use Rattle.teg_dates.specs.DateTables.{most_numbers};
 ghost use Rattle.teg_due.specs.RowRules.{due_in};
 ghost use Rattle.teg_jit.specs.BackwardOrder.{IsBackOrder};
 ghost use Rattle.teg_jit.specs.declared.answers.LatestDate.TheVariants.{Free};
@@ -59,21 +58,6 @@ fn date_at(
     }
 }
 
-// Sets the due dates.
-fn set_dues(net: &Net, rows: &[DueRow], dates: &mut LatestList, last: u32)
-    requires due { AreListedUpTo net.now rows.now last }
-    requires full { length dates.old ≡ last * length net.now.transitions }
-    requires free { (i : ℕ) → slice_index_or dates.old i Free ≡ Free }
-    ensures full { length dates.new ≡ last * length net.now.transitions }
-    ensures settled { ArePassedAbove net.now (due_in rows.now) last last dates.new }
-{
-    let width = net.transitions().len();
-    for row in rows {
-        let cell = cell_of(width, row.transition, row.number);
-        lower(dates, cell, row.date, Onward::Due);
-    }
-}
-
 // The dates of numbers 1 to `last` with the due dates alone.
 pub(crate) fn begin(
     alloc: Global,
@@ -85,14 +69,17 @@ pub(crate) fn begin(
     ensures full { IfOk result (λ dates. length dates ≡ last * length net.now.transitions) }
     ensures settled { IfOk result (ArePassedAbove net.now (due_in rows.now) last last) }
 {
-    let size = last as usize * net.transitions().len();
-    let mut dates = LatestList::new(alloc, size)?;
-    set_dues(net, rows, &mut dates, last);
+    let width = net.transitions().len();
+    let mut dates = LatestList::new(alloc, last as usize * width)?;
+    for row in rows {
+        let cell = cell_of(width, row.transition, row.number);
+        lower(&mut dates, cell, row.date, Onward::Due);
+    }
     Ok(dates)
 }
 
 // Lowers the dates of the number to those of the next.
-fn pass_next(net: &Net, dates: &mut LatestList, last: u32, number: u32)
+pub(crate) fn pass_next(net: &Net, dates: &mut LatestList, last: u32, number: u32)
     requires { HasNumber net.now last number dates.old }
     ensures full { length dates.new ≡ last * length net.now.transitions }
     ensures passed { (due : ℕ → ℕ → Option ℕ) → ArePassedAbove net.now due last number dates.old
@@ -116,7 +103,13 @@ fn pass_next(net: &Net, dates: &mut LatestList, last: u32, number: u32)
 }
 
 // Lowers the dates of the number to what each place leaves of the date at its end.
-fn pass_places(net: &Net, order: &[Depth], dates: &mut LatestList, last: u32, number: u32)
+pub(crate) fn pass_places(
+    net: &Net,
+    order: &[Depth],
+    dates: &mut LatestList,
+    last: u32,
+    number: u32,
+)
     requires order { (ranks : List ℕ) × IsRanking net.now ranks
         × IsBackOrder net.now ranks order.now }
     requires number { HasNumber net.now last number dates.old }
@@ -140,24 +133,5 @@ fn pass_places(net: &Net, order: &[Depth], dates: &mut LatestList, last: u32, nu
             ),
             None => {}
         }
-    }
-}
-
-// Settles the dates of all numbers, going back from the last.
-pub(crate) fn pass_all(net: &Net, order: &[Depth], dates: &mut LatestList, last: u32)
-    requires order { (ranks : List ℕ) × IsRanking net.now ranks
-        × IsBackOrder net.now ranks order.now }
-    requires few { last ≤ most_numbers }
-    requires full { length dates.old ≡ last * length net.now.transitions }
-    requires begun { (due : ℕ → ℕ → Option ℕ) × ArePassedAbove net.now due last last dates.old
-        × HaveRoom net.now due }
-    ensures full { length dates.new ≡ last * length net.now.transitions }
-    ensures settled { (due : ℕ → ℕ → Option ℕ) → ArePassedAbove net.now due last last dates.old
-        → ArePassedAbove net.now due last 0 dates.new }
-{
-    for done in 0..last {
-        let number = last - done;
-        pass_next(net, dates, last, number);
-        pass_places(net, order, dates, last, number);
     }
 }

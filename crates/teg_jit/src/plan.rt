@@ -8,7 +8,7 @@ ghost use Rattle.teg_jit.specs.Plans.{latest_at, dates_of_plan, IsPlanFor, Stand
 use crate::answers::{LatestDate, Onward};
 use crate::cells::cell_of;
 use crate::transposed_list::TransposedList;
-use std::alloc::{AllocError, Global};
+use std::alloc::Global;
 use std::marker::Model;
 use teg_net::{Net, OutOfMemory, Step, TransitionId, Walk};
 
@@ -30,6 +30,20 @@ impl Model for Plan {
 
     ghost invariant = { λ a. KeepsSizes
         (record { width = a.width; numbers = a.numbers; dates = a.dates }) };
+}
+
+// The step by which a latest date is attained; none where the firing is free, or due at it.
+fn first_step(date: LatestDate) -> Option<Step>
+    ensures { IsFirstStep date result }
+{
+    match date {
+        LatestDate::Free => None,
+        LatestDate::At { onward, .. } => match onward {
+            Onward::Due => None,
+            Onward::By(place) => Some(Step::By(place)),
+            Onward::Next => Some(Step::Next),
+        },
+    }
 }
 
 impl Plan {
@@ -66,64 +80,6 @@ impl Plan {
         self.dates.get(cell_of(self.width, transition, number))
     }
 
-    // The step by which the firing's latest date is attained; none where the firing is due at it.
-    fn step(&self, transition: TransitionId, number: u32) -> Option<Step>
-        requires transition { transition.index < self.now.width }
-        requires number { 1 ≤ number }
-        requires last { number ≤ self.now.numbers }
-        ensures step { IsFirstStep (latest_at self.now transition.index number) result }
-        ensures limits { KeepsSizes self.now }
-    {
-        match self.latest(transition, number) {
-            LatestDate::Free => None,
-            LatestDate::At { onward, .. } => match onward {
-                Onward::Due => None,
-                Onward::By(place) => Some(Step::By(place)),
-                Onward::Next => Some(Step::Next),
-            },
-        }
-    }
-
-    // The walk from a firing that is not free, by the first steps, up to a firing that is due.
-    fn walk_from(
-        &self,
-        alloc: Global,
-        net: &Net,
-        transition: TransitionId,
-        number: u32,
-    ) -> Result<Walk, AllocError>
-        requires stands { StandsForNet net.now self.now }
-        requires transition { transition.index < self.now.width }
-        requires number { 1 ≤ number }
-        requires last { number ≤ self.now.numbers }
-        requires bounded { latest_at self.now transition.index number ≢ Free }
-        ensures tight { IfOk result (λ walk. (due : ℕ → ℕ → Option ℕ)
-            → IsPlanFor net.now due self.now → IsTightWalk net.now due transition.index number
-            (dates_of_plan self.now transition.index number) walk) }
-        ensures follows { IfOk result (λ walk. FollowsPlan net.now self.now transition.index number
-            walk.steps.items) }
-    {
-        let places = net.places();
-        let mut steps = Vec::new(alloc);
-        let mut at = transition;
-        let mut count = number;
-        while let Some(step) = self.step(at, count) {
-            steps.push(step)?;
-            (at, count) = match step {
-                Step::By(id) => {
-                    let place = &places[id.index as usize];
-                    (place.to, count + place.tokens)
-                }
-                Step::Next => (at, count + 1),
-            };
-        }
-        Ok(Walk {
-            start: transition,
-            number: number as u64,
-            steps,
-        })
-    }
-
     /// The walk from a firing that is not free, by the first steps, up to a firing that is due: its
     /// due date less its time is the latest date. `OutOfMemory` comes only where no memory is
     /// found.
@@ -145,6 +101,24 @@ impl Plan {
         ensures follows { IfOk result (λ walk. FollowsPlan net.now self.now transition.index number
             walk.steps.items) }
     {
-        Ok(self.walk_from(alloc, net, transition, number)?)
+        let places = net.places();
+        let mut steps = Vec::new(alloc);
+        let mut at = transition;
+        let mut count = number;
+        while let Some(step) = first_step(self.latest(at, count)) {
+            steps.push(step)?;
+            (at, count) = match step {
+                Step::By(id) => {
+                    let place = &places[id.index as usize];
+                    (place.to, count + place.tokens)
+                }
+                Step::Next => (at, count + 1),
+            };
+        }
+        Ok(Walk {
+            start: transition,
+            number: number as u64,
+            steps,
+        })
     }
 }

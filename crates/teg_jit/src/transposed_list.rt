@@ -1,6 +1,6 @@
 //! Latest dates that stand transition by transition, as they are read, where the passes have them
 //! number by number.
-ghost use Rattle.std.specs.Prelude.{◌≡◌, ◌+◌, ◌*◌, ◌≤◌, ◌<◌, length, slice_index_or, IfOk};
+ghost use Rattle.std.specs.Prelude.{◌≡◌, ◌+◌, ◌*◌, ◌<◌, length, slice_index_or, IfOk};
 ghost use Rattle.teg_jit.specs.declared.answers.LatestDate.TheVariants.{Free};
 ghost use Rattle.teg_jit.specs.Transposed.{AreTransposedTo, HasShape};
 
@@ -29,24 +29,6 @@ fn transpose_number(
             number * width + transition,
         );
     }
-}
-
-// The dates transition by transition.
-fn transpose(
-    alloc: Global,
-    width: usize,
-    numbers: usize,
-    dates: &LatestList,
-) -> Result<LatestList, AllocError>
-    requires { HasShape width numbers dates.now }
-    ensures { IfOk result (λ columns. AreTransposedTo width numbers dates.now columns
-        (numbers * width)) }
-{
-    let mut columns = LatestList::new(alloc, numbers * width)?;
-    for number in 0..numbers {
-        transpose_number(width, numbers, dates, &mut columns, number);
-    }
-    Ok(columns)
 }
 
 // Latest dates that are read transition by transition. Contracts see the list of them number by
@@ -81,7 +63,10 @@ impl TransposedList {
         requires { HasShape width numbers dates.now }
         ensures { IfOk result (λ list. list ≡ dates.now) }
     {
-        let columns = transpose(alloc, width, numbers, dates)?;
+        let mut columns = LatestList::new(alloc, numbers * width)?;
+        for number in 0..numbers {
+            transpose_number(width, numbers, dates, &mut columns, number);
+        }
         Ok(TransposedList {
             width,
             numbers,

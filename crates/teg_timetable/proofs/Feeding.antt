@@ -1,6 +1,6 @@
 -- Places that pass the greatest delay on, and what becomes of the delays.
 use Rattle.std.proofs.Common.{ℕ, ◌+◌, ◌<◌, ◌≤◌, ◌≡◌, ◌≢◌, List, length, get_or, set, take, drop, Option, Some, None, sym, ap, subst, ◌∙◌, arith, ⊎_elim}
-use Rattle.std.specs.Prelude.{All, ◌⊎◌}
+use Rattle.std.specs.Prelude.{◌⊎◌}
 use Rattle.std.proofs.lemmas.Bool.{cases_eq, cases_lt}
 use Rattle.std.proofs.lemmas.List.{length-set, get_or-set_same, get_or-set_other}
 use Rattle.std.proofs.lemmas.List.Elements.{All-append, All-drop, All-take}
@@ -74,7 +74,7 @@ top_is d i top h most past le =
     omega arith
 
 -- delays that settle, and the greatest that is left of each transition
-module _ (s : TopDelays) (rules : IsNet s.net) (d : LeftDelays) (settled : AreSettledDelays s.net s.period s.table (delay_left d) d.form.after d.form.period)
+module _ (s : TopDelays) (d : LeftDelays) (settled : AreSettledDelays s.net s.period s.table (delay_left d) d.form.after d.form.period)
     (h : AreTopsOf d s) where
   abbrev IsPast : ℕ → ℕ → Type 0
   IsPast most i = HasDelayPast (delay_left d) d.form.after d.form.period most i
@@ -94,10 +94,10 @@ module _ (s : TopDelays) (rules : IsNet s.net) (d : LeftDelays) (settled : AreSe
     some = λ i l is.
         let long = h.built.long in
         let own : IsPast (greatest_top s) i = subst (λ (z : ℕ). IsPast z i) is (h.built.each i 0 l).attained in
-        let on = greatest_delays_are_passed_on s.net (ends_in s.net rules) h.top.planned.live s.period h.top.planned.some s.table h.top.planned.workable
+        let on = greatest_delays_are_passed_on s.net h.top.planned.ends h.top.planned.live s.period h.top.planned.some s.table h.top.planned.workable
         (delay_left d) d.form.after d.form.period settled (greatest_top s) late greatest_past i l own in
         let p : PlaceId = on.0 in
-        let from_in : from_of s.net p < length s.net.transitions = (rules.each_place p.index _ on.1.place).from_in in
+        let from_in : from_of s.net p < length s.net.transitions = (h.top.planned.ends p.index _ on.1.place).0 in
         let below : get_or s.tops (from_of s.net p) 0 ≤ greatest_top s = h.high (from_of s.net p) 0 (omega arith) in
         let from = top_is d (from_of s.net p) (get_or s.tops (from_of s.net p) 0) (h.built.each (from_of s.net p) 0 from_in) (greatest_top s) on.1.from below in
         let to = ap (λ (j : ℕ). get_or s.tops j 0) on.1.to ∙ is in
@@ -117,7 +117,7 @@ module _ (s : TopDelays) (rules : IsNet s.net) (d : LeftDelays) (settled : AreSe
   pub kept : 1 ≤ greatest_top s → (circuit : List PlaceId) → IsCircuit s.net circuit → BeginsLowest s.net circuit → AreGood s circuit
       → KeepsDelays s.net s.period (delay_left d) circuit
   kept late circuit is lowest good =
-      let ends = ends_in s.net rules in
+      let ends = h.top.planned.ends in
       let within = circuit_within s.net circuit ends is in
       circuits_keep_delays s.net s.period s.table ends (delay_left d) d.form.after d.form.period settled (greatest_top s) late circuit is lowest
       (λ k e l. (good k e l).no_spare)

@@ -1,5 +1,5 @@
 -- What the settled form of the net with the releases as inputs tells of the delays.
-use Rattle.std.proofs.Common.{ℕ, ◌+◌, ◌<◌, ◌≤◌, ◌≡◌, length, Option, sym, ap, subst, ◌∙◌, arith, ⊎_elim}
+use Rattle.std.proofs.Common.{ℕ, ◌+◌, ◌<◌, ◌≤◌, length, Option, arith, ⊎_elim}
 use Rattle.std.proofs.lemmas.Bool.{cases_lt}
 use Rattle.std.proofs.lemmas.List.{get_or_past}
 use Rattle.delay_laws.specs.declared.table.Timetable.{Timetable}
@@ -9,7 +9,7 @@ use Rattle.delay_laws.specs.SettlingLaws.{AreSettledDelays, TellsDelays}
 use Rattle.delay_laws.proofs.Dated.{delays_left_are_within}
 use Rattle.delay_laws.proofs.Steps.{forms_tell_delays}
 use Rattle.teg_settle.specs.settled_laws.SettledForms.{SettledForm, settled_length}
-use Rattle.teg_net.specs.Nets.{IsNet, NetLists}
+use Rattle.teg_net.specs.Nets.{NetLists}
 use Rattle.teg_net.specs.Limits.{most_rows}
 use Rattle.teg_net.proofs.PathLaws.{IsPathBetween-in_range}
 use Rattle.teg_timetable.specs.declared.refusals.DelayRefusal.{DelayRefusal}
@@ -17,17 +17,12 @@ use Rattle.teg_timetable.specs.declared.refusals.DelayRefusal.TheVariants.{TooLa
 use Rattle.teg_timetable.specs.DelayAnswers.{IsDelayRefusal, IsNetTooLarge, IsOutcomeIn, IsSettlingRefusal, IsRightOutcome, IsSpread, IsLengthWithinLimit}
 use Rattle.teg_timetable.specs.PlannedNets.{IsPlannedNet}
 use Rattle.teg_timetable.specs.Spreads.{AreLeftDelays, LeftDelays, OutcomeTold, RecoveredTold, KeptTold, delay_left, most_timetable_entries, most_timetable_transitions}
-use Rattle.teg_timetable.proofs.Feeding.{ends_in}
 
 -- the delays by a plan and a form
 abbrev pub left_of : ℕ → Timetable → SettledForm → LeftDelays
 left_of period t f = record { firsts = t.firsts.items; every = period; form = f }
 
--- the same by any delays of this plan and form
-same_left : (period : ℕ) (t : Timetable) (s : LeftDelays) → s.firsts ≡ t.firsts.items → s.every ≡ period → s ≡ left_of period t s.form
-same_left period t s firsts every = λ i. record { firsts = firsts i; every = every i; form = s.form }
-
-module _ (net : NetLists) (rules : IsNet net) (period : ℕ) (t : Timetable) (h : IsPlannedNet net period t) where
+module _ (net : NetLists) (period : ℕ) (t : Timetable) (h : IsPlannedNet net period t) where
   not_over : IsNetTooLarge net → ⊥
   not_over =
       let few = h.few in
@@ -45,17 +40,19 @@ module _ (net : NetLists) (rules : IsNet net) (period : ℕ) (t : Timetable) (h 
   -- no delay that is left exceeds the limit of those that are given
   small_left : (f : SettledForm) → IsFormOfDelays net period t f → (i k : ℕ) → i < length net.transitions → 1 ≤ k → delay_left (left_of period t f) i k ≤ greatest_delay
   small_left f form i k l o =
-      let tells = forms_tell_delays net (ends_in net rules) period t h.workable f form in
-      delays_left_are_within net (ends_in net rules) period t h.workable (delay_left (left_of period t f)) tells.0.left greatest_delay
+      let tells = forms_tell_delays net h.ends period t h.workable f form in
+      delays_left_are_within net h.ends period t h.workable (delay_left (left_of period t f)) tells.0.left greatest_delay
       (λ j d m. (h.table.delays_in j d m).by_in) i k l o
 
   pub left_delays : (f : SettledForm) → IsFormOfDelays net period t f → settled_length f ≤ most_rows → AreLeftDelays (left_of period t f)
   left_delays f form short =
-      let tells = forms_tell_delays net (ends_in net rules) period t h.workable f form in
+      let tells = forms_tell_delays net h.ends period t h.workable f form in
       let sizes = form.3.stands.sizes in
       let rows = sizes.rows_are in
       let each = h.table.one_each in
+      let few = h.few in
       record {
+        few = omega arith;
         rows = omega arith;
         firsts_in = λ i. ⊎_elim
             (λ (l : i < length t.firsts.items). h.table.firsts_in i 0 l)
@@ -69,23 +66,21 @@ module _ (net : NetLists) (rules : IsNet net) (period : ℕ) (t : Timetable) (h 
       }
 
   -- the delays of this plan by a form
-  module _ (s : LeftDelays) (firsts : s.firsts ≡ t.firsts.items) (every : s.every ≡ period) (form : IsFormOfDelays net period t s.form) where
-    pub settled_left : AreSettledDelays net period t (delay_left s) s.form.after s.form.period
-    settled_left =
-        subst (λ (z : LeftDelays). AreSettledDelays net period t (delay_left z) s.form.after s.form.period) (sym (same_left period t s firsts every))
-        (forms_tell_delays net (ends_in net rules) period t h.workable s.form form).0
+  module _ (f : SettledForm) (form : IsFormOfDelays net period t f) where
+    pub settled_left : AreSettledDelays net period t (delay_left (left_of period t f)) f.after f.period
+    settled_left = (forms_tell_delays net h.ends period t h.workable f form).0
 
-    pub spread_is : (limit : Option ℕ) → IsLengthWithinLimit limit (settled_length s.form) → (o : OutcomeTold) → IsRightOutcome net period (delay_left s) o
-        → IsSpread net period t limit (record { firsts = s.firsts; every = s.every; form = s.form; outcome = o })
+    pub spread_is : (limit : Option ℕ) → IsLengthWithinLimit limit (settled_length f) → (o : OutcomeTold) → IsRightOutcome net period (delay_left (left_of period t f)) o
+        → IsSpread net period t limit (record { firsts = t.firsts.items; every = period; form = f; outcome = o })
     spread_is limit within o right =
         record {
           not_over = not_over;
           workable = h.workable;
-          width = ap length firsts ∙ h.table.one_each;
+          width = h.table.one_each;
           form = form;
           within = within;
           delays = settled_left.left;
-          small = λ i k l o. subst (λ (z : LeftDelays). delay_left z i k ≤ greatest_delay) (sym (same_left period t s firsts every)) (small_left s.form form i k l o);
+          small = small_left f form;
           outcome = right;
         }
 

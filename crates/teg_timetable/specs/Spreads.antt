@@ -63,6 +63,7 @@ delay_by_spread s i k = delay_left (left_in s) i k
 
 -- the plan keeps its limits, and up to the greatest number each delayed date is the planned one and a delay within its limit
 pub record AreLeftDelays (s : LeftDelays) : Type 0 where
+  pub few : length s.firsts ≤ most_timetable_transitions
   pub rows : length s.firsts ≤ length s.form.rows
   pub firsts_in : (i : ℕ) → slice_index s.firsts i ≤ greatest_departure
   pub every_in : s.every ≤ greatest_period

@@ -1,5 +1,5 @@
 //! The circuit along which the greatest delay is passed on.
-ghost use Rattle.std.specs.Prelude.{◌≡◌, ◌≢◌, ◌≤◌, ◌<◌, true, false, length, None, Some, IfOk, slice_index_or};
+ghost use Rattle.std.specs.Prelude.{◌≡◌, ◌≢◌, ◌<◌, true, false, length, None, Some, IfOk, slice_index_or};
 ghost use Rattle.delay_laws.specs.DelayOutcomes.{HasNoSpare};
 ghost use Rattle.teg_net.specs.Circuits.{from_of, IsCircuit, BeginsLowest};
 ghost use Rattle.teg_net.specs.Parts.{to_of};

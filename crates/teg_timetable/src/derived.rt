@@ -166,7 +166,6 @@ fn net_of(
 
 // The net with an input for each transition, whose list has the releases of its departures.
 pub(crate) fn derived(alloc: Global, planned: &Planned<'_>) -> Result<Net, OutOfMemory>
-    requires { IsNet planned.now.net.now }
     ensures live { IfOk result IsLive }
     ensures tells { IfOk result (TellsDelays planned.now.net.now planned.now.period
         planned.now.table.now) }

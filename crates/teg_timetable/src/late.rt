@@ -25,7 +25,6 @@ fn top(left: &Left, transition: TransitionId) -> u64
 
 // That of each transition.
 pub(crate) fn tops(alloc: Global, left: &Left) -> Result<Vec<u64>, AllocError>
-    requires { length left.now.firsts ≤ 400 }
     ensures { IfOk result (λ tops. AreBuilt (IsTop left.now) (length left.now.firsts) tops.items) }
 {
     let mut tops = Vec::new(alloc);
@@ -57,7 +56,6 @@ pub(crate) fn highest(tops: &[u64]) -> usize
 fn is_late(left: &Left, number: u64) -> bool
     requires first { 1 ≤ number }
     requires last { number ≤ greatest_firing_number }
-    requires few { length left.now.firsts ≤ 400 }
     ensures late { result ≡ true → (i : ℕ) × (i < length left.now.firsts)
         × (1 ≤ delay_left left.now i number) }
     ensures none { result ≡ false → (i : ℕ) → i < length left.now.firsts → delay_left left.now i
@@ -77,7 +75,6 @@ fn is_late(left: &Left, number: u64) -> bool
 
 // The last number at which a delay is left up to where the dates go on, 0 where there is none.
 pub(crate) fn last_late(left: &Left) -> u64
-    requires { length left.now.firsts ≤ 400 }
     ensures none { (i k : ℕ) → i < length left.now.firsts → result < k → k ≤ left.now.form.after
         → delay_left left.now i k ≡ 0 }
     ensures last { (result ≡ 0) ⊎ ((i : ℕ) × (i < length left.now.firsts)

@@ -3,7 +3,7 @@ ghost use Rattle.std.specs.Prelude.{◌≡◌, ◌≤◌, ◌<◌, length};
 ghost use Rattle.delay_laws.specs.PlannedTimetables.{greatest_delay};
 ghost use Rattle.teg_settle.specs.settled_laws.SettledForms.{settled_length};
 ghost use Rattle.teg_net.specs.Limits.{greatest_firing_number, most_rows};
-ghost use Rattle.teg_timetable.specs.Spreads.{AreLeftDelays, delay_left};
+ghost use Rattle.teg_timetable.specs.Spreads.{AreLeftDelays, delay_left, most_timetable_transitions};
 
 use dioid::Date;
 use std::marker::Model;
@@ -45,7 +45,8 @@ impl Left {
 
     // How many transitions there are.
     pub(crate) fn width(&self) -> usize
-        ensures { result ≡ length self.now.firsts }
+        ensures value { result ≡ length self.now.firsts }
+        ensures few { result ≤ most_timetable_transitions }
     {
         self.firsts.len()
     }
@@ -62,7 +63,6 @@ impl Left {
     pub(crate) fn period(&self) -> u64
         ensures value { result ≡ self.now.form.period }
         ensures some { 1 ≤ result }
-        ensures short { settled_length self.now.form ≤ most_rows }
     {
         self.settled.period()
     }

@@ -1,7 +1,6 @@
 //! What becomes of delays: they die out, or a circuit without spare time keeps them.
 ghost use Rattle.std.specs.Prelude.{◌≡◌, length, IfOk};
 ghost use Rattle.delay_laws.specs.SettlingLaws.{AreSettledDelays};
-ghost use Rattle.teg_net.specs.Nets.{IsNet};
 ghost use Rattle.teg_timetable.specs.DelayAnswers.{IsRightOutcome};
 ghost use Rattle.teg_timetable.specs.Spreads.{delay_left, outcome_told};
 ghost use Rattle.teg_timetable.specs.WaysBack.{AreTopsOf};
@@ -16,7 +15,6 @@ use teg_net::OutOfMemory;
 
 // What becomes of delays of which these are the greatest.
 fn outcome_by(alloc: Global, kept: &KeptDelay<'_>, left: &Left) -> Result<Outcome, OutOfMemory>
-    requires rules { IsNet kept.now.net }
     requires tops { AreTopsOf left.now kept.now }
     requires width { length left.now.firsts ≡ length kept.now.net.transitions }
     requires settled { AreSettledDelays kept.now.net kept.now.period kept.now.table
@@ -40,7 +38,6 @@ pub(crate) fn outcome(
     planned: &Planned<'_>,
     left: &Left,
 ) -> Result<Outcome, OutOfMemory>
-    requires rules { IsNet planned.now.net.now }
     requires width { length left.now.firsts ≡ length planned.now.net.now.transitions }
     requires settled { AreSettledDelays planned.now.net.now planned.now.period planned.now.table.now
         (delay_left left.now) left.now.form.after left.now.form.period }

@@ -3,8 +3,7 @@ ghost use Rattle.std.specs.Prelude.{◌≡◌, ◌≢◌, ◌≤◌, Ok, Err, tr
 ghost use Rattle.std.specs.Str.Parse.{digits_value};
 ghost use Rattle.csv_records.specs.NumberFields.{is_number};
 ghost use Rattle.csv_records.specs.Records.{most_file_bytes};
-ghost use Rattle.delay_laws.specs.PlannedTimetables.{greatest_delayed_number};
-ghost use Rattle.teg_timetable.specs.Entries.{delay_row, departure_row, entries_of, departure_number, transition_in_entry};
+ghost use Rattle.teg_timetable.specs.Entries.{delay_row, departure_row, entries_of};
 ghost use Rattle.teg_timetable.specs.EntryRules.{AreEntriesOf};
 
 use crate::entries::TableEntry;
@@ -42,10 +41,8 @@ fn departure_row(
     first: &[u8],
 ) -> Result<TableEntry, TableRefusal>
     requires { is_number first.now ≡ true }
-    ensures row { result ≡
+    ensures { result ≡
         departure_row is_repeated row transition.index (digits_value 10 first.now) }
-    ensures transition { IfOk result (λ e. transition_in_entry e ≡ transition.index) }
-    ensures number { IfOk result (λ e. departure_number e ≡ 0) }
 {
     if is_repeated {
         return Err(TableRefusal::Repeated { row });
@@ -67,11 +64,9 @@ fn delay_row(
 ) -> Result<TableEntry, TableRefusal>
     requires number { is_number number.now ≡ true }
     requires by { is_number by.now ≡ true }
-    ensures row { result ≡
+    ensures { result ≡
         delay_row is_repeated row transition.index
         (digits_value 10 number.now) (digits_value 10 by.now) }
-    ensures transition { IfOk result (λ e. transition_in_entry e ≡ transition.index) }
-    ensures number { IfOk result (λ e. departure_number e ≤ greatest_delayed_number) }
 {
     let number = number_up_to(number, u64::from(GREATEST_SEEN_NUMBER));
     let by = number_up_to(by, GREATEST_DELAY);
@@ -104,11 +99,9 @@ impl TableFile<'_> {
         fields: TwoFields<'_>,
     ) -> Result<TableEntry, TableRefusal>
         requires { HasEntries self.now.net.now self.now.names self.now.seen entries.now }
-        ensures row { result ≡
+        ensures { result ≡
             entry_row self.now.net.now entries.now row
             (fields.entry.first.now ∷ fields.entry.second.now ∷ []) }
-        ensures transition { IfOk result (λ e. transition_in_entry e < self.now.seen.width) }
-        ensures number { IfOk result (λ e. departure_number e ≤ greatest_delayed_number) }
     {
         if !is_number(fields.second) {
             return Err(TableRefusal::BadRow { row });
@@ -128,11 +121,9 @@ impl TableFile<'_> {
         fields: ThreeFields<'_>,
     ) -> Result<TableEntry, TableRefusal>
         requires { HasEntries self.now.net.now self.now.names self.now.seen entries.now }
-        ensures row { result ≡
+        ensures { result ≡
             entry_row self.now.net.now entries.now row
             (fields.entry.first.now ∷ fields.entry.second.now ∷ fields.entry.third.now ∷ []) }
-        ensures transition { IfOk result (λ e. transition_in_entry e < self.now.seen.width) }
-        ensures number { IfOk result (λ e. departure_number e ≤ greatest_delayed_number) }
     {
         if !is_number(fields.second) || !is_number(fields.third) {
             return Err(TableRefusal::BadRow { row });
@@ -154,10 +145,8 @@ impl TableFile<'_> {
         record: &ByteRecord,
     ) -> Result<TableEntry, TableRefusal>
         requires { HasEntries self.now.net.now self.now.names self.now.seen entries.now }
-        ensures row { result ≡
+        ensures { result ≡
             entry_row self.now.net.now entries.now row (fields_of «record».now) }
-        ensures transition { IfOk result (λ e. transition_in_entry e < self.now.seen.width) }
-        ensures number { IfOk result (λ e. departure_number e ≤ greatest_delayed_number) }
     {
         if let Some(fields) = two_fields(record) {
             return self.departure(entries, row, fields);

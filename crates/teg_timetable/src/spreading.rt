@@ -1,11 +1,9 @@
 //! How the delays of a timetable spread, or why they are not followed.
 ghost use Rattle.std.specs.Prelude.{◌≡◌, ◌≤◌, Some, IfOk, IfErr, IfSome};
 ghost use Rattle.delay_laws.specs.PlannedTimetables.{IsTableOf};
-ghost use Rattle.delay_laws.specs.Delays.{IsFormOfDelays};
 ghost use Rattle.teg_settle.specs.settled_laws.SettledForms.{IsSettledFormOf, settled_length};
 ghost use Rattle.teg_check.specs.Ranks.{IsRanking};
 ghost use Rattle.teg_net.specs.Circuits.{IsLive};
-ghost use Rattle.teg_net.specs.Nets.{IsNet};
 ghost use Rattle.teg_settle.specs.LimitRefusals.{greatest_limit};
 ghost use Rattle.teg_timetable.specs.DelayAnswers.{IsDelayRefusal, IsOutcomeIn, IsSettlingRefusal, IsSpread, IsLengthWithinLimit};
 ghost use Rattle.teg_timetable.specs.Spreads.{greatest_period};
@@ -29,26 +27,6 @@ const MOST_TRANSITIONS: usize = 200;
 // The most transitions and places of it together.
 const MOST_ENTRIES: usize = 4_000;
 
-// The settled form of a net with these ranks, within the limit.
-fn settled_within(
-    alloc: Global,
-    net: &Net,
-    live: &Live,
-    limit: u32,
-) -> Result<SettledDates, DelayRefusal>
-    requires stands { IsRanking net.now live.now }
-    requires few { limit ≤ greatest_limit }
-    ensures form { IfOk result (IsSettledFormOf net.now) }
-    ensures within { IfOk result (λ form. settled_length form ≤ limit) }
-    ensures refused { IfErr result (IsSettlingRefusal net.now (Some limit)) }
-{
-    match settle_dates_within(alloc, net, live, limit) {
-        Ok(settled) => Ok(settled),
-        Err(SettleRefusal::TooLong { limit }) => Err(DelayRefusal::TooLong { limit }),
-        Err(SettleRefusal::OutOfMemory) => Err(DelayRefusal::OutOfMemory),
-    }
-}
-
 // The settled form of a live net, within the limit if there is one.
 fn settled_in(alloc: Global, net: &Net, limit: Option<u32>) -> Result<SettledDates, DelayRefusal>
     requires live { IsLive net.now }
@@ -60,7 +38,11 @@ fn settled_in(alloc: Global, net: &Net, limit: Option<u32>) -> Result<SettledDat
     let live = ranks_of(alloc, net)?;
     match limit {
         None => Ok(settle_dates(alloc, net, &live)?),
-        Some(limit) => settled_within(alloc, net, &live, limit),
+        Some(limit) => match settle_dates_within(alloc, net, &live, limit) {
+            Ok(settled) => Ok(settled),
+            Err(SettleRefusal::TooLong { limit }) => Err(DelayRefusal::TooLong { limit }),
+            Err(SettleRefusal::OutOfMemory) => Err(DelayRefusal::OutOfMemory),
+        },
     }
 }
 
@@ -71,15 +53,17 @@ fn firsts_of(alloc: Global, table: &Timetable) -> Result<Vec<u64>, OutOfMemory>
     Ok(Vec::from_slice(alloc, &table.firsts)?)
 }
 
-// The delays that are left, by the settled form of the net with the releases as inputs.
-fn left_by(alloc: Global, planned: &Planned<'_>, limit: Option<u32>) -> Result<Left, DelayRefusal>
-    requires rules { IsNet planned.now.net.now }
-    requires limit { IfSome limit (λ l. l ≤ greatest_limit) }
-    ensures firsts { IfOk result (λ left. left.firsts ≡ planned.now.table.now.firsts.items) }
-    ensures every { IfOk result (λ left. left.every ≡ planned.now.period) }
-    ensures form { IfOk result (λ left. IsFormOfDelays planned.now.net.now planned.now.period
-        planned.now.table.now left.form) }
-    ensures within { IfOk result (λ left. IsLengthWithinLimit limit (settled_length left.form)) }
+// How the delays of a timetable spread that the net can keep, by the settled form of the net with
+// the releases as inputs.
+fn followed(
+    alloc: Global,
+    planned: &Planned<'_>,
+    limit: Option<u32>,
+) -> Result<Delayed, DelayRefusal>
+    requires { IfSome limit (λ l. l ≤ greatest_limit) }
+    ensures spread { IfOk result (IsSpread planned.now.net.now planned.now.period
+        planned.now.table.now limit) }
+    ensures about { IfOk result (λ delayed. IsOutcomeIn planned.now.net.now delayed.outcome) }
     ensures refused { IfErr result (IsDelayRefusal planned.now.net.now planned.now.period
         planned.now.table.now limit) }
 {
@@ -88,24 +72,7 @@ fn left_by(alloc: Global, planned: &Planned<'_>, limit: Option<u32>) -> Result<L
     let firsts = firsts_of(alloc, planned.table)?;
     // That the form is short, and its period at least 1.
     settled.period();
-    Ok(Left::new(firsts, planned.period, settled))
-}
-
-// How the delays of a timetable spread that the net can keep.
-fn followed(
-    alloc: Global,
-    planned: &Planned<'_>,
-    limit: Option<u32>,
-) -> Result<Delayed, DelayRefusal>
-    requires rules { IsNet planned.now.net.now }
-    requires limit { IfSome limit (λ l. l ≤ greatest_limit) }
-    ensures spread { IfOk result (IsSpread planned.now.net.now planned.now.period
-        planned.now.table.now limit) }
-    ensures about { IfOk result (λ delayed. IsOutcomeIn planned.now.net.now delayed.outcome) }
-    ensures refused { IfErr result (IsDelayRefusal planned.now.net.now planned.now.period
-        planned.now.table.now limit) }
-{
-    let left = left_by(alloc, planned, limit)?;
+    let left = Left::new(firsts, planned.period, settled);
     let outcome = outcome(alloc, planned, &left)?;
     Ok(Delayed::new(left, outcome))
 }

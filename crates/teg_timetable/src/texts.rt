@@ -1,7 +1,5 @@
 //! The texts of answers about timetables.
-ghost use Rattle.std.specs.Prelude.{ℕ, ◌≡◌, ◌++◌, ◌∷◌, ◌<◌, ◌≤◌, [], IfOk, codes, IfSome, length, string_bytes};
-ghost use Rattle.std.specs.Fmt.{decimal};
-ghost use Rattle.std.specs.List.{flat_map, range_with_len};
+ghost use Rattle.std.specs.Prelude.{◌≡◌, ◌++◌, ◌<◌, ◌≤◌, [], IfOk, codes, IfSome, length, string_bytes};
 ghost use Rattle.teg_net.specs.Circuits.{AreInRange};
 ghost use Rattle.teg_net.specs.Limits.{greatest_firing_number};
 ghost use Rattle.teg_text.specs.Lines.{line_then, written};
@@ -17,27 +15,6 @@ use delay_laws::Outcome;
 use std::alloc::{AllocError, Global};
 use teg_net::{Circuit, Net, OutOfMemory, TransitionId};
 use teg_text::{push_circuit, row_fault};
-
-// Appends the delays of a transition at the numbers from 1 to `count`, each behind a blank.
-fn push_delays(
-    text: &mut String,
-    delayed: &Delayed,
-    transition: TransitionId,
-    count: u64,
-) -> Result<(), AllocError>
-    requires transition { transition.index < length delayed.now.firsts }
-    requires count { count ≤ greatest_firing_number }
-    ensures text { IfOk result (λ _. string_bytes text.new ≡
-        string_bytes text.old ++ flat_map (λ k. 32 ∷ decimal (delay_by_spread delayed.now
-        transition.index k)) (range_with_len 1 count)) }
-    ensures small { IfOk result (λ _. AreLeftDelaysShort delayed.now transition.index count) }
-{
-    for index in 0..count {
-        let delay = delayed.delay(transition, index + 1);
-        write!(text, " {delay}")?;
-    }
-    Ok(())
-}
 
 // Begins the line of the delays of the transition of this number, counted from 0.
 fn begin_line(text: &mut String, net: &Net, index: usize) -> Result<(), AllocError>
@@ -73,25 +50,11 @@ fn push_line(
         index: index as u32,
     };
     begin_line(text, net, index)?;
-    push_delays(text, delayed, transition, count)?;
-    text.push('\n')?;
-    Ok(())
-}
-
-// Appends the lines of the delays of all transitions in order.
-fn push_lines(text: &mut String, net: &Net, delayed: &Delayed, count: u64) -> Result<(), AllocError>
-    requires width { length delayed.now.firsts ≡ length net.now.transitions }
-    requires count { count ≤ greatest_firing_number }
-    ensures text { IfOk result (λ _. string_bytes text.new ≡
-        string_bytes text.old ++ flat_map (λ i. line_then (delays_line net.now i (delays_up_to
-        (delay_by_spread delayed.now i) count)) []) (range_with_len 0 (length
-        net.now.transitions))) }
-    ensures small { IfOk result (λ _. (i : ℕ) → i < length net.now.transitions
-        → AreLeftDelaysShort delayed.now i count) }
-{
-    for index in 0..net.transitions().len() {
-        push_line(text, net, delayed, index, count)?;
+    for done in 0..count {
+        let delay = delayed.delay(transition, done + 1);
+        write!(text, " {delay}")?;
     }
+    text.push('\n')?;
     Ok(())
 }
 
@@ -138,7 +101,10 @@ pub fn spread_text(alloc: Global, net: &Net, delayed: &Delayed) -> Result<String
     let period = delayed.period();
     let mut text = format!(in alloc; "settled after {after} period {period}\n")?;
     push_outcome(&mut text, net, delayed.outcome())?;
-    push_lines(&mut text, net, delayed, after + period)?;
+    let count = after + period;
+    for index in 0..net.transitions().len() {
+        push_line(&mut text, net, delayed, index, count)?;
+    }
     Ok(text)
 }
 

@@ -22,6 +22,12 @@ are_tops net period t h d width tops seen start made same start_in high =
       high = subst (λ (xs : List ℕ). All (λ top. top ≤ get_or xs start 0) xs) same high;
     }
 
+pub highest-start-requires : goal.highest-start-requires
+highest-start-requires c =
+    let some = c.args.planned.now.kept.some_transition in
+    let long = c.in_ok-tops.ensures.long in
+    rw c.deref.ensures.value (omega (arith, some, long, c.requires.width))
+
 pub outcome_by-requires-clause-tops : goal.outcome_by-requires-clause-tops
 outcome_by-requires-clause-tops c =
     let p = c.args.planned.now in

@@ -5,10 +5,12 @@ use Rattle.teg_jit.specs.DueDates.{NamesFiring}
 use Rattle.teg_due.proofs.DueOnce.{no_row}
 use Rattle.teg_jit.proofs.Begun.{begun_more, begun_starts, begun_is}
 use Rattle.teg_due.proofs.DueRows.{due_of_row}
-use Rattle.teg_jit.proofs.passes.set_dues.Goals as goal
+use Rattle.teg_jit.proofs.passes.begin.Goals as goal
 
 pub loop-row-init : goal.loop-row-init
-loop-row-init c = begun_starts (length c.args.net.now.transitions) c.args.rows.now c.args.last c.args.dates.now c.requires.full c.requires.free
+loop-row-init c =
+    begun_starts (length c.args.net.now.transitions) c.args.rows.now c.args.last c.in_ok-dates.dates
+    (rw c.transitions-width.ensures.value at c.in_ok-dates.ensures.count) c.in_ok-dates.ensures.free
 
 pub loop-row-preserved : goal.loop-row-preserved
 loop-row-preserved c =
@@ -18,13 +20,13 @@ loop-row-preserved c =
     let l = c.loop-row-test.true in
     let r : DueRow = get_or rows i no_row in
     let at : (q : DueRow) → get_or rows i q ≡ r = λ q. get_or_default rows i q no_row l in
-    let own : NamesFiring net r = c.requires.due.due.each i no_row l in
+    let own : NamesFiring net r = c.requires.due.each i no_row l in
     let width = c.transitions-width.ensures.value in
     rw (c.lower.ensures, c.cell_of-cell.ensures.value, width)
     (begun_more (length net.transitions) rows c.args.last c.loop-row.dates i r
-    (λ j q m. let o = c.requires.due.due.each j q m in (o.in_range, o.from_one)) c.loop-row.invariant l at own.in_range own.from_one
-    (c.requires.due.greatest.most i no_row l)
-    (due_of_row rows i r c.requires.due.due.once l (at r)))
+    (λ j q m. let o = c.requires.due.each j q m in (o.in_range, o.from_one)) c.loop-row.invariant l at own.in_range own.from_one
+    (c.requires.greatest.most i no_row l)
+    (due_of_row rows i r c.requires.due.once l (at r)))
 
 pub returns-clause-settled : goal.returns-clause-settled
 returns-clause-settled c = begun_is c.args.net.now c.args.rows.now c.args.last c.loop-row.dates c.loop-row.row-index c.transitions-width.ensures.rules c.loop-row.invariant c.loop-row-test.false

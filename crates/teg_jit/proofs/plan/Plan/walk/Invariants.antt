@@ -1,7 +1,7 @@
 use Rattle.teg_dates.proofs.teg_model_proofs.LiveRanks.{rank_bound, rank_in}
 use Rattle.teg_jit.proofs.Tight.{distance}
 use Rattle.teg_jit.proofs.Walking.{WalkedTo}
-use Rattle.teg_jit.proofs.plan.Plan.walk_from.Given as goal
+use Rattle.teg_jit.proofs.plan.Plan.walk.Given as goal
 
 abbrev pub invariant-loop-step : goal.invariant-loop-step
 invariant-loop-step l = WalkedTo l.net l.self l.transition.index l.number l.steps.items l.at.index l.count

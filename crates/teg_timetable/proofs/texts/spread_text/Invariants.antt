@@ -3,7 +3,7 @@ use Rattle.std.specs.List.{flat_map, range_with_len}
 use Rattle.teg_text.specs.Lines.{line_then}
 use Rattle.teg_timetable.specs.Spreads.{delay_by_spread}
 use Rattle.teg_timetable.specs.TimetableTexts.{AreLeftDelaysShort, delays_line, delays_up_to}
-use Rattle.teg_timetable.proofs.texts.push_lines.Given as goal
+use Rattle.teg_timetable.proofs.texts.spread_text.Given as goal
 
 abbrev pub invariant-loop-index : goal.invariant-loop-index
 invariant-loop-index l =
