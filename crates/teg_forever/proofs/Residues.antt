@@ -20,7 +20,7 @@ use Rattle.teg_forever.specs.declared.releases.Release.{Release}
 use Rattle.teg_forever.specs.declared.releases.Release.TheVariants.{Free, Latest}
 use Rattle.teg_forever.specs.declared.releases.ForeverRefusal.{ForeverRefusal}
 use Rattle.teg_forever.specs.declared.releases.ForeverRefusal.TheVariants.{Late, TooLong, TooWide, OutOfMemory}
-use Rattle.teg_forever.specs.LatestReleases.{IsFine, IsReleaseOf, ForeverRefused, longest_form}
+use Rattle.teg_forever.specs.LatestReleases.{IsReleaseOf, ForeverRefused, longest_form}
 use Rattle.teg_forever.specs.Asked.{InputAsked, IsAskedWith}
 use Rattle.teg_forever.specs.InputAnswers.{IsFineRelease, IsReleaseBy, IsStopped, AreReleasesBelow}
 use Rattle.teg_forever.specs.Divisions.{IsMeetOver}
