@@ -25,10 +25,6 @@ use Rattle.teg_forever.specs.LateFirings.{GoesOnBySteps, IsSettledRow, IsZeroFor
 use Rattle.teg_forever.specs.LatestReleases.{IsLateAnswer}
 use Rattle.teg_forever.proofs.LateNumbers.{none_to_as, none_as, least_as, soonest_as}
 
--- the settled form of the net without its input lists
-pub zero_form : (net : NetLists) (f : SettledForm) → ZeroInputsAreNoLists → IsSettledFormOf (without_inputs net) f → IsZeroForm net f
-zero_form net f law h = record { dating = h.0; least = (law net h.0).0 h.1; stands = h.2.stands }
-
 module _ (net : NetLists) (ok : IsNet net) (live : IsLive net) (f : SettledForm) (form : IsZeroForm net f) where
   pub tells : (t k : ℕ) → t < length net.transitions → 1 ≤ k → settled_date f t k ≡ form.dating t k
   tells t k lt one = form_tells (length net.transitions) f form.dating form.stands t k lt one
@@ -40,7 +36,7 @@ module _ (net : NetLists) (ok : IsNet net) (live : IsLive net) (f : SettledForm)
   low_number t k m h e = let w = subst (IsDateWithin greatest_least_date) e h in omega (arith, ints, w.1)
 
   -- the dates of each transition are numbers, and its step is one and not great
-  pub climbing : StepsAreFromZero → IsFormKept f → (t : ℕ) → t < length net.transitions → IsClimbing f t
+  climbing : StepsAreFromZero → IsFormKept f → (t : ℕ) → t < length net.transitions → IsClimbing f t
   climbing law kept t lt =
       let s = law net ok live form.dating form.least f form.stands t lt in
       let rows : length f.rows ≡ length net.transitions = form.stands.sizes.rows_are in
@@ -124,18 +120,21 @@ module _ (a : RankedRows) (h : AreRankedRows a) where
   pub rule_at : (i : ℕ) (r : EndlessRow) → i < length a.rows → r ≡ get_or a.rows i r → IsEndlessRow a.net r
   rule_at i r lt is = subst (IsEndlessRow a.net) (sym is) (h.ends.each i r lt)
 
-  module _ (f : SettledForm) (form : IsZeroForm a.net f) where
-    -- and stands beside the form
-    pub settled_at : ((t : ℕ) → t < length a.net.transitions → IsClimbing f t) → (i : ℕ) (r : EndlessRow) → i < length a.rows → r ≡ get_or a.rows i r → IsSettledRow f r
-    settled_at climbs i r lt is =
-        let rule = rule_at i r lt is in
+  module _ (f : SettledForm) (law : ZeroInputsAreNoLists) (is : IsSettledFormOf (without_inputs a.net) f) where
+    form : IsZeroForm a.net f
+    form = record { dating = is.0; least = (law a.net is.0).0 is.1; stands = is.2.stands }
+
+    -- and stands beside the settled form of the net without its input lists
+    pub settled_at : StepsAreFromZero → IsFormKept f → (i : ℕ) (r : EndlessRow) → i < length a.rows → r ≡ get_or a.rows i r → IsSettledRow f r
+    settled_at steps kept i r lt at =
+        let rule = rule_at i r lt at in
         record {
           net = a.net;
           rules = h.rules;
           is_live = h.is_live;
           form = form;
           row = rule;
-          climbing = climbs r.transition.index rule.in_range;
+          climbing = climbing a.net h.rules h.is_live f form steps kept r.transition.index rule.in_range;
           steps = goes_on a.net h.rules h.is_live f form r.transition.index rule.in_range;
         }
 
@@ -171,6 +170,6 @@ module _ (a : RankedRows) (h : AreRankedRows a) where
 
     -- where no row is late the inputs at 0 meet the due dates
     pub all_meet : ZeroMeetsWhereNoneLate → All (NoneLate (settled_date f)) a.rows → AreMetAtZero a
-    all_meet law none =
-        (law a.net h.rules h.is_live a.rows h.ends form.dating form.least).1
+    all_meet zeros none =
+        (zeros a.net h.rules h.is_live a.rows h.ends form.dating form.least).1
         (λ j d w. none_as (settled_date f) form.dating (get_or a.rows j d) (as_dating (get_or a.rows j d) (h.ends.each j d w).in_range) (none j d w))

@@ -20,27 +20,24 @@ use Rattle.teg_forever.specs.declared.releases.Release.{Release}
 use Rattle.teg_forever.specs.declared.releases.Release.TheVariants.{Free, Latest}
 use Rattle.teg_forever.specs.declared.releases.ForeverRefusal.{ForeverRefusal}
 use Rattle.teg_forever.specs.declared.releases.ForeverRefusal.TheVariants.{Late, TooLong, TooWide, OutOfMemory}
-use Rattle.teg_forever.specs.LatestReleases.{IsFine, IsReleaseOf, ForeverRefused, longest_form}
+use Rattle.teg_forever.specs.LatestReleases.{IsReleaseOf, ForeverRefused, longest_form}
 use Rattle.teg_forever.specs.Asked.{InputAsked, IsAskedWith}
-use Rattle.teg_forever.specs.InputAnswers.{IsReleaseBy, IsStopped, AreReleasesBelow}
+use Rattle.teg_forever.specs.InputAnswers.{IsFineRelease, IsReleaseBy, IsStopped, AreReleasesBelow}
 use Rattle.teg_forever.specs.Divisions.{IsMeetOver}
 use Rattle.forever_laws.proofs.Inputs.{input_in}
 use Rattle.forever_laws.proofs.number_laws_proofs.Numbers.{same_number}
 
 module _ (a : InputAsked) (h : IsAskedWith a) (exist : ColumnsExist) (m : Gain) (meet : IsMeetOver a.net a.rows a.input.index (length a.rows) m) where
-  -- an input whose walk times settle is fine where each row fits
-  pub fine : IsFine a.net a.rows a.input.index
-  fine =
+  -- an input whose walk times settle is fine where each row fits, and the meet has its latest dates
+  pub fine_release : ResidualsAreLatestDates → ResidualsAreFreeOrNumbers → 1 ≤ length a.rows → InputsMeet a.net (due_on a.rows) inputs_at_zero
+      → (release : Release) → IsReleaseBy m.series release → IsFineRelease a.net a.rows a.input.index release
+  fine_release latest numbers some zero release by =
       let c = exist a.net h.rules h.is_live a.rows h.ends a.input.index h.input in
-      record { settles = (a.settled, h.transfer, h.short); walks = c.0; dues = c.1; columns = c.2; fit = (meet c.0 c.1 c.2).fit }
-
-  -- and the meet has its latest dates
-  pub released : ResidualsAreLatestDates → ResidualsAreFreeOrNumbers → 1 ≤ length a.rows → InputsMeet a.net (due_on a.rows) inputs_at_zero
-      → (release : Release) → IsReleaseBy m.series release → IsReleaseOf a.net a.rows a.input.index release
-  released latest numbers some zero release by =
-      let c = exist a.net h.rules h.is_live a.rows h.ends a.input.index h.input in
-      let value : m ≡ residual_over (length a.rows) c.0 c.1 = (meet c.0 c.1 c.2).value in
-      by_meet c.0 c.1 c.2 release (subst (λ (g : Gain). IsReleaseBy g.series release) value by)
+      let is = meet c.0 c.1 c.2 in
+      record {
+        fine = record { settles = (a.settled, h.transfer, h.short); walks = c.0; dues = c.1; columns = c.2; fit = is.fit };
+        right = by_meet c.0 c.1 c.2 release (subst (λ (g : Gain). IsReleaseBy g.series release) is.value by);
+      }
     where
       by_meet : (walks dues : ℕ → Gain) → AreSeriesColumns a.net a.input.index a.rows walks dues → (release : Release)
           → IsReleaseBy (residual_over (length a.rows) walks dues).series release → IsReleaseOf a.net a.rows a.input.index release
@@ -67,14 +64,17 @@ pub some_rows : (rows : List EndlessRow) → false ≡ (length rows == 0) → 1 
 some_rows [] e = absurd (cc e)
 some_rows (r ∷ rows) e = omega arith
 
--- without rows an input is fine
-pub fine_alone : (net : NetLists) (rows : List EndlessRow) (u : ℕ) (f : SettledForm) → IsTransferOf net u f → settled_length f ≤ longest_form → rows ≡ [] → IsFine net rows u
-fine_alone net rows u f transfer short e = subst (λ (l : List EndlessRow). IsFine net l u) (sym e) (record {
-  settles = (f, transfer, short);
-  walks = λ i. gain_zero;
-  dues = λ i. gain_zero;
-  columns = record { walk_series = λ i r w. absurd (none i r w); due_series = λ i r w. absurd (none i r w) };
-  fit = λ i w. absurd (omega arith);
+-- without rows an input is fine, and free
+pub free_alone : (net : NetLists) (rows : List EndlessRow) (u : ℕ) (f : SettledForm) → IsTransferOf net u f → settled_length f ≤ longest_form → rows ≡ [] → IsFineRelease net rows u Free
+free_alone net rows u f transfer short e = subst (λ (l : List EndlessRow). IsFineRelease net l u Free) (sym e) (record {
+  fine = record {
+    settles = (f, transfer, short);
+    walks = λ i. gain_zero;
+    dues = λ i. gain_zero;
+    columns = record { walk_series = λ i r w. absurd (none i r w); due_series = λ i r w. absurd (none i r w) };
+    fit = λ i w. absurd (omega arith);
+  };
+  right = λ k one steps b n d w is. cc is;
 })
   where
     none : (i : ℕ) (r : EndlessRow) → slice_get [] i ≡ Some r → ⊥
@@ -82,15 +82,15 @@ fine_alone net rows u f transfer short e = subst (λ (l : List EndlessRow). IsFi
 
 -- why an input has no release is why there are none
 pub refused_at : (net : NetLists) (rows : List EndlessRow) (u : TransitionId) (releases : List Release) → IsInput net u.index
-    → InputsMeet net (due_on rows) inputs_at_zero → AreReleasesBelow net rows u.index releases
+    → AreReleasesBelow net rows u.index releases
     → (why : ForeverRefusal) → IsStopped net rows u why → ForeverRefused net rows why
-refused_at net rows u releases input meet below (Late t k due least) h = absurd h
-refused_at net rows u releases input meet below (TooLong v) h =
-    subst (λ (w : TransitionId). ForeverRefused net rows (TooLong w)) (sym h.0) (record { input = input; meet = meet; before = λ w l i. below.fine w l i; long = h.1 })
-refused_at net rows u releases input meet below (TooWide v row) h =
+refused_at net rows u releases input below (Late t k due least) h = absurd h
+refused_at net rows u releases input below (TooLong v) h =
+    subst (λ (w : TransitionId). ForeverRefused net rows (TooLong w)) (sym h.0) (record { input = input; meet = below.meet; before = λ w l i. below.fine w l i; long = h.1 })
+refused_at net rows u releases input below (TooWide v row) h =
     subst (λ (w : TransitionId). ForeverRefused net rows (TooWide w row)) (sym h.0) (record {
       input = input;
-      meet = meet;
+      meet = below.meet;
       before = λ w l i. below.fine w l i;
       settles = h.1.settles;
       walks = h.1.walks;
@@ -102,7 +102,7 @@ refused_at net rows u releases input meet below (TooWide v row) h =
       is_row = h.1.is_row;
       row_is = h.1.row_is;
     })
-refused_at net rows u releases input meet below OutOfMemory h = tt
+refused_at net rows u releases input below OutOfMemory h = tt
 
 -- what holds anyway holds of an answer
 pub any_ok : {X E : Type 0} (r : Result X E) (Q : Type 0) → Q → IfOk r (λ _. Q)

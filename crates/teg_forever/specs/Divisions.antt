@@ -60,10 +60,6 @@ pub record IsDividedAt (list : List Divided) (due : ℕ) (walk : Gain) (place : 
 abbrev pub StandsAt : List Divided → ℕ → Gain → Type 0
 StandsAt list place residual = (x : Divided) → slice_get list place ≡ Some x → residual ≡ x.residual
 
--- some of the first of them
-abbrev pub IsFirstPart : List Divided → List Divided → Type 0
-IsFirstPart old new = (count : ℕ) × (new ≡ take count old)
-
 -- one more stands behind some that were kept before
 pub record IsKeptIn (old : List Divided) (x : Divided) (new : List Divided) (place : ℕ) : Type 0 where
   pub count : ℕ

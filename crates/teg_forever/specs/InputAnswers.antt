@@ -13,6 +13,8 @@ use Rattle.teg_net.specs.declared.entries.TransitionId.{TransitionId}
 use Rattle.teg_net.specs.Nets.{NetLists, IsInput}
 use Rattle.teg_settle.specs.Transfers.{TransferSettlesPast}
 use Rattle.forever_laws.specs.declared.rows.EndlessRow.{EndlessRow}
+use Rattle.forever_laws.specs.due_laws.MeetingDueDates.{InputsMeet, inputs_at_zero}
+use Rattle.forever_laws.specs.EndlessRows.{due_on}
 use Rattle.forever_laws.specs.SeriesColumns.{AreSeriesColumns, gain_residuals}
 use Rattle.teg_forever.specs.declared.releases.Release.{Release}
 use Rattle.teg_forever.specs.declared.releases.Release.TheVariants.{Free, Latest}
@@ -46,8 +48,9 @@ IsStopped net rows u (FormTooLong v) = (v ≡ u) × TransferSettlesPast net u.in
 IsStopped net rows u (TooWide v row) = (v ≡ u) × StopsAtRow net rows u.index row
 IsStopped net rows u OutOfMemory = ⊤
 
--- the releases of the inputs among the first transitions, each of which is fine
+-- inputs at 0 meet the due dates, and these are the releases of the inputs among the first transitions, each of which is fine
 pub record AreReleasesBelow (net : NetLists) (rows : List EndlessRow) (n : ℕ) (releases : List Release) : Type 0 where
+  pub meet : InputsMeet net (due_on rows) inputs_at_zero
   pub fine : (u : ℕ) → u < n → IsInput net u → IsFine net rows u
   pub each_input : length releases ≡ length (inputs_below net n)
   pub right : AreBeside (IsReleaseOf net rows) (inputs_below net n) releases

@@ -39,11 +39,6 @@ pub record IsClimbing (f : SettledForm) (t : ℕ) : Type 0 where
   pub step_is : step_of_form f t ≡ pos step
   pub step_low : step ≤ greatest_least_date
 
--- the form stands for that dating, and so of each transition
-pub record IsClimbingForm (net : NetLists) (f : SettledForm) : Type 0 where
-  pub form : IsZeroForm net f
-  pub climbing : (t : ℕ) → t < length net.transitions → IsClimbing f t
-
 -- past the settling number the dates of the transition go on by its step in a period
 pub record GoesOnBySteps (f : SettledForm) (t : ℕ) : Type 0 where
   pub again : (k : ℕ) → f.after < k → settled_date f t (k + f.period) ≡ move (step_of_form f t) (settled_date f t k)

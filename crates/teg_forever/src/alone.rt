@@ -62,37 +62,6 @@ fn next_least(plain: &PlainRow<'_>, stream: &mut Stream, dates: &mut [Date]) -> 
     number_of(dates[plain.row().transition.index as usize])
 }
 
-// The first late number up to a last one, by the rows of a stream from its start.
-fn late_in(
-    plain: &PlainRow<'_>,
-    stream: &mut Stream,
-    dates: &mut [Date],
-    last: u64,
-) -> Option<LateFiring>
-    requires stands { IsStreamOf (without_inputs plain.now.net) stream.old }
-    requires start { rows_given stream.old ≡ 0 }
-    requires full { length dates.old ≡ length plain.now.net.transitions }
-    requires last { last ≤ greatest_firing_number }
-    ensures none { IfNone result (InLeastAtZero plain.now.net (λ x. NoneLateTo x plain.now.row
-        last)) }
-    ensures some { IfSome result (λ l. InLeastAtZero plain.now.net (λ x. IsLeastLate x plain.now.row
-        l.number l.due l.least)) }
-{
-    let row = plain.row();
-    for number in 1..last + 1 {
-        let least = next_least(plain, stream, dates);
-        let due = due_at(row, number);
-        if due < least {
-            return Some(LateFiring {
-                number: number as u128,
-                due,
-                least,
-            });
-        }
-    }
-    None
-}
-
 // The first late number up to a last one, by the rows of the net without its inputs.
 fn late_to(
     alloc: Global,
@@ -105,9 +74,22 @@ fn late_to(
     ensures some { IfOk result (λ late. IfSome late (λ l. InLeastAtZero plain.now.net (λ x.
         IsLeastLate x plain.now.row l.number l.due l.least))) }
 {
+    let row = plain.row();
     let mut stream = Stream::new(alloc, plain.plain(), plain.form())?;
-    let mut dates = vec![in alloc; Date::Early; plain.net().transitions().len()]?;
-    Ok(late_in(plain, &mut stream, dates.as_mut_slice(), last))
+    let mut list = vec![in alloc; Date::Early; plain.net().transitions().len()]?;
+    let dates = list.as_mut_slice();
+    for number in 1..last + 1 {
+        let least = next_least(plain, &mut stream, dates);
+        let due = due_at(row, number);
+        if due < least {
+            return Ok(Some(LateFiring {
+                number: number as u128,
+                due,
+                least,
+            }));
+        }
+    }
+    Ok(None)
 }
 
 // The greatest number of tokens in a place, at least 1.
@@ -134,14 +116,6 @@ fn last_to_see(plain: &PlainRow<'_>, most: u64) -> u64
     listed + u64::from(row.every) * (count * most) + most
 }
 
-// As many rows as are looked through at most.
-fn most_rows(net: &Net) -> u64
-    ensures { result ≤ greatest_firing_number }
-{
-    let steps = net.transitions().len() as u64 + net.places().len() as u64;
-    MOST_STEPS / (steps + STEPS_OF_ROW)
-}
-
 // What the rows of the net without its inputs tell of a row.
 pub(crate) fn told_alone(alloc: Global, plain: &PlainRow<'_>) -> Result<Told, OutOfMemory>
     ensures { IfOk result (IsTold plain.now.net plain.now.row) }
@@ -150,7 +124,8 @@ pub(crate) fn told_alone(alloc: Global, plain: &PlainRow<'_>) -> Result<Told, Ou
     let net = plain.net();
     let paced = keeps_pace(alloc, plain)?;
     let last = last_to_see(plain, most_tokens(net));
-    let most = most_rows(net);
+    let steps = net.transitions().len() as u64 + net.places().len() as u64;
+    let most = MOST_STEPS / (steps + STEPS_OF_ROW);
     let seen = if paced { last.min(most) } else { most };
     if let Some(late) = late_to(alloc, plain, seen)? {
         return Ok(Told::Late(late));

@@ -1,11 +1,11 @@
 //! The latest releases of the inputs under endless due dates.
-ghost use Rattle.std.specs.Prelude.{◌≡◌, IfOk, IfErr, IfSome, IsTrue};
+ghost use Rattle.std.specs.Prelude.{◌≡◌, IfOk, IfErr, IsTrue};
 ghost use Rattle.teg_check.specs.Ranks.{IsRanking};
 ghost use Rattle.teg_net.specs.Nets.{without_inputs};
 ghost use Rattle.forever_laws.specs.EndlessRows.{IsEndlessOf};
+ghost use Rattle.forever_laws.specs.settled_laws.SettledForms.{IsSettledFormOf};
 ghost use Rattle.teg_forever.specs.Asked.{AreMetAtZero};
 ghost use Rattle.teg_forever.specs.LatestReleases.{AreEndlessReleases, ForeverRefused};
-ghost use Rattle.teg_forever.specs.LateFirings.{IsClimbingForm};
 
 use crate::alone::{Told, told_alone};
 use crate::asked::DueRows;
@@ -21,48 +21,11 @@ use forever_laws::{
 use std::alloc::Global;
 use teg_check::{Live, ranked_nets_are_live};
 use teg_form::standard_form;
-use teg_net::{Net, OutOfMemory, PlaceEnd, PlacesOf};
+use teg_net::{Net, PlaceEnd, PlacesOf};
 use teg_settle::{SettleRefusal, SettledDates, settle_dates, settle_dates_within};
 
 // The longest settled form that is looked for before rows alone are asked.
 const SHORT_FORM: u32 = 20_000;
-
-// The settled form of the least dating with all inputs at 0, however long it is.
-fn settled_at_zero(
-    alloc: Global,
-    due: &DueRows<'_>,
-    plain: &Net,
-) -> Result<SettledDates, OutOfMemory>
-    requires { plain.now ≡ without_inputs due.now.net }
-    ensures { IfOk result (IsClimbingForm due.now.net) }
-{
-    zero_inputs_are_no_lists();
-    turns_tell_late();
-    let settled = settle_dates(alloc, plain, due.live())?;
-    settled.after();
-    Ok(settled)
-}
-
-// The same form where it is short.
-fn short_at_zero(
-    alloc: Global,
-    due: &DueRows<'_>,
-    plain: &Net,
-) -> Result<Option<SettledDates>, OutOfMemory>
-    requires { plain.now ≡ without_inputs due.now.net }
-    ensures { IfOk result (λ settled. IfSome settled (IsClimbingForm due.now.net)) }
-{
-    zero_inputs_are_no_lists();
-    turns_tell_late();
-    match settle_dates_within(alloc, plain, due.live(), SHORT_FORM) {
-        Ok(settled) => {
-            settled.after();
-            Ok(Some(settled))
-        }
-        Err(SettleRefusal::TooLong { .. }) => Ok(None),
-        Err(SettleRefusal::OutOfMemory) => Err(OutOfMemory),
-    }
-}
 
 // The refusal of a row at its least late number.
 fn refused_at(row: &EndlessRow, late: LateFiring) -> ForeverRefusal
@@ -76,13 +39,17 @@ fn refused_at(row: &EndlessRow, late: LateFiring) -> ForeverRefusal
     }
 }
 
-// Refuses the first row that has a late number, with its least one.
+// Refuses the first row that has a late number, with its least one, by the settled form of the
+// least dating with all inputs at 0.
 fn keep_rows(due: &DueRows<'_>, settled: &SettledDates) -> Result<(), ForeverRefusal>
-    requires { IsClimbingForm due.now.net settled.now }
+    requires { IsSettledFormOf (without_inputs due.now.net) settled.now }
     ensures meet { IfOk result (λ _. AreMetAtZero due.now) }
     ensures late { IfErr result (ForeverRefused due.now.net due.now.rows) }
 {
+    zero_inputs_are_no_lists();
+    turns_tell_late();
     zero_meets_where_none_late();
+    settled.after();
     for row in due.rows() {
         if let Some(late) = late_in_row(&SettledRow::new(settled, row))? {
             return Err(refused_at(row, late));
@@ -102,8 +69,8 @@ fn keep_rows_alone(alloc: Global, due: &DueRows<'_>, plain: &Net) -> Result<bool
     no_rows_are_met();
     zero_meets_where_none_late();
     late_is_soon();
-    let form = standard_form(alloc, plain, due.live())?;
     let net = due.net();
+    let form = standard_form(alloc, plain, due.live())?;
     for row in due.rows() {
         match told_alone(alloc, &PlainRow::new(net, plain, &form, row))? {
             Told::Late(late) => return Err(refused_at(row, late)),
@@ -126,13 +93,15 @@ fn keep_dues(alloc: Global, due: &DueRows<'_>) -> Result<(), ForeverRefusal>
         return Ok(());
     }
     let plain = due.net().without_inputs(alloc)?;
-    if let Some(settled) = short_at_zero(alloc, due, &plain)? {
-        return keep_rows(due, &settled);
+    match settle_dates_within(alloc, &plain, due.live(), SHORT_FORM) {
+        Ok(settled) => return keep_rows(due, &settled),
+        Err(SettleRefusal::TooLong { .. }) => {}
+        Err(SettleRefusal::OutOfMemory) => return Err(ForeverRefusal::OutOfMemory),
     }
     if keep_rows_alone(alloc, due, &plain)? {
         return Ok(());
     }
-    let settled = settled_at_zero(alloc, due, &plain)?;
+    let settled = settle_dates(alloc, &plain, due.live())?;
     keep_rows(due, &settled)
 }
 

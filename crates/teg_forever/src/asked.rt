@@ -58,8 +58,7 @@ impl<'a> DueRows<'a> {
 
     // The ranks of the net.
     pub(crate) fn live(&self) -> &Live
-        ensures value { result.now ≡ self.now.ranks }
-        ensures given { AreRankedRows self.now }
+        ensures { result.now ≡ self.now.ranks }
     {
         self.live
     }

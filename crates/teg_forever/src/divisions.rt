@@ -1,8 +1,8 @@
 //! Residuals of due series by walk series: each pair is divided once, as long as there is room to
 //! keep what came of it.
-ghost use Rattle.std.specs.Prelude.{◌≡◌, ◌<◌, ◌≤◌, All, get_or, length, IfErr, IfOk, IfSome, IsTrue, OnOk};
+ghost use Rattle.std.specs.Prelude.{◌≡◌, ◌<◌, All, get_or, length, IfErr, IfOk, IfSome, IsTrue, OnOk};
 ghost use Rattle.teg_forever.specs.LateFirings.{IsGoingRow};
-ghost use Rattle.teg_forever.specs.Divisions.{AreAlike, AreDivisions, AreFirstsTo, IsAlikeAt, IsFirstPart, IsKeptIn, IsMisfit, IsDividedAt, StandsAt};
+ghost use Rattle.teg_forever.specs.Divisions.{AreAlike, AreDivisions, AreFirstsTo, IsAlikeAt, IsKeptIn, IsMisfit, IsDividedAt, StandsAt};
 
 use crate::gains::due_gain;
 use dioid::{Dioid, Refused, Residuated};
@@ -69,13 +69,6 @@ fn firsts_of(alloc: Global, rows: &[EndlessRow]) -> Result<Vec<usize>, AllocErro
     Ok(firsts)
 }
 
-// The number of values of a series.
-fn size_of(gain: &Gain) -> usize
-    ensures { result ≤ 20000 }
-{
-    gain.series.values().len()
-}
-
 impl Divisions {
     // No residuals yet.
     pub(crate) fn new(alloc: Global, rows: &[EndlessRow]) -> Result<Divisions, AllocError>
@@ -120,26 +113,21 @@ impl Divisions {
         None
     }
 
-    // Makes room for so many values more: where there is none, the last pair goes.
-    fn make_room(&mut self, values: usize)
-        ensures firsts { self.new.firsts.items ≡ self.old.firsts.items }
-        ensures list { IsFirstPart self.old.list.items self.new.list.items }
-    {
-        if self.values < MOST_KEPT {
-            self.values = self.values.saturating_add(values);
-            return;
-        }
-        let rest = self.list.len().saturating_sub(1);
-        self.list.truncate(rest);
-    }
-
-    // Keeps one more.
+    // Keeps one more, in place of the last where there is no room.
     fn keep(&mut self, divided: Divided) -> Result<usize, Refused>
         ensures firsts { self.new.firsts.items ≡ self.old.firsts.items }
         ensures kept { IfOk result (IsKeptIn self.old.list.items divided self.new.list.items) }
         ensures memory { IfErr result (λ e. e ≡ Refused.OutOfMemory) }
     {
-        self.make_room(PAIR + size_of(&divided.walk) + size_of(&divided.residual));
+        let (mut before, mut values) = (self.list.len(), self.values);
+        if values < MOST_KEPT {
+            let more = divided.walk.series.values().len() + divided.residual.series.values().len();
+            values = values.saturating_add(PAIR + more);
+        } else {
+            before = before.saturating_sub(1);
+        }
+        self.values = values;
+        self.list.truncate(before);
         if self.list.push(divided).is_err() {
             return Err(Refused::OutOfMemory);
         }

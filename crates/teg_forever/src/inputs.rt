@@ -1,10 +1,10 @@
 //! The latest releases of the inputs, one by one.
-ghost use Rattle.std.specs.Prelude.{◌≡◌, ◌<◌, ◌≤◌, ◌+◌, length, IfOk, IfErr, IfSome, OnOk};
+ghost use Rattle.std.specs.Prelude.{◌<◌, length, IfOk, IfErr, IfSome, OnOk};
 ghost use Rattle.teg_net.specs.Nets.{IsInput};
 ghost use Rattle.teg_forever.specs.Asked.{AreMetAtZero};
 ghost use Rattle.teg_forever.specs.InputAnswers.{AreReleasesBelow, IsFineRelease, IsReleaseBy, IsStopped};
 ghost use Rattle.teg_forever.specs.Divisions.{AreDivisions};
-ghost use Rattle.teg_forever.specs.LatestReleases.{ForeverRefused, IsFine, IsReleaseOf};
+ghost use Rattle.teg_forever.specs.LatestReleases.{ForeverRefused};
 
 use crate::asked::{DueRows, InputRows};
 use crate::divisions::Divisions;
@@ -44,8 +44,7 @@ fn release_of(
     requires input { IsInput due.now.net input.index }
     requires divisions { AreDivisions due.now.rows divisions.old }
     ensures divisions { OnOk result (AreDivisions due.now.rows divisions.new) }
-    ensures fine { IfOk result (λ _. IsFine due.now.net due.now.rows input.index) }
-    ensures release { IfOk result (IsReleaseOf due.now.net due.now.rows input.index) }
+    ensures release { IfOk result (IsFineRelease due.now.net due.now.rows input.index) }
     ensures stopped { IfErr result (IsStopped due.now.net due.now.rows input) }
 {
     let (net, rows) = (due.net(), due.rows());
@@ -71,13 +70,11 @@ fn release_by_another(
     due: &DueRows<'_>,
     input: TransitionId,
     releases: &[Release],
-) -> Result<Option<Release>, ForeverRefusal>
-    requires meet { AreMetAtZero due.now }
+) -> Result<Option<Release>, OutOfMemory>
     requires input { IsInput due.now.net input.index }
     requires releases { AreReleasesBelow due.now.net due.now.rows input.index releases.now }
-    ensures release { IfOk result (λ found. IfSome found (IsFineRelease due.now.net due.now.rows
+    ensures { IfOk result (λ found. IfSome found (IsFineRelease due.now.net due.now.rows
         input.index)) }
-    ensures memory { IfErr result (λ e. e ≡ ForeverRefusal.OutOfMemory) }
 {
     walk_times_settle();
     match input_before(due.net(), due.leaving(), input) {
@@ -86,58 +83,8 @@ fn release_by_another(
     }
 }
 
-// The release of the next input: that of one before it, moved, if there is such a one.
-fn next_release(
-    alloc: Global,
-    due: &DueRows<'_>,
-    input: TransitionId,
-    divisions: &mut Divisions,
-    releases: &[Release],
-) -> Result<Release, ForeverRefusal>
-    requires meet { AreMetAtZero due.now }
-    requires input { IsInput due.now.net input.index }
-    requires divisions { AreDivisions due.now.rows divisions.old }
-    requires releases { AreReleasesBelow due.now.net due.now.rows input.index releases.now }
-    ensures divisions { OnOk result (AreDivisions due.now.rows divisions.new) }
-    ensures fine { IfOk result (λ _. IsFine due.now.net due.now.rows input.index) }
-    ensures release { IfOk result (IsReleaseOf due.now.net due.now.rows input.index) }
-    ensures stopped { IfErr result (IsStopped due.now.net due.now.rows input) }
-{
-    match release_by_another(alloc, due, input, releases) {
-        Ok(Some(release)) => Ok(release),
-        Ok(None) => release_of(alloc, due, input, divisions),
-        Err(_) => Err(ForeverRefusal::OutOfMemory),
-    }
-}
-
-// The release of one transition more, if it is an input.
-fn add_release(
-    alloc: Global,
-    due: &DueRows<'_>,
-    input: TransitionId,
-    divisions: &mut Divisions,
-    releases: &mut Vec<Release>,
-) -> Result<(), ForeverRefusal>
-    requires meet { AreMetAtZero due.now }
-    requires input { input.index < length due.now.net.transitions }
-    requires divisions { AreDivisions due.now.rows divisions.old }
-    requires releases { AreReleasesBelow due.now.net due.now.rows input.index releases.old.items }
-    ensures releases { OnOk result (AreReleasesBelow due.now.net due.now.rows (input.index + 1)
-        releases.new.items) }
-    ensures divisions { OnOk result (AreDivisions due.now.rows divisions.new) }
-    ensures stopped { IfErr result (ForeverRefused due.now.net due.now.rows) }
-{
-    if !is_input(due.net(), input) {
-        return Ok(());
-    }
-    let release = next_release(alloc, due, input, divisions, releases.as_slice())?;
-    if releases.push(release).is_err() {
-        return Err(ForeverRefusal::OutOfMemory);
-    }
-    Ok(())
-}
-
-// The releases of the inputs in order, or why the first that has none has none.
+// The releases of the inputs in order, each by that of one before it, moved, if there is such a
+// one; or why the first that has none has none.
 pub(crate) fn releases_of(alloc: Global, due: &DueRows<'_>) -> Result<Vec<Release>, ForeverRefusal>
     requires { AreMetAtZero due.now }
     ensures releases { IfOk result (λ releases. AreReleasesBelow due.now.net due.now.rows
@@ -148,7 +95,20 @@ pub(crate) fn releases_of(alloc: Global, due: &DueRows<'_>) -> Result<Vec<Releas
     let mut releases = Vec::new(alloc);
     for index in 0..due.net().transitions().len() as u32 {
         let input = TransitionId { index };
-        add_release(alloc, due, input, &mut divisions, &mut releases)?;
+        if !is_input(due.net(), input) {
+            continue;
+        }
+        let another = release_by_another(alloc, due, input, releases.as_slice())?;
+        if let Some(release) = another {
+            if releases.push(release).is_err() {
+                return Err(ForeverRefusal::OutOfMemory);
+            }
+            continue;
+        }
+        let release = release_of(alloc, due, input, &mut divisions)?;
+        if releases.push(release).is_err() {
+            return Err(ForeverRefusal::OutOfMemory);
+        }
     }
     Ok(releases)
 }

@@ -1,19 +1,19 @@
 //! Inputs from which all places are held longer than from one before, or shorter, by one lag: walks
 //! from such an input take so much longer, and its release comes so much earlier.
-ghost use Rattle.std.specs.Prelude.{◌≡◌, ◌<◌, ◌≤◌, IfErr, IfOk, IfSome, length};
+ghost use Rattle.std.specs.Prelude.{◌<◌, ◌≤◌, IfOk, IfSome, length};
 ghost use Rattle.std.specs.Int.RustNames.{unsigned_abs};
 ghost use Rattle.teg_net.specs.Limits.{greatest_hold};
 ghost use Rattle.teg_lags.specs.Lags.{AreLeaving};
 ghost use Rattle.teg_forever.specs.Lagged.{IsEarlierBy, IsEarlierSeries, IsLaggedAt};
 
-use crate::releases::{ForeverRefusal, Release};
+use crate::releases::Release;
 use dioid::Date;
 use series_form::{Series, SeriesRefused};
 use series_ops::left;
 use std::alloc::Global;
 use teg_due::is_input;
 use teg_lags::lag_between;
-use teg_net::{Net, PlacesOf, TransitionId};
+use teg_net::{Net, OutOfMemory, PlacesOf, TransitionId};
 
 // An input before another one, by its place among the inputs, and by how much longer all places are
 // held from the other one.
@@ -60,10 +60,9 @@ pub(crate) fn earlier_release(
     alloc: Global,
     release: &Release,
     lag: i128,
-) -> Result<Option<Release>, ForeverRefusal>
+) -> Result<Option<Release>, OutOfMemory>
     requires { unsigned_abs lag ≤ greatest_hold }
-    ensures earlier { IfOk result (λ earlier. IfSome earlier (IsEarlierBy lag release.now)) }
-    ensures memory { IfErr result (λ e. e ≡ ForeverRefusal.OutOfMemory) }
+    ensures { IfOk result (λ earlier. IfSome earlier (IsEarlierBy lag release.now)) }
 {
     let series = match release {
         Release::Free => return Ok(Some(Release::Free)),
@@ -71,7 +70,7 @@ pub(crate) fn earlier_release(
     };
     match earlier_series(alloc, series, lag) {
         Ok(series) => Ok(Some(Release::Latest { series })),
-        Err(SeriesRefused::OutOfMemory) => Err(ForeverRefusal::OutOfMemory),
+        Err(SeriesRefused::OutOfMemory) => Err(OutOfMemory),
         Err(_) => Ok(None),
     }
 }

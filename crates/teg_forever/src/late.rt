@@ -6,9 +6,10 @@ ghost use Rattle.forever_laws.specs.teg_model.DateBounds.{greatest_least_date};
 ghost use Rattle.forever_laws.specs.settled_laws.SettledForms.{settled_date};
 ghost use Rattle.forever_laws.specs.EndlessRows.{most_endless_dates, row_due};
 ghost use Rattle.forever_laws.specs.Late.{IsLeastLate, NoneLate, NoneLateTo};
-ghost use Rattle.forever_laws.specs.LateSearches.{IsSoonest, IsCommonPeriodOf, turns_to};
+ghost use Rattle.forever_laws.specs.LateSearches.{IsCommonPeriodOf, turns_to};
 ghost use Rattle.teg_forever.specs.LateFirings.{GainsByTurns, IsCycleOf, IsLateAfter, IsSoonLate, GoesOnPast, RisesIn};
 
+use crate::dues::due_at;
 use crate::leads::none_late_past;
 use crate::settled_row::{Cycle, SettledRow};
 use forever_laws::{late_is_soon, turns_tell_late};
@@ -51,7 +52,7 @@ fn late_listed(row: &SettledRow<'_>, last: u64) -> Option<LateFiring>
         l.least) }
 {
     for number in 1..last + 1 {
-        let due = row.due(number);
+        let due = due_at(row.row(), number);
         let least = row.least(number);
         if due < least {
             return Some(LateFiring {
@@ -64,21 +65,20 @@ fn late_listed(row: &SettledRow<'_>, last: u64) -> Option<LateFiring>
     None
 }
 
-// After how many turns, each of which gains so much, a firing is late.
-fn turns_at(row: &SettledRow<'_>, number: u64, gain: u128) -> Soonest
-    requires first { 1 ≤ number }
-    requires last { number ≤ greatest_firing_number }
-    requires gain { 0 < gain }
-    requires in_time { NoneLateTo (settled_date row.now.settled) row.now.row number }
+// After how many turns, each of which gains on the due dates, a firing of the first turn is late.
+fn turns_at(row: &SettledRow<'_>, turn: CommonPeriod, number: u64) -> Soonest
+    requires turn { GainsByTurns row.now turn }
+    requires past { turn.past < number }
+    requires last { number ≤ turn.past + turn.firings }
     ensures number { result.number ≡ number }
     ensures due { row_due row.now.row number ≡ Some result.due }
     ensures least { settled_date row.now.settled row.now.row.transition.index number ≡ At (pos
         result.least) }
-    ensures turns { result.turns ≡ turns_to result.due result.least gain }
+    ensures turns { result.turns ≡ turns_to result.due result.least (turn.rise - turn.fall) }
 {
-    let due = row.due(number);
+    let due = due_at(row.row(), number);
     let least = row.least(number);
-    let turns = (due - least) / gain + 1;
+    let turns = (due - least) / (turn.rise - turn.fall) + 1;
     Soonest {
         number,
         due,
@@ -100,17 +100,17 @@ fn sooner(first: Soonest, next: Soonest) -> Soonest
 }
 
 // Of the numbers past which dates repeat that which is late after the fewest turns, where each turn
-// gains on the due dates.
-fn fewest_turns(row: &SettledRow<'_>, turn: CommonPeriod) -> Soonest
+// gains on the due dates: so many turns on stands the least late number.
+fn soonest_late(row: &SettledRow<'_>, turn: CommonPeriod) -> Soonest
     requires { GainsByTurns row.now turn }
-    ensures is { IsSoonest (settled_date row.now.settled) row.now.row turn.past
-        (turn.past + turn.firings) (turn.rise - turn.fall) result.number result.due result.least }
-    ensures turns { result.turns ≡ turns_to result.due result.least (turn.rise - turn.fall) }
+    ensures { IsLateAfter row.now.settled row.now.row turn result }
 {
-    let gain = turn.rise - turn.fall;
-    let mut best = turns_at(row, turn.past + 1, gain);
+    turns_tell_late();
+    late_is_soon();
+    row.settled();
+    let mut best = turns_at(row, turn, turn.past + 1);
     for number in turn.past + 2..turn.past + turn.firings + 1 {
-        best = sooner(best, turns_at(row, number, gain));
+        best = sooner(best, turns_at(row, turn, number));
     }
     best
 }
@@ -215,31 +215,6 @@ fn turn_of(row: &SettledRow<'_>, cycle: Cycle) -> CommonPeriod
     }
 }
 
-// Of the numbers past which dates repeat that which is late after the fewest turns, where each turn
-// gains on the due dates: so many turns on stands the least late number.
-fn soonest_late(row: &SettledRow<'_>, turn: CommonPeriod) -> Soonest
-    requires { GainsByTurns row.now turn }
-    ensures { IsLateAfter row.now.settled row.now.row turn result }
-{
-    turns_tell_late();
-    late_is_soon();
-    row.settled();
-    fewest_turns(row, turn)
-}
-
-// The late number that the search by turns finds.
-fn late_by_turns(row: &SettledRow<'_>, turn: CommonPeriod) -> LateFiring
-    requires { GainsByTurns row.now turn }
-    ensures { IsSoonLate row.now.settled row.now.row result.number result.due result.least }
-{
-    let best = soonest_late(row, turn);
-    LateFiring {
-        number: best.number as u128 + best.turns * turn.firings as u128,
-        due: best.due + best.turns * turn.fall,
-        least: best.least + best.turns * turn.rise,
-    }
-}
-
 // The least late number of a row, if it has one. A form whose dates and due dates repeat together
 // only past the greatest number that it tells has more dates than any memory holds.
 pub(crate) fn late_in_row(row: &SettledRow<'_>) -> Result<Option<LateFiring>, OutOfMemory>
@@ -269,5 +244,10 @@ pub(crate) fn late_in_row(row: &SettledRow<'_>) -> Result<Option<LateFiring>, Ou
     if turn.rise <= turn.fall {
         return Ok(None);
     }
-    Ok(Some(late_by_turns(row, turn)))
+    let best = soonest_late(row, turn);
+    Ok(Some(LateFiring {
+        number: best.number as u128 + best.turns * turn.firings as u128,
+        due: best.due + best.turns * turn.fall,
+        least: best.least + best.turns * turn.rise,
+    }))
 }

@@ -2,8 +2,8 @@
 ghost use Rattle.std.specs.Prelude.{◌≡◌, ◌≤◌, ◌<◌, [], true, IfOk, length, get_or, option_map, nat_le};
 ghost use Rattle.std.specs.List.{list_all};
 ghost use Rattle.teg_due.specs.csv.Records.{fields_of};
-ghost use Rattle.csv_records.specs.NumberFields.{is_number, number_up_to};
-ghost use Rattle.teg_net.specs.Limits.{greatest_firing_number, greatest_input_date};
+ghost use Rattle.csv_records.specs.NumberFields.{is_number};
+ghost use Rattle.teg_net.specs.Limits.{greatest_input_date};
 ghost use Rattle.teg_forever.specs.EndlessFiles.{has_numbers, IsLimited, AreDatesOfFields, goes_on, rises_from};
 
 use csv_records::{ByteRecord, is_number, number_up_to};
@@ -50,16 +50,6 @@ pub(crate) fn has_numbers(record: &ByteRecord) -> bool
     true
 }
 
-// The number of a field, if it is at most this.
-fn number_at(record: &ByteRecord, index: usize, most: u64) -> Option<u64>
-    requires there { index < length (fields_of «record».now) }
-    requires number { is_number (get_or (fields_of «record».now) index []) ≡ true }
-    requires small { most ≤ greatest_firing_number }
-    ensures { result ≡ number_up_to most (get_or (fields_of «record».now) index []) }
-{
-    number_up_to(field_at(record, index), most)
-}
-
 // The dates of a record, from its fourth field on, if each keeps its limit.
 fn dates_of(alloc: Global, record: &ByteRecord) -> Result<Option<Vec<u64>>, OutOfMemory>
     requires { has_numbers (fields_of «record».now) ≡ true }
@@ -68,7 +58,7 @@ fn dates_of(alloc: Global, record: &ByteRecord) -> Result<Option<Vec<u64>>, OutO
 {
     let mut dates = Vec::new(alloc);
     for index in 3..record.len() {
-        let Some(date) = number_at(record, index, GREATEST_INPUT_DATE) else {
+        let Some(date) = number_up_to(field_at(record, index), GREATEST_INPUT_DATE) else {
             return Ok(None);
         };
         if dates.push(date).is_err() {
@@ -86,10 +76,10 @@ pub(crate) fn limited_numbers(
     requires { has_numbers (fields_of «record».now) ≡ true }
     ensures { IfOk result (IsLimited (fields_of «record».now)) }
 {
-    let Some(every) = number_at(record, 1, MOST_EVERY) else {
+    let Some(every) = number_up_to(field_at(record, 1), MOST_EVERY) else {
         return Ok(None);
     };
-    let Some(gap) = number_at(record, 2, GREATEST_INPUT_DATE) else {
+    let Some(gap) = number_up_to(field_at(record, 2), GREATEST_INPUT_DATE) else {
         return Ok(None);
     };
     if every < 1 || record.len() > MOST_DATES + 3 {

@@ -21,32 +21,7 @@ fn reduced_time(row: &EndlessRow, place: &Place) -> i128
     time - given
 }
 
-// Takes over the time of the walk that begins with the place, where that is more. Whether it is.
-fn raise(row: &EndlessRow, place: &Place, times: &mut [Option<i128>]) -> bool
-    requires place { IsWeighable row.now place.now }
-    requires from { place.now.from.index < length times.old }
-    requires to { place.now.to.index < length times.old }
-    ensures full { length times.new ≡ length times.old }
-{
-    let Some(onward) = times[place.to.index as usize] else {
-        return false;
-    };
-    let Some(time) = onward.checked_add(reduced_time(row, place)) else {
-        return false;
-    };
-    let from = place.from.index as usize;
-    let told = match times[from] {
-        Some(told) => told,
-        None => i128::MIN,
-    };
-    if time <= told {
-        return false;
-    }
-    times[from] = Some(time);
-    true
-}
-
-// The same with each place. Whether some time is more.
+// Takes over the time of the walk that begins with each place, where that is more. Whether some is.
 fn raise_all(plain: &PlainRow<'_>, times: &mut [Option<i128>]) -> bool
     requires { length times.old ≡ length plain.now.net.transitions }
     ensures { length times.new ≡ length times.old }
@@ -54,8 +29,22 @@ fn raise_all(plain: &PlainRow<'_>, times: &mut [Option<i128>]) -> bool
     let (net, row) = (plain.net(), plain.row());
     let mut more = false;
     for place in net.places() {
-        let raised = raise(row, place, times);
-        more = more || raised;
+        let Some(onward) = times[place.to.index as usize] else {
+            continue;
+        };
+        let Some(time) = onward.checked_add(reduced_time(row, place)) else {
+            continue;
+        };
+        let from = place.from.index as usize;
+        let told = match times[from] {
+            Some(told) => told,
+            None => i128::MIN,
+        };
+        if time <= told {
+            continue;
+        }
+        times[from] = Some(time);
+        more = true;
     }
     more
 }

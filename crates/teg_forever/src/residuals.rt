@@ -1,9 +1,9 @@
 //! The meet over the rows of the residuals of their due series by the walk series of an input.
-ghost use Rattle.std.specs.Prelude.{◌≡◌, ◌<◌, ◌≤◌, ◌+◌, Err, length, true, IfErr, IfOk, IsTrue, OnOk};
+ghost use Rattle.std.specs.Prelude.{◌≡◌, ◌<◌, ◌≤◌, Err, length, true, IfErr, IfOk, IsTrue, OnOk};
 ghost use Rattle.dioid.specs.ElementAnswers.{Answers};
 ghost use Rattle.series_ops.specs.Gains.{gain_meet, MeetFits};
 ghost use Rattle.teg_forever.specs.InputAnswers.{IsStopped};
-ghost use Rattle.teg_forever.specs.Divisions.{AreDivisions, AreMet, IsMeetOver, IsMeetSoFar, IsRefusedAt, IsResidualOf, refusal_at};
+ghost use Rattle.teg_forever.specs.Divisions.{AreDivisions, AreMet, IsMeetOver, IsRefusedAt, IsResidualOf, refusal_at};
 
 use crate::alike::is_as_before;
 use crate::asked::InputRows;
@@ -93,37 +93,9 @@ fn residual_at(
     }
 }
 
-// The meet of the meet over the rows before with the residual of a row. A row as the one before is
-// not gone through again where the meet stays.
-#[tactic(auto, using(std::proofs::lemmas::Result::err_from_is_err_and))]
-fn next_meet(
-    alloc: Global,
-    asked: &InputRows<'_>,
-    place: usize,
-    divisions: &mut Divisions,
-    meet: Meet,
-) -> Result<Meet, ForeverRefusal>
-    requires some { 0 < place }
-    requires place { place < length asked.now.rows }
-    requires divisions { AreDivisions asked.now.rows divisions.old }
-    requires meet { IsMeetSoFar asked.now.net asked.now.rows asked.now.input.index place meet }
-    ensures divisions { OnOk result (AreDivisions asked.now.rows divisions.new) }
-    ensures meet { IfOk result (IsMeetSoFar asked.now.net asked.now.rows asked.now.input.index
-        (place + 1)) }
-    ensures refused { IfErr result (IsRefusedAt asked.now.net asked.now.rows asked.now.input place) }
-{
-    if meet.stays && is_as_before(asked, place, divisions) {
-        return Ok(meet);
-    }
-    let at = residual_at(alloc, asked, place, divisions)?;
-    match met(alloc, meet.gain, divisions.residual(at)) {
-        Ok(met) => Ok(met),
-        Err(why) => Err(refusal_at(why, asked.input(), asked.row(place))),
-    }
-}
-
 // The meet over the rows of the residuals of their due series by the walk series of an input, or
-// the first row that does not fit.
+// the first row that does not fit. A row as the one before is not gone through again where the meet
+// stays.
 pub(crate) fn meet_of(
     alloc: Global,
     asked: &InputRows<'_>,
@@ -145,7 +117,14 @@ pub(crate) fn meet_of(
         stays: true,
     };
     for place in 1..count {
-        meet = next_meet(alloc, asked, place, divisions, meet)?;
+        if meet.stays && is_as_before(asked, place, divisions) {
+            continue;
+        }
+        let at = residual_at(alloc, asked, place, divisions)?;
+        meet = match met(alloc, meet.gain, divisions.residual(at)) {
+            Ok(met) => met,
+            Err(why) => return Err(refusal_at(why, asked.input(), asked.row(place))),
+        };
     }
     Ok(meet.gain)
 }

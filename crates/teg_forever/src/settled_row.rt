@@ -1,13 +1,11 @@
 //! A row of due dates beside the settled form of the least dates with all inputs at 0.
-ghost use Rattle.std.specs.Prelude.{◌≡◌, ◌≤◌, ◌+◌, ◌*◌, Some, pos};
+ghost use Rattle.std.specs.Prelude.{◌≡◌, ◌≤◌, pos};
 ghost use Rattle.dioid.specs.declared.dates.Date.TheVariants.{At};
-ghost use Rattle.teg_net.specs.Limits.{greatest_firing_number, greatest_input_date};
+ghost use Rattle.teg_net.specs.Limits.{greatest_firing_number};
 ghost use Rattle.forever_laws.specs.teg_model.DateBounds.{greatest_least_date};
 ghost use Rattle.forever_laws.specs.settled_laws.SettledForms.{settled_date};
-ghost use Rattle.forever_laws.specs.EndlessRows.{row_due};
 ghost use Rattle.teg_forever.specs.LateFirings.{IsClimbing, IsGoingRow, IsRowAtZero, IsSettledRow, row_at_zero};
 
-use crate::dues::due_at;
 use dioid::Date;
 use forever_laws::EndlessRow;
 use std::marker::Model;
@@ -77,16 +75,6 @@ impl<'a> SettledRow<'a> {
         ensures goes_on { IsGoingRow result.now }
     {
         self.row
-    }
-
-    // The due date of a firing.
-    pub(crate) fn due(&self, number: u64) -> u128
-        requires first { 1 ≤ number }
-        requires last { number ≤ greatest_firing_number }
-        ensures due { row_due self.now.row number ≡ Some result }
-        ensures low { result ≤ greatest_input_date * (number + 1) }
-    {
-        due_at(self.row, number)
     }
 
     // The least date of a firing of the row's transition.

@@ -1,12 +1,11 @@
 //! The texts of the answers about endless due dates.
-ghost use Rattle.std.specs.Prelude.{◌≡◌, ◌≢◌, ◌<◌, ◌++◌, [], Ok, Err, Some, All, get_or, length, map, slice_get, IfOk, string_bytes};
+ghost use Rattle.std.specs.Prelude.{◌≡◌, ◌≢◌, ◌<◌, ◌++◌, [], Ok, Err, All, length, map, IfOk, string_bytes};
 ghost use Rattle.series_form.specs.NumberBounds.{IsSeries};
 ghost use Rattle.teg_net.specs.Nets.{NetLists};
 ghost use Rattle.teg_text.specs.Lines.{further_then, line_then, written};
 ghost use Rattle.teg_forever.specs.LatestReleases.{inputs_of};
-ghost use Rattle.teg_forever.specs.EndlessTexts.{IsFaultTold, IsRefusalIn, IsReleaseTold, IsEndlessTold, TextsOfEndlessDiffer, Faulty, Answered, answer_lines, endless_line, forever_line, endless_lines_of, release_line, series_words};
+ghost use Rattle.teg_forever.specs.EndlessTexts.{IsRefusalIn, IsReleaseTold, IsEndlessTold, TextsOfEndlessDiffer, Faulty, Answered, answer_lines, endless_lines_of, release_line, series_words};
 
-use crate::late::LateFiring;
 use crate::releases::{ForeverRefusal, Release};
 use crate::rows::EndlessRefusal;
 use series_form::Series;
@@ -65,15 +64,6 @@ fn inputs_of(alloc: Global, net: &Net) -> Result<Vec<TransitionId>, AllocError>
     Ok(inputs)
 }
 
-// The input at a place.
-fn input_at(inputs: &[TransitionId], place: usize) -> TransitionId
-    requires { place < length inputs.now }
-    ensures value { result.index ≡ get_or (map (λ t. t.index) inputs.now) place 0 }
-    ensures stands { slice_get inputs.now place ≡ Some result }
-{
-    inputs[place]
-}
-
 // The lines of the releases of the inputs.
 fn push_releases(
     text: &mut String,
@@ -89,7 +79,7 @@ fn push_releases(
     ensures told { IfOk result (λ _. All IsReleaseTold releases.now) }
 {
     for index in 0..inputs.len() {
-        push_release(text, net, input_at(inputs, index), &releases[index])?;
+        push_release(text, net, inputs[index], &releases[index])?;
     }
     Ok(())
 }
@@ -110,47 +100,6 @@ pub fn releases_text(alloc: Global, net: &Net, releases: &[Release]) -> Result<S
     Ok(text)
 }
 
-// The line of a late firing.
-fn late_text(
-    alloc: Global,
-    net: &Net,
-    transition: TransitionId,
-    late: LateFiring,
-) -> Result<String, AllocError>
-    requires { transition.index < length net.now.transitions }
-    ensures { IfOk result (λ text. string_bytes text ≡ line_then
-        (forever_line net.now (ForeverRefusal.Late transition late.number late.due late.least)) []) }
-{
-    let LateFiring { number, due, least } = late;
-    let name = net.transitions()[transition.index as usize].name.as_str();
-    format!(in alloc; "late {name} {number} due {due} least {least}\n")
-}
-
-// The line of an input that is too long.
-fn too_long_text(alloc: Global, net: &Net, input: TransitionId) -> Result<String, AllocError>
-    requires { input.index < length net.now.transitions }
-    ensures { IfOk result (λ text. string_bytes text ≡ line_then
-        (forever_line net.now (ForeverRefusal.TooLong input)) []) }
-{
-    let name = net.transitions()[input.index as usize].name.as_str();
-    format!(in alloc; "too long: input {name}\n")
-}
-
-// The line of an input that is too wide at a row.
-fn too_wide_text(
-    alloc: Global,
-    net: &Net,
-    input: TransitionId,
-    row: u32,
-) -> Result<String, AllocError>
-    requires { input.index < length net.now.transitions }
-    ensures { IfOk result (λ text. string_bytes text ≡ line_then
-        (forever_line net.now (ForeverRefusal.TooWide input row)) []) }
-{
-    let name = net.transitions()[input.index as usize].name.as_str();
-    format!(in alloc; "too long: input {name} at due row {row}\n")
-}
-
 /// The text of why the releases are not told: the late firing with its due date and its least date,
 /// or the input, and the row where it is too wide at one. `OutOfMemory` comes only where no memory
 /// is found.
@@ -164,48 +113,25 @@ pub fn forever_refusal_text(
         ≡ written (answer_lines net.now (Answered (Err refusal.now)))) }
     ensures told { IfOk result (λ _. IsEndlessTold net.now (Answered (Err refusal.now))) }
 {
-    match refusal {
+    match *refusal {
         ForeverRefusal::Late {
             transition,
             number,
             due,
             least,
         } => {
-            let (number, due, least) = (*number, *due, *least);
-            let late = LateFiring { number, due, least };
-            Ok(late_text(alloc, net, *transition, late)?)
+            let name = net.transitions()[transition.index as usize].name.as_str();
+            Ok(format!(in alloc; "late {name} {number} due {due} least {least}\n")?)
         }
-        ForeverRefusal::TooLong { input } => Ok(too_long_text(alloc, net, *input)?),
-        ForeverRefusal::TooWide { input, row } => Ok(too_wide_text(alloc, net, *input, *row)?),
+        ForeverRefusal::TooLong { input } => {
+            let name = net.transitions()[input.index as usize].name.as_str();
+            Ok(format!(in alloc; "too long: input {name}\n")?)
+        }
+        ForeverRefusal::TooWide { input, row } => {
+            let name = net.transitions()[input.index as usize].name.as_str();
+            Ok(format!(in alloc; "too long: input {name} at due row {row}\n")?)
+        }
         ForeverRefusal::OutOfMemory => unreachable!(),
-    }
-}
-
-// The line of the first fault of a file.
-fn fault_text(alloc: Global, refusal: &EndlessRefusal) -> Result<String, AllocError>
-    requires { refusal.now ≢ EndlessRefusal.OutOfMemory }
-    ensures text { IfOk result (λ text. string_bytes text
-        ≡ line_then (endless_line refusal.now) []) }
-    ensures told { IfOk result (λ _. IsFaultTold refusal.now) }
-{
-    match refusal {
-        EndlessRefusal::BadRow { row } => row_fault(
-            alloc,
-            "due",
-            *row,
-            "is not an endless due row",
-        ),
-        EndlessRefusal::UnknownTransition { row } => row_fault(
-            alloc,
-            "due",
-            *row,
-            "unknown transition",
-        ),
-        EndlessRefusal::NotDue { row } => row_fault(alloc, "due", *row, "input transition"),
-        EndlessRefusal::RepeatedDue { row } => row_fault(alloc, "due", *row, "repeated"),
-        EndlessRefusal::OutOfRange { row } => row_fault(alloc, "due", *row, "out of range"),
-        EndlessRefusal::Falls { row } => row_fault(alloc, "due", *row, "falls"),
-        EndlessRefusal::OutOfMemory => unreachable!(),
     }
 }
 
@@ -217,7 +143,23 @@ pub fn endless_refusal_text(alloc: Global, refusal: &EndlessRefusal) -> Result<S
         ≡ written (answer_lines net (Faulty refusal.now))) }
     ensures told { IfOk result (λ _. (net : NetLists) → IsEndlessTold net (Faulty refusal.now)) }
 {
-    Ok(fault_text(alloc, refusal)?)
+    let text = match refusal {
+        EndlessRefusal::BadRow { row } => row_fault(
+            alloc,
+            "due",
+            *row,
+            "is not an endless due row",
+        )?,
+        EndlessRefusal::UnknownTransition { row } => {
+            row_fault(alloc, "due", *row, "unknown transition")?
+        }
+        EndlessRefusal::NotDue { row } => row_fault(alloc, "due", *row, "input transition")?,
+        EndlessRefusal::RepeatedDue { row } => row_fault(alloc, "due", *row, "repeated")?,
+        EndlessRefusal::OutOfRange { row } => row_fault(alloc, "due", *row, "out of range")?,
+        EndlessRefusal::Falls { row } => row_fault(alloc, "due", *row, "falls")?,
+        EndlessRefusal::OutOfMemory => unreachable!(),
+    };
+    Ok(text)
 }
 
 /// The law that different answers about one net have different texts, together: that a file is too

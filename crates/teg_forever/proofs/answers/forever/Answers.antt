@@ -15,8 +15,7 @@ new-due-requires c = record {
 
 pub returns-clause-releases : goal.returns-clause-releases
 returns-clause-releases c =
-    let meet = rw c.new-due.ensures at c.in_ok-keep_dues.ensures.meet in
     let releases = rw c.new-due.ensures at c.releases_of.ensures.releases in
     each_ok c.releases_of.result _ _ releases
     (λ releases h. all_releases c.args.net.now c.args.rows.now releases.items c.latest_at_inputs_are_latest.ensures
-    c.transitions.ensures.rules (c.ranked_nets_are_live.ensures c.args.net.now c.args.live.now c.requires.stands) meet h)
+    c.transitions.ensures.rules (c.ranked_nets_are_live.ensures c.args.net.now c.args.live.now c.requires.stands) h)

@@ -19,7 +19,7 @@ new-requires c =
     let i = c.loop-row.row-index in
     let within : i < length a.rows = rw c.rows-row-items.ensures.value at c.loop-row-test.true in
     let item : r ≡ get_or a.rows i r = rw c.rows-row-items.ensures.value at c.row-item.is in
-    settled_at a c.rows-row-items.ensures.given c.args.settled.now c.requires.form c.requires.climbing i r within item
+    settled_at a c.rows-row-items.ensures.given c.args.settled.now c.zero_inputs_are_no_lists.ensures c.requires c.turns_tell_late.ensures.steps c.after.ensures.kept i r within item
 
 pub returns-in-Some-clause-late : goal.returns-in-Some-clause-late
 returns-in-Some-clause-late c =
@@ -33,7 +33,7 @@ returns-in-Some-clause-late c =
     let some = rw c.new.ensures at c.in_ok-late.ensures.some in
     let soon : IsSoonLate f r late.number late.due late.least = subst (λ (o : Option LateFiring). IfSome o (λ l. IsSoonLate f r l.number l.due l.least)) c.in-Some.is some in
     subst (ForeverRefused a.net a.rows) (sym c.refused_at.ensures)
-    (late_answer a c.rows-row-items.ensures.given f c.requires.form i r (got a.rows i r within item) c.loop-row.invariant late.number late.due late.least soon)
+    (late_answer a c.rows-row-items.ensures.given f c.zero_inputs_are_no_lists.ensures c.requires i r (got a.rows i r within item) c.loop-row.invariant late.number late.due late.least soon)
 
 pub loop-row-preserved : goal.loop-row-preserved
 loop-row-preserved c =
@@ -52,5 +52,5 @@ returns-clause-meet c =
     let f = c.args.settled.now in
     let i = c.loop-row.row-index in
     let low : length a.rows ≤ i = rw c.rows-row-items.ensures.value at c.loop-row-test.false in
-    all_meet a c.rows-row-items.ensures.given f c.requires.form c.zero_meets_where_none_late.ensures
+    all_meet a c.rows-row-items.ensures.given f c.zero_inputs_are_no_lists.ensures c.requires c.zero_meets_where_none_late.ensures
     (subst (All (NoneLate (settled_date f))) (take_all i a.rows low) c.loop-row.invariant)

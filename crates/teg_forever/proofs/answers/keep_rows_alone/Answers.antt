@@ -15,7 +15,7 @@ loop-row-init c x least i d l = absurd (omega arith)
 pub new-requires : goal.new-requires
 new-requires c =
     let a = c.args.due.now in
-    let given = c.live.ensures.given in
+    let given = c.net-net.ensures.given in
     let r = c.row-item.result in
     let i = c.loop-row.row-index in
     let within : i < length a.rows = rw c.rows-row-items.ensures.value at c.loop-row-test.true in
@@ -33,7 +33,7 @@ returns-in-Late-clause-late c =
     let r = c.row-item.result in
     let i = c.loop-row.row-index in
     let late = c.in-Late.late in
-    let given = c.live.ensures.given in
+    let given = c.net-net.ensures.given in
     let within : i < length a.rows = rw c.rows-row-items.ensures.value at c.loop-row-test.true in
     let item : r ≡ get_or a.rows i r = rw c.rows-row-items.ensures.value at c.row-item.is in
     let zero = c.no_rows_are_met.ensures a.net given.rules given.is_live in
@@ -57,5 +57,5 @@ returns-clause-meet c told =
     let a = c.args.due.now in
     let i = c.loop-row.row-index in
     let low : length a.rows ≤ i = rw c.rows-row-items.ensures.value at c.loop-row-test.false in
-    all_meet_in a c.live.ensures.given c.no_rows_are_met.ensures c.zero_meets_where_none_late.ensures
+    all_meet_in a c.net-net.ensures.given c.no_rows_are_met.ensures c.zero_meets_where_none_late.ensures
     (λ x least. subst (All (NoneLate x)) (take_all i a.rows low) (c.loop-row.invariant x least))

@@ -11,8 +11,8 @@ use Rattle.teg_forever.proofs.Residues.{each_ok}
 use Rattle.teg_forever.proofs.Series.{got}
 use Rattle.teg_forever.proofs.inputs.release_by_another.Goals as goal
 
-pub returns-in-Some-clause-release : goal.returns-in-Some-clause-release
-returns-in-Some-clause-release c =
+pub returns-in-Some : goal.returns-in-Some
+returns-in-Some c =
     let net = c.args.due.now.net in
     let rows = c.args.due.now.rows in
     let u = c.args.input.index in
@@ -27,6 +27,6 @@ returns-in-Some-clause-release c =
     let lag = c.in-Some.before.lag in
     let fits : SFits w128 lag = search rules in
     let known : to_z w128 (of_z w128 lag) ≡ lag = to_z-of_z w128 lag fits in
-    each_ok c.earlier_release.result _ (λ found. IfSome found (IsFineRelease net rows u)) (rw known at c.earlier_release.ensures.earlier)
+    each_ok c.earlier_release.result _ (λ found. IfSome found (IsFineRelease net rows u)) (rw known at c.earlier_release.ensures)
     (λ found k. IfSome_then found k (λ new e. lagged_fine_release net given.rules h.other u lag h.input c.requires.input h.lagged rows given.ends
-    c.walk_times_settle.ensures given.is_live c.requires.meet (c.requires.releases.fine h.other h.before h.input) old new right e))
+    c.walk_times_settle.ensures given.is_live c.requires.releases.meet (c.requires.releases.fine h.other h.before h.input) old new right e))

@@ -28,8 +28,8 @@ returns-then-none_late_past-clause-some c =
     let a = c.args.row.now in
     some_map c.late_listed.result (λ l late. soon a.settled a.row c.settled.ensures.told c.late_is_soon.ensures l.number l.due l.least late) c.late_listed.ensures.some
 
-pub late_by_turns-requires : goal.late_by_turns-requires
-late_by_turns-requires c = record {
+pub soonest_late-best-requires : goal.soonest_late-best-requires
+soonest_late-best-requires c = record {
   common = c.turn_of-turn.ensures.turn;
   last = omega arith;
   steep = omega arith;

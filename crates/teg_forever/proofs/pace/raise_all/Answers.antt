@@ -3,8 +3,8 @@ use Rattle.teg_net.specs.Nets.{IsPlaceOf}
 use Rattle.teg_forever.proofs.KeepingPace.{weighable}
 use Rattle.teg_forever.proofs.pace.raise_all.Goals as goal
 
-pub raise-raised-requires-clause-place : goal.raise-raised-requires-clause-place
-raise-raised-requires-clause-place c =
+pub reduced_time-requires : goal.reduced_time-requires
+reduced_time-requires c =
     let net = c.net-net.result.now in
     let p = c.place-item.result in
     let within = rw c.places-place-items.ensures.value at c.loop-place-test.true in

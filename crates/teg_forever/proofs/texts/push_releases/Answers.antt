@@ -1,5 +1,5 @@
-use Rattle.std.proofs.Common.{◌≡◌, ◌<◌, ◌≤◌, ◌++◌, [], ◌∙◌, ℕ, List, All, length, map, get_or, refl, subst, ap, arith, string_bytes}
-use Rattle.std.proofs.lemmas.List.{length-map, take_all}
+use Rattle.std.proofs.Common.{◌≡◌, ◌<◌, ◌≤◌, ◌++◌, [], ◌∙◌, ℕ, List, All, length, map, get_or, refl, sym, subst, ap, arith, string_bytes}
+use Rattle.std.proofs.lemmas.List.{get_or-map, length-map, take_all}
 use Rattle.teg_net.specs.declared.entries.TransitionId.{TransitionId}
 use Rattle.teg_text.specs.Lines.{line_then}
 use Rattle.teg_text.proofs.Listing.{all_items}
@@ -20,7 +20,7 @@ loop-index-preserved c =
     let text = string_bytes c.loop-index.text in
     let pushed : string_bytes c.push_release.new.text ≡ text ++ line_then (release_line net (get_or ts i 0) (get_or releases i r)) [] =
     c.in_ok-push_release.ensures.text
-    ∙ ap (λ (n : ℕ). text ++ line_then (release_line net n r) []) c.input_at.ensures.value
+    ∙ ap (λ (n : ℕ). text ++ line_then (release_line net n r) []) (sym (get_or-map (λ (u : TransitionId). u.index) c.args.inputs.now i _ 0 lt))
     ∙ ap (λ (x : Release). text ++ line_then (release_line net (get_or ts i 0) x) []) c.index-releases-index.is in
     record {
       text = line_more net ts releases i 0 r text (string_bytes c.push_release.new.text) _

@@ -3,7 +3,7 @@ use Rattle.teg_net.specs.Nets.{without_inputs}
 use Rattle.teg_dates.specs.Streams.{IsStreamOf, rows_given}
 use Rattle.forever_laws.specs.Late.{NoneLateTo}
 use Rattle.teg_forever.specs.LateFirings.{InLeastAtZero}
-use Rattle.teg_forever.proofs.alone.late_in.Given as goal
+use Rattle.teg_forever.proofs.alone.late_to.Given as goal
 
 abbrev pub invariant-loop-number : goal.invariant-loop-number
 invariant-loop-number l = record {

@@ -2,7 +2,7 @@ use Rattle.std.proofs.Common.{ℕ, ◌≡◌, ◌+◌, ◌-◌, arith, subst}
 use Rattle.forever_laws.specs.Late.{NoneLateTo}
 use Rattle.teg_forever.specs.LateFirings.{InLeastAtZero}
 use Rattle.teg_forever.proofs.AloneRows.{found, none_so_far, comes_at}
-use Rattle.teg_forever.proofs.alone.late_in.Goals as goal
+use Rattle.teg_forever.proofs.alone.late_to.Goals as goal
 
 pub returns-then-due-least-clause-some : goal.returns-then-due-least-clause-some
 returns-then-due-least-clause-some c =

@@ -1,7 +1,7 @@
 use Rattle.std.proofs.Common.{◌≡◌, ◌-◌}
 use Rattle.forever_laws.specs.settled_laws.SettledForms.{settled_date}
 use Rattle.forever_laws.specs.LateSearches.{IsSoonest, turns_to}
-use Rattle.teg_forever.proofs.late.fewest_turns.Given as goal
+use Rattle.teg_forever.proofs.late.soonest_late.Given as goal
 
 abbrev pub invariant-loop-number : goal.invariant-loop-number
 invariant-loop-number l = record {
