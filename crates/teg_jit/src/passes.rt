@@ -66,8 +66,7 @@ pub(crate) fn begin(
     last: u32,
 ) -> Result<LatestList, AllocError>
     requires { AreListedUpTo net.now rows.now last }
-    ensures full { IfOk result (λ dates. length dates ≡ last * length net.now.transitions) }
-    ensures settled { IfOk result (ArePassedAbove net.now (due_in rows.now) last last) }
+    ensures { IfOk result (ArePassedAbove net.now (due_in rows.now) last last) }
 {
     let width = net.transitions().len();
     let mut dates = LatestList::new(alloc, last as usize * width)?;
@@ -115,8 +114,7 @@ pub(crate) fn pass_places(
     requires number { HasNumber net.now last number dates.old }
     requires passed { (due : ℕ → ℕ → Option ℕ) × AreNext net.now due last number
         (length net.now.transitions) dates.old × HaveRoom net.now due }
-    ensures full { length dates.new ≡ last * length net.now.transitions }
-    ensures settled { (due : ℕ → ℕ → Option ℕ) → AreNext net.now due last number
+    ensures { (due : ℕ → ℕ → Option ℕ) → AreNext net.now due last number
         (length net.now.transitions) dates.old
         → ArePassedAbove net.now due last (number - 1) dates.new }
 {

@@ -1,4 +1,4 @@
-use Rattle.std.proofs.Common.{◌+◌, ◌-◌, ◌≡◌, arith}
+use Rattle.std.proofs.Common.{◌+◌, ◌-◌, ◌≡◌, [], arith}
 use Rattle.teg_check.proofs.Liveness.{ranking_is_live}
 use Rattle.teg_due.specs.RowRules.{due_in}
 use Rattle.teg_jit.proofs.Tight.{plan_is}
@@ -6,8 +6,8 @@ use Rattle.teg_jit.proofs.meeting.plan_for.Goals as goal
 
 pub loop-done-init : goal.loop-done-init
 loop-done-init c = record {
-  full = c.in_ok-dates.ensures.full;
-  settled = let is : c.args.last - 0 ≡ c.args.last = omega arith in rw is c.in_ok-dates.ensures.settled;
+  full = (c.in_ok-dates.ensures []).full;
+  settled = let is : c.args.last - 0 ≡ c.args.last = omega arith in rw is c.in_ok-dates.ensures;
 }
 
 pub pass_places-requires-clause-passed : goal.pass_places-requires-clause-passed
@@ -17,13 +17,11 @@ pass_places-requires-clause-passed c =
     (due, c.pass_next.ensures.passed due c.loop-done.invariant.settled, (kept.0, kept.1.feasible, kept.2))
 
 pub loop-done-preserved : goal.loop-done-preserved
-loop-done-preserved c = record {
-  full = c.pass_places.ensures.full;
-  settled =
-      let due = due_in c.args.rows.now in
-      let is : c.args.last - (c.loop-done.done + 1) ≡ c.args.last - c.loop-done.done - 1 = omega arith in
-      rw is (c.pass_places.ensures.settled due (c.pass_next.ensures.passed due c.loop-done.invariant.settled));
-}
+loop-done-preserved c =
+    let due = due_in c.args.rows.now in
+    let is : c.args.last - (c.loop-done.done + 1) ≡ c.args.last - c.loop-done.done - 1 = omega arith in
+    let settled = c.pass_places.ensures due (c.pass_next.ensures.passed due c.loop-done.invariant.settled) in
+    record { full = (settled []).full; settled = rw is settled }
 
 pub returns-clause-plan : goal.returns-clause-plan
 returns-clause-plan c =

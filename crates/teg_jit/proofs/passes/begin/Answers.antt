@@ -28,5 +28,5 @@ loop-row-preserved c =
     (c.requires.greatest.most i no_row l)
     (due_of_row rows i r c.requires.due.once l (at r)))
 
-pub returns-clause-settled : goal.returns-clause-settled
-returns-clause-settled c = begun_is c.args.net.now c.args.rows.now c.args.last c.loop-row.dates c.loop-row.row-index c.transitions-width.ensures.rules c.loop-row.invariant c.loop-row-test.false
+pub returns : goal.returns
+returns c = begun_is c.args.net.now c.args.rows.now c.args.last c.loop-row.dates c.loop-row.row-index c.transitions-width.ensures.rules c.loop-row.invariant c.loop-row-test.false

@@ -70,8 +70,8 @@ loop-depth-preserved c = record {
       ];
 }
 
-pub returns-clause-settled : goal.returns-clause-settled
-returns-clause-settled c = λ due s.
+pub returns : goal.returns
+returns c = λ due s.
     let last : c.loop-depth.depth-index ≡ length c.args.order.now = omega (arith, c.loop-depth-test.false, c.loop-depth.auto.depth-index-end) in
     number_done c.args.net.now due c.requires.order.0 c.args.order.now c.args.last c.args.number c.loop-depth.depth-index
     c.loop-depth.dates c.requires.order.2 c.requires.number.one last (c.loop-depth.invariant.passed due s)
