@@ -99,13 +99,10 @@ pub(crate) fn releases_of(alloc: Global, due: &DueRows<'_>) -> Result<Vec<Releas
             continue;
         }
         let another = release_by_another(alloc, due, input, releases.as_slice())?;
-        if let Some(release) = another {
-            if releases.push(release).is_err() {
-                return Err(ForeverRefusal::OutOfMemory);
-            }
-            continue;
-        }
-        let release = release_of(alloc, due, input, &mut divisions)?;
+        let release = match another {
+            Some(release) => release,
+            None => release_of(alloc, due, input, &mut divisions)?,
+        };
         if releases.push(release).is_err() {
             return Err(ForeverRefusal::OutOfMemory);
         }
