@@ -12,7 +12,7 @@ ghost use Rattle.teg_settle.specs.ComparedRows.{IsToldBy};
 use crate::back::{back_from, moved};
 use crate::reached::is_marked;
 use crate::releases::Repetition;
-use crate::window::Compared;
+use crate::window::steps_of;
 use dioid::Date;
 use std::alloc::{AllocError, Global};
 use std::marker::Model;
@@ -103,23 +103,18 @@ fn add_all(table: &mut [Vec<Date>], rows: &Rows, shown: u64, count: u64) -> Resu
 }
 
 // The first `count` dates of each transition.
-fn table_of(
-    alloc: Global,
-    compared: &Compared<'_>,
-    count: u64,
-) -> Result<Vec<Vec<Date>>, AllocError>
-    requires few { count ≤ compared.now.rows.now.count }
-    ensures count { IfOk result (λ table. length table.items
-        ≡ length compared.now.net.now.transitions) }
-    ensures rows { IfOk result (λ table. (t : ℕ) → t < length compared.now.net.now.transitions
-        → AreShownDates compared.now.rows.now t count (slice_index_or (map (λ r. r.items)
-        table.items) t [])) }
+fn table_of(alloc: Global, net: &Net, rows: &Rows, count: u64) -> Result<Vec<Vec<Date>>, AllocError>
+    requires width { rows.now.width ≡ length net.now.transitions }
+    requires few { count ≤ rows.now.count }
+    ensures count { IfOk result (λ table. length table.items ≡ length net.now.transitions) }
+    ensures rows { IfOk result (λ table. (t : ℕ) → t < length net.now.transitions
+        → AreShownDates rows.now t count (slice_index_or (map (λ r. r.items) table.items) t [])) }
 {
-    let mut table = no_dates(alloc, compared.net.transitions().len(), count)?;
+    let mut table = no_dates(alloc, net.transitions().len(), count)?;
     let mut shown = 0;
     while shown < count {
         let next = shown + COPIED_AT_ONCE.min(count - shown);
-        add_all(&mut table, compared.rows, shown, next)?;
+        add_all(&mut table, rows, shown, next)?;
         shown = next;
     }
     Ok(table)
@@ -177,13 +172,8 @@ impl Settled {
         requires told { (x : ℕ → ℕ → Date) × IsToldBy net.now rows.now form x }
         ensures { IfOk result (IsFormOf net.now rows.now form) }
     {
-        let compared = Compared {
-            net,
-            rows,
-            period: form.period,
-        };
-        let table = table_of(alloc, &compared, form.after + form.period)?;
-        let steps = compared.steps(alloc)?;
+        let table = table_of(alloc, net, rows, form.after + form.period)?;
+        let steps = steps_of(alloc, net, rows, form.period)?;
         let own = numbers_below(alloc, net.transitions().len())?;
         Ok(Settled {
             after: form.after,

@@ -8,7 +8,7 @@ ghost use Rattle.teg_settle.specs.ComparedRows.{IsToldBy};
 
 use crate::back::{back_from, moved};
 use crate::releases::Repetition;
-use crate::window::Compared;
+use crate::window::steps_of;
 use dioid::Date;
 use std::alloc::{AllocError, Global};
 use std::marker::Model;
@@ -47,12 +47,7 @@ impl SettledDates {
         requires told { (x : ℕ → ℕ → Date) × IsToldBy net.now rows form x }
         ensures { IfOk result (IsFormOf net.now rows form) }
     {
-        let compared = Compared {
-            net,
-            rows: &rows,
-            period: form.period,
-        };
-        let steps = compared.steps(alloc)?;
+        let steps = steps_of(alloc, net, &rows, form.period)?;
         Ok(SettledDates { form, rows, steps })
     }
 

@@ -10,7 +10,7 @@ invariant_of-result c =
     let told = c.requires.told in
     let copy = shown_is_copy net c.args.rows c.args.form c.in_ok-steps.steps.items told.1.window.width made.count made.each in
     record {
-      kept = copy_kept net c.args.rows c.args.form _ told.0 c.steps.ensures.rules copy told.1;
+      kept = copy_kept net c.args.rows c.args.form _ told.0 c.steps_of.ensures.rules copy told.1;
       fits = omega (arith, told.1.fits);
     }
 
