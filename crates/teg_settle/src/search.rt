@@ -8,8 +8,6 @@ ghost use Rattle.teg_settle.specs.ComparedRows.{AreRowsOf, IsLeastForm, IsReady,
 
 use crate::asked::Asked;
 use crate::releases::{Releases, Repetition};
-use crate::settled::Settled;
-use crate::shown::SettledDates;
 use crate::witness::{PeriodTest, Witnesses};
 use std::alloc::Global;
 use teg_dates::{PlaceOrder, Rows};
@@ -130,34 +128,4 @@ pub(crate) fn search(alloc: Global, asked: &Asked<'_>, last: u64) -> Result<Sear
         stage = (2 * stage).min(last);
     }
     Ok(Searched { rows, form: None })
-}
-
-// The form that the rows show.
-pub(crate) fn form_of(
-    alloc: Global,
-    net: &Net,
-    releases: &Releases,
-    found: &Found,
-) -> Result<Settled, OutOfMemory>
-    requires found { IsFound net.now releases.now found.now }
-    ensures form { IfOk result (IsLeastForm net.now releases.now) }
-    ensures length { IfOk result (λ form. settled_length form
-        ≡ found.now.form.after + found.now.form.period) }
-{
-    Ok(Settled::of_rows(alloc, net, &found.rows, found.form)?)
-}
-
-// The same form by its rows, which it takes over.
-pub(crate) fn dates_of(
-    alloc: Global,
-    net: &Net,
-    releases: &Releases,
-    found: Found,
-) -> Result<SettledDates, OutOfMemory>
-    requires found { IsFound net.now releases.now found }
-    ensures form { IfOk result (IsLeastForm net.now releases.now) }
-    ensures length { IfOk result (λ form. settled_length form
-        ≡ found.form.after + found.form.period) }
-{
-    Ok(SettledDates::of_rows(alloc, net, found.rows, found.form)?)
 }

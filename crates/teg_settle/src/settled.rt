@@ -2,16 +2,18 @@
 ghost use Rattle.std.specs.Prelude.{ℕ, ◌≡◌, ◌<◌, ◌≤◌, ◌+◌, ◌-◌, ◌*◌, ◌/◌, ◌+ℤ◌, ◌*ℤ◌, IfOk, OnOk, IsTrue, length, map, slice_index, slice_index_or, [], if◌then◌else◌};
 ghost use Rattle.teg_net.specs.Limits.{greatest_firing_number, most_transitions};
 ghost use Rattle.dioid.specs.declared.dates.Date.{Date};
-ghost use Rattle.periodic_laws.specs.settled_laws.SettledForms.{row_of, step_of_form, settled_date};
-ghost use Rattle.teg_settle.specs.Copies.{AreShownDates, IsFormOf, IsTableTo};
+ghost use Rattle.periodic_laws.specs.settled_laws.SettledForms.{row_of, step_of_form, settled_date, settled_length};
+ghost use Rattle.teg_settle.specs.Copies.{AreShownDates, IsTableTo};
 ghost use Rattle.teg_settle.specs.KeptForms.{IsFormKept};
 ghost use Rattle.teg_settle.specs.Reached.{is_marked};
 ghost use Rattle.teg_settle.specs.Spread.{IsSpreadOut};
-ghost use Rattle.teg_settle.specs.ComparedRows.{IsToldBy};
+ghost use Rattle.teg_settle.specs.ComparedRows.{IsLeastForm};
+ghost use Rattle.teg_settle.specs.ShortestForms.{IsFound};
 
 use crate::back::{back_from, moved};
 use crate::reached::is_marked;
-use crate::releases::Repetition;
+use crate::releases::Releases;
+use crate::search::Found;
 use crate::window::steps_of;
 use dioid::Date;
 use std::alloc::{AllocError, Global};
@@ -163,17 +165,20 @@ fn owned_by(
 
 impl Settled {
     // The form that the rows show, with the dates that it needs of them.
-    pub(crate) fn of_rows(
+    pub(crate) fn of_found(
         alloc: Global,
         net: &Net,
-        rows: &Rows,
-        form: Repetition,
+        _releases: &Releases,
+        found: &Found,
     ) -> Result<Settled, AllocError>
-        requires told { (x : ℕ → ℕ → Date) × IsToldBy net.now rows.now form x }
-        ensures { IfOk result (IsFormOf net.now rows.now form) }
+        requires found { IsFound net.now _releases.now found.now }
+        ensures form { IfOk result (IsLeastForm net.now _releases.now) }
+        ensures length { IfOk result (λ form. settled_length form
+            ≡ found.now.form.after + found.now.form.period) }
     {
-        let table = table_of(alloc, net, rows, form.after + form.period)?;
-        let steps = steps_of(alloc, net, rows, form.period)?;
+        let form = found.form;
+        let table = table_of(alloc, net, &found.rows, form.after + form.period)?;
+        let steps = steps_of(alloc, net, &found.rows, form.period)?;
         let own = numbers_below(alloc, net.transitions().len())?;
         Ok(Settled {
             after: form.after,
