@@ -131,17 +131,6 @@ impl<'a> PeriodTest<'a> {
         least
     }
 
-    // Whether the step falls along the place of this number.
-    fn falls_along(&self, place: usize) -> bool
-        ensures { IsTrue result → IsFailed self.now }
-    {
-        let places = self.net.places();
-        if place >= places.len() {
-            return false;
-        }
-        !self.rises_along(&places[place])
-    }
-
     // Whether past the number the date of this firing does not move by the step.
     fn is_firing_apart(&self, transition: TransitionId, number: u64) -> bool
         ensures { IsTrue result → IsFailed self.now }
@@ -181,7 +170,10 @@ impl<'a> PeriodTest<'a> {
         ensures { IsTrue result → IsFailed self.now }
     {
         match witness {
-            Some(Witness::Fall(place)) => self.falls_along(place),
+            Some(Witness::Fall(place)) => {
+                let places = self.net.places();
+                place < places.len() && !self.rises_along(&places[place])
+            }
             Some(Witness::Firing(transition, number)) => self.is_firing_apart(transition, number),
             Some(Witness::Release(transition, number)) => self.is_release_apart(transition, number),
             None => false,
