@@ -159,7 +159,8 @@ module _ (net : NetLists) (r : Releases) (most : ℕ) (h : IsReady net r most) (
       (same_repeats n x z from period step (λ t k l o. only_least_in sys x z is (least_is net r most h) t k o) rep)))
 
   -- where all pass, a form is seen
-  pub seen_from : (period after : ℕ) → 1 ≤ period → most + period + period ≤ rows.count → IsPassed (tested_period net r rows period (rows.count - most - period - period)) after → IsSeenFrom net r rows most period after
+  pub seen_from : (period after : ℕ) → 1 ≤ period → most + period + period ≤ rows.count → IsPassed (tested_period net r rows period (rows.count - most - period - period)) after
+      → IsSeenFrom net r rows most period after
   seen_from period after one fits pass =
       let low = pass.early in
       let some = h.some in

@@ -19,5 +19,6 @@ loop-index-preserved c =
     let moved = simp to_z-of_z at (c.is_step.ensures.0 c.if-not-is_step.false) in
     let here : date_at rows i (k + p) ≡ move (read_step rows p i) (date_at rows i k) =
     sym c.date-late.ensures ∙ (moved ∙ (ap (λ s. move s c.date-early.result) c.step_in-step.ensures ∙ ap (move (read_step rows p i)) c.date-early.ensures)) in
-    below_more (λ t. date_at c.args.self.now.rows t (k + c.args.self.now.period) ≡ move (read_step c.args.self.now.rows c.args.self.now.period t) (date_at c.args.self.now.rows t k)) i c.loop-index.invariant
+    let all = c.args.self.now in
+    below_more (λ t. date_at all.rows t (k + all.period) ≡ move (read_step all.rows all.period t) (date_at all.rows t k)) i c.loop-index.invariant
     (subst (λ (v : TestedPeriod). date_at v.rows i (k + v.period) ≡ move (read_step v.rows v.period i) (date_at v.rows i k)) c.self.view_is here)
