@@ -15,7 +15,7 @@ use Rattle.periodic_laws.proofs.settled_laws_proofs.Telling.{form_tells}
 use Rattle.teg_dates.specs.DateTables.{TableDates, date_at}
 use Rattle.teg_settle.specs.declared.releases.Repetition.{Repetition}
 use Rattle.teg_settle.specs.KeptForms.{IsFormKept}
-use Rattle.teg_settle.specs.Copies.{AreShownDates, IsFormOf}
+use Rattle.teg_settle.specs.Copies.{AreShownDates}
 use Rattle.teg_settle.specs.Stored.{stored_form}
 use Rattle.teg_settle.specs.ComparedRows.{read_step, IsToldBy}
 
@@ -145,6 +145,3 @@ copy_kept net rows f s x ok c told =
           let in' : t < length net.transitions = omega (arith, c.rows_count) in
           rw (form_tells (length net.transitions) s x stands t k in' o) (told.within t k in' o m);
     }
-
-pub copy_form : (net : NetLists) (rows : TableDates) (f : Repetition) (s : SettledForm) → IsCopy net rows f s → IsFormOf net rows f s
-copy_form net rows f s c = record { after = c.after; period = c.period; stands = λ x told. copy_stands net rows f s x c told }

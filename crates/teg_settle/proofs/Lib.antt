@@ -14,7 +14,6 @@ mod Spreading
 mod ReachedPart
 mod PartTold
 pub mod WalkForms
-mod Witnessed
 pub mod OneTransfer
 pub mod Showing
 mod Steps

@@ -15,9 +15,9 @@ use Rattle.teg_settle.specs.LimitRefusals.{IsRightSettleRefusal}
 use Rattle.teg_settle.specs.InitialReleases.{OnlyInputsWait}
 use Rattle.teg_settle.specs.Spans.{AreSpans}
 use Rattle.teg_settle.specs.declared.search.Found.{Found}
-use Rattle.teg_settle.specs.Copies.{IsFormOf}
 use Rattle.teg_settle.specs.ShortestForms.{IsFound}
 use Rattle.teg_settle.specs.ComparedRows.{IsReady, IsRefuted, IsSeen, IsToldBy, IsLeastForm, LeastSettlesPast}
+use Rattle.teg_settle.proofs.Copying.{IsCopy, copy_stands}
 use Rattle.teg_settle.proofs.Leasts.{least, least_is, dates_on}
 use Rattle.teg_settle.proofs.Tested.{window_of}
 
@@ -74,12 +74,12 @@ module _ (net : NetLists) (r : Releases) (f : Found) (h : IsFound net r f) where
   found_told = (z, tells)
 
   -- and a form of them is the shortest
-  pub found_form : (s : SettledForm) → IsFormOf net f.rows f.form s → IsLeastForm net r s
+  pub found_form : (s : SettledForm) → IsCopy net f.rows f.form s → IsLeastForm net r s
   found_form s made = (
     z,
     least_is net r most h.ready.1,
     record {
-      stands = made.stands z tells;
+      stands = copy_stands net f.rows f.form s z made tells;
       least_period = λ k p u g. rw made.period (h.seen.least_period z (least_is net r most h.ready.1) k p u g);
       least_after = λ k p u g. rw made.after (h.seen.least_after z (least_is net r most h.ready.1) k p u g);
     },

@@ -1,6 +1,6 @@
 -- What the tests of a period in rows of the least dating tell.
 use Rattle.std.proofs.Common.{ℕ, ◌+◌, ◌-◌, ◌^◌, ◌<◌, ◌≤◌, ◌≡◌, length, get_or, refl, sym, ap, ◌∙◌, arith, ⊎_elim, inl, inr}
-use Rattle.std.specs.Prelude.{ℤ, All, ◌⊎◌, ◌≤ℤ◌}
+use Rattle.std.specs.Prelude.{ℤ, ◌⊎◌, ◌≤ℤ◌}
 use Rattle.std.proofs.lemmas.Bool.{cases_lt}
 use Rattle.std.proofs.lemmas.Int.{ints}
 use Rattle.std.proofs.lemmas.List.{get_or_default}
@@ -24,15 +24,10 @@ use Rattle.periodic_laws.proofs.settled_laws_proofs.Repeating.{later_form, perio
 use Rattle.teg_dates.specs.DateTables.{TableDates, HasDatesOf, date_at}
 use Rattle.teg_settle.specs.declared.releases.Releases.{Releases}
 use Rattle.teg_settle.specs.InitialReleases.{system_for}
-use Rattle.teg_settle.specs.ComparedRows.{read_step, IsRisingPlace, IsMovedAt, IsMovedPast, AreReleasedAlike, IsReady, AreComparedRows, AreRowsOf, IsRefuted, IsSeenFrom, IsSeen}
+use Rattle.teg_settle.specs.ComparedRows.{read_step, IsReady, AreComparedRows, AreRowsOf, IsRefuted, IsSeenFrom, IsSeen}
+use Rattle.teg_settle.specs.Witnesses.{AreTested, IsFailed, IsPassed, tested_period}
 use Rattle.teg_dates.proofs.Ranking.{rank_of}
 use Rattle.teg_settle.proofs.Leasts.{ranks_on, least, least_is, release_outside, outside, climbs, tokens_on, releases_on, dates_on}
-
--- the tests of a period past `after`
-pub record AreTested (net : NetLists) (r : Releases) (rows : TableDates) (period after : ℕ) : Type 0 where
-  pub rising : All (IsRisingPlace rows period) net.places
-  pub moved : IsMovedPast rows period after
-  pub alike : AreReleasedAlike net r rows period after
 
 same_steps : (c : ℕ) (x : Dating) (after period : ℕ) (s u : ℕ → ℤ) → ((t : ℕ) → t < c → s t ≡ u t) → RepeatsAfter c x after period s → RepeatsAfter c x after period u
 same_steps c x after period s u e h = record { at_least_one = h.at_least_one; again = λ t k l m. h.again t k l m ∙ ap (λ z. move z (x t k)) (e t l) }
@@ -67,7 +62,7 @@ module _ (net : NetLists) (r : Releases) (most : ℕ) (h : IsReady net r most) (
       }
 
   -- tests that all pass show a form
-  pub tested_repeats : (period after : ℕ) → 1 ≤ period → after + most + period + period ≡ rows.count → AreTested net r rows period after
+  pub tested_repeats : (period after : ℕ) → 1 ≤ period → after + most + period + period ≡ rows.count → AreTested (tested_period net r rows period after)
       → Repeats (least net r most h) after period (read_step rows period)
   unfolding least
   tested_repeats period after one fits tests =
@@ -124,7 +119,7 @@ module _ (net : NetLists) (r : Releases) (most : ℕ) (h : IsReady net r most) (
 
   -- a form that begins early enough passes all tests
   pub form_is_tested : (period from after : ℕ) (step : ℕ → ℤ) → after + most + period + period ≡ rows.count → from ≤ after
-      → Repeats (least net r most h) from period step → AreTested net r rows period after
+      → Repeats (least net r most h) from period step → AreTested (tested_period net r rows period after)
   form_is_tested period from after step fits low rep =
       let one = rep.at_least_one in
       let some = h.some in
@@ -157,33 +152,34 @@ module _ (net : NetLists) (r : Releases) (most : ℕ) (h : IsReady net r most) (
       }
 
   -- tests of which one fails refute the period
-  pub refuted : (period : ℕ) → most + period + period ≤ rows.count → (AreTested net r rows period (rows.count - most - period - period) → ⊥) → IsRefuted net r most rows.count period
+  pub refuted : (period : ℕ) → most + period + period ≤ rows.count → IsFailed (tested_period net r rows period (rows.count - most - period - period)) → IsRefuted net r most rows.count period
   refuted period fits bad x is from step rep up =
       bad (form_is_tested period from (rows.count - most - period - period) step (omega arith) (omega arith)
       (everywhere n z from period step (λ t k l. outside net r most h t k l)
       (same_repeats n x z from period step (λ t k l o. only_least_in sys x z is (least_is net r most h) t k o) rep)))
 
   -- where all pass, a form is seen
-  pub seen_from : (period after : ℕ) → 1 ≤ period → most + period + period ≤ rows.count → after ≤ rows.count - most - period - period
-      → AreTested net r rows period (rows.count - most - period - period) → IsMovedPast rows period after → (1 ≤ after → IsMovedAt rows period after → ⊥) → IsSeenFrom net r rows most period after
-  seen_from period after one fits low tests moved first =
+  pub seen_from : (period after : ℕ) → 1 ≤ period → most + period + period ≤ rows.count → IsPassed (tested_period net r rows period (rows.count - most - period - period)) after
+      → IsSeenFrom net r rows most period after
+  seen_from period after one fits pass =
+      let low = pass.early in
       let some = h.some in
       let s : ℕ → ℤ = read_step rows period in
       let latest : ℕ = rows.count - most - period - period in
       let wide = a.least.width in
-      let there : Repeats z latest period s = tested_repeats period latest one (omega arith) tests in
+      let there : Repeats z latest period s = tested_repeats period latest one (omega arith) pass.tests in
       let form : RepeatsAfter n z after period s = record {
         at_least_one = one;
         again = λ t k l m.
             ⊎_elim
             (λ (q : latest < k). there.again t k q)
-            (λ (q : k ≤ latest). sym (read t (k + period) l (omega arith) (omega arith)) ∙ (moved k m (omega arith) t (omega arith) ∙ ap (move (s t)) (read t k l (omega arith) (omega arith))))
+            (λ (q : k ≤ latest). sym (read t (k + period) l (omega arith) (omega arith)) ∙ (pass.moved k m (omega arith) t (omega arith) ∙ ap (move (s t)) (read t k l (omega arith) (omega arith))))
             (cases_lt latest k);
       } in
       record {
         fits = omega arith;
         repeats = λ x is. same_repeats n z x after period s (λ t k l o. only_least_in sys z x (least_is net r most h) is t k o) form;
-        first = λ x is o all. first o (λ t w.
+        first = λ x is o all. pass.first o (λ t w.
             let l : t < n = omega arith in
             let same : (k : ℕ) → 1 ≤ k → z t k ≡ x t k = λ k p. only_least_in sys z x (least_is net r most h) is t k p in
             read t (after + period) l (omega arith) (omega arith) ∙ (same (after + period) (omega arith) ∙ (all t l ∙ ap (move (s t)) (sym (read t after l o (omega arith) ∙ same after o)))));

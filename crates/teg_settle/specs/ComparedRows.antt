@@ -1,9 +1,8 @@
 -- Working definitions of what rows of the least dating show of a period. The contract of `shown_form` cites `most_window`
 -- and rests on `read_step`; no other of them stands below the contract of a public call.
 use Rattle.std.specs.Prelude.{ℕ, ℤ, ◌+◌, ◌-◌, ◌^◌, ◌<◌, ◌≤◌, ◌≤ℤ◌, ◌≡◌, ◌⊎◌, List, length, All}
-use Rattle.std.proofs.Props.{props}
 use Rattle.dioid.specs.declared.dates.Date.{Date}
-use Rattle.dioid.specs.declared.dates.Date.TheVariants.{Early, At, Never}
+use Rattle.dioid.specs.declared.dates.Date.TheVariants.{Early, Never}
 use Rattle.dioid.specs.Dates.{move}
 use Rattle.teg_net.specs.declared.entries.Place.{Place}
 use Rattle.teg_net.specs.Limits.{greatest_firing_number}
@@ -35,15 +34,6 @@ pub record AreComparedRows (net : NetLists) (rows : TableDates) (period : ℕ) :
   pub some : 1 ≤ period
   pub fits : period < rows.count
   pub few : rows.count ≤ most_window
-
-within_once : (n : ℕ) (d : Date) → IsProp (IsDateWithin n d)
-within_once n Early = hlevel props
-within_once n (At x) = hlevel props
-within_once n Never = hlevel props
-
--- which has one proof at most
-pub AreComparedRows-prop : (net : NetLists) (rows : TableDates) (period : ℕ) → IsProp (AreComparedRows net rows period)
-AreComparedRows-prop net rows period = hlevel (props, within_once)
 
 -- the step does not fall along the place, or it leads to never or from early
 abbrev pub IsRisingPlace : TableDates → ℕ → Place → Type 0

@@ -14,7 +14,7 @@ use crate::asked::{Asked, ready_tokens};
 use crate::reached::part_from;
 use crate::refusals::SettleRefusal;
 use crate::releases::Releases;
-use crate::search::{Found, dates_of, form_of, search};
+use crate::search::{Found, search};
 use crate::settled::Settled;
 use crate::shown::SettledDates;
 use std::alloc::Global;
@@ -78,7 +78,7 @@ pub fn settle_within(
         most,
     };
     let found = found_within(alloc, &asked, limit)?;
-    Ok(form_of(alloc, net, &releases, &found)?)
+    Ok(Settled::of_found(alloc, net, &releases, &found)?)
 }
 
 /// The form of [`settle_within`], for callers that ask for some of its dates: it keeps the rows of
@@ -104,7 +104,7 @@ pub fn settle_dates_within(
         most,
     };
     let found = found_within(alloc, &asked, limit)?;
-    Ok(dates_of(alloc, net, &releases, found)?)
+    Ok(SettledDates::of_found(alloc, net, &releases, found)?)
 }
 
 /// The shortest settled form of the greatest times of walks from the first firing of this input to
@@ -144,6 +144,6 @@ pub fn transfer(
         most,
     };
     let found = found_within(alloc, &asked, limit)?;
-    let form = form_of(alloc, &part.net, &releases, &found)?;
+    let form = Settled::of_found(alloc, &part.net, &releases, &found)?;
     Ok(form.spread(alloc, &part.marks, &part.new)?)
 }

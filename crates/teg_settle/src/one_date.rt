@@ -6,7 +6,8 @@ ghost use Rattle.teg_settle.specs.LeastDates.{IsLeastDate};
 
 use crate::asked::{Asked, ready_tokens};
 use crate::releases::Releases;
-use crate::search::{Found, MOST_ROWS, dates_of, search};
+use crate::search::{Found, MOST_ROWS, search};
+use crate::shown::SettledDates;
 use dioid::Date;
 use std::alloc::Global;
 use teg_check::Live;
@@ -45,7 +46,7 @@ pub fn date_of(
     let rows = searched.rows;
     match searched.form {
         Some(form) => {
-            let dates = dates_of(alloc, net, &releases, Found { rows, form })?;
+            let dates = SettledDates::of_found(alloc, net, &releases, Found { rows, form })?;
             Ok(dates.date(transition, number))
         }
         None => {

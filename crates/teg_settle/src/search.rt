@@ -8,9 +8,6 @@ ghost use Rattle.teg_settle.specs.ComparedRows.{AreRowsOf, IsLeastForm, IsReady,
 
 use crate::asked::Asked;
 use crate::releases::{Releases, Repetition};
-use crate::settled::Settled;
-use crate::shown::SettledDates;
-use crate::window::{Compared, FIRST_PAIRS};
 use crate::witness::{PeriodTest, Witnesses};
 use std::alloc::Global;
 use teg_dates::{PlaceOrder, Rows};
@@ -34,35 +31,6 @@ pub(crate) struct Searched {
     pub(crate) form: Option<Repetition>,
 }
 
-// The least number past which the dates go on in this period, if the rows are enough to see it.
-// What fails soonest is tested first: a few pairs of rows, then the lists, then all other pairs.
-fn seen_from(asked: &Asked<'_>, rows: &Rows, period: u64) -> Option<u64>
-    requires { IsTrial asked.now.net.now asked.now.releases.now rows.now asked.now.most period }
-    ensures { MatchOption result (IsRefuted asked.now.net.now asked.now.releases.now asked.now.most
-        rows.now.count period) (IsSeenFrom asked.now.net.now asked.now.releases.now rows.now
-        asked.now.most period) }
-{
-    let compared = Compared {
-        net: asked.net,
-        rows,
-        period,
-    };
-    if !compared.is_rising() {
-        return None;
-    }
-    let latest = rows.count() - asked.most - period - period;
-    let near = latest.max((rows.count() - period).saturating_sub(FIRST_PAIRS));
-    let first = compared.moved_past(near);
-    if first > near {
-        return None;
-    }
-    if !compared.are_released_alike(asked.releases, latest) {
-        return None;
-    }
-    let after = compared.moved_past(0);
-    if after > latest { None } else { Some(after) }
-}
-
 // The number from which this period is seen, or the witnesses with what refutes it. Those that
 // there are come first, then another firing of their transitions, and then the tests.
 fn tried(
@@ -77,19 +45,14 @@ fn tried(
         asked.now.most rows.now.count period) }
 {
     let latest = rows.count() - asked.most - period - period;
-    let compared = Compared {
-        net: asked.net,
-        rows,
-        period,
-    };
-    let test = PeriodTest::new(compared, asked.releases, latest);
+    let test = PeriodTest::new(asked.net, asked.releases, rows, period, latest);
     match witnesses.against(&test) {
         Some(more) => return Err(more),
         None => {}
     }
-    match seen_from(asked, rows, period) {
-        Some(after) => Ok(after),
-        None => Err(witnesses.joined(test.witness())),
+    match test.tested() {
+        Ok(after) => Ok(after),
+        Err(witness) => Err(witnesses.joined(witness)),
     }
 }
 
@@ -165,34 +128,4 @@ pub(crate) fn search(alloc: Global, asked: &Asked<'_>, last: u64) -> Result<Sear
         stage = (2 * stage).min(last);
     }
     Ok(Searched { rows, form: None })
-}
-
-// The form that the rows show.
-pub(crate) fn form_of(
-    alloc: Global,
-    net: &Net,
-    releases: &Releases,
-    found: &Found,
-) -> Result<Settled, OutOfMemory>
-    requires found { IsFound net.now releases.now found.now }
-    ensures form { IfOk result (IsLeastForm net.now releases.now) }
-    ensures length { IfOk result (λ form. settled_length form
-        ≡ found.now.form.after + found.now.form.period) }
-{
-    Ok(Settled::of_rows(alloc, net, &found.rows, found.form)?)
-}
-
-// The same form by its rows, which it takes over.
-pub(crate) fn dates_of(
-    alloc: Global,
-    net: &Net,
-    releases: &Releases,
-    found: Found,
-) -> Result<SettledDates, OutOfMemory>
-    requires found { IsFound net.now releases.now found }
-    ensures form { IfOk result (IsLeastForm net.now releases.now) }
-    ensures length { IfOk result (λ form. settled_length form
-        ≡ found.form.after + found.form.period) }
-{
-    Ok(SettledDates::of_rows(alloc, net, found.rows, found.form)?)
 }

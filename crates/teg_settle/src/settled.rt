@@ -2,17 +2,19 @@
 ghost use Rattle.std.specs.Prelude.{ℕ, ◌≡◌, ◌<◌, ◌≤◌, ◌+◌, ◌-◌, ◌*◌, ◌/◌, ◌+ℤ◌, ◌*ℤ◌, IfOk, OnOk, IsTrue, length, map, slice_index, slice_index_or, [], if◌then◌else◌};
 ghost use Rattle.teg_net.specs.Limits.{greatest_firing_number, most_transitions};
 ghost use Rattle.dioid.specs.declared.dates.Date.{Date};
-ghost use Rattle.periodic_laws.specs.settled_laws.SettledForms.{row_of, step_of_form, settled_date};
-ghost use Rattle.teg_settle.specs.Copies.{AreShownDates, IsFormOf, IsTableTo};
+ghost use Rattle.periodic_laws.specs.settled_laws.SettledForms.{row_of, step_of_form, settled_date, settled_length};
+ghost use Rattle.teg_settle.specs.Copies.{AreShownDates, IsTableTo};
 ghost use Rattle.teg_settle.specs.KeptForms.{IsFormKept};
 ghost use Rattle.teg_settle.specs.Reached.{is_marked};
 ghost use Rattle.teg_settle.specs.Spread.{IsSpreadOut};
-ghost use Rattle.teg_settle.specs.ComparedRows.{IsToldBy};
+ghost use Rattle.teg_settle.specs.ComparedRows.{IsLeastForm};
+ghost use Rattle.teg_settle.specs.ShortestForms.{IsFound};
 
 use crate::back::{back_from, moved};
 use crate::reached::is_marked;
-use crate::releases::Repetition;
-use crate::window::Compared;
+use crate::releases::Releases;
+use crate::search::Found;
+use crate::window::steps_of;
 use dioid::Date;
 use std::alloc::{AllocError, Global};
 use std::marker::Model;
@@ -103,23 +105,18 @@ fn add_all(table: &mut [Vec<Date>], rows: &Rows, shown: u64, count: u64) -> Resu
 }
 
 // The first `count` dates of each transition.
-fn table_of(
-    alloc: Global,
-    compared: &Compared<'_>,
-    count: u64,
-) -> Result<Vec<Vec<Date>>, AllocError>
-    requires few { count ≤ compared.now.rows.now.count }
-    ensures count { IfOk result (λ table. length table.items
-        ≡ length compared.now.net.now.transitions) }
-    ensures rows { IfOk result (λ table. (t : ℕ) → t < length compared.now.net.now.transitions
-        → AreShownDates compared.now.rows.now t count (slice_index_or (map (λ r. r.items)
-        table.items) t [])) }
+fn table_of(alloc: Global, net: &Net, rows: &Rows, count: u64) -> Result<Vec<Vec<Date>>, AllocError>
+    requires width { rows.now.width ≡ length net.now.transitions }
+    requires few { count ≤ rows.now.count }
+    ensures count { IfOk result (λ table. length table.items ≡ length net.now.transitions) }
+    ensures rows { IfOk result (λ table. (t : ℕ) → t < length net.now.transitions
+        → AreShownDates rows.now t count (slice_index_or (map (λ r. r.items) table.items) t [])) }
 {
-    let mut table = no_dates(alloc, compared.net.transitions().len(), count)?;
+    let mut table = no_dates(alloc, net.transitions().len(), count)?;
     let mut shown = 0;
     while shown < count {
         let next = shown + COPIED_AT_ONCE.min(count - shown);
-        add_all(&mut table, compared.rows, shown, next)?;
+        add_all(&mut table, rows, shown, next)?;
         shown = next;
     }
     Ok(table)
@@ -168,22 +165,20 @@ fn owned_by(
 
 impl Settled {
     // The form that the rows show, with the dates that it needs of them.
-    pub(crate) fn of_rows(
+    pub(crate) fn of_found(
         alloc: Global,
         net: &Net,
-        rows: &Rows,
-        form: Repetition,
+        _releases: &Releases,
+        found: &Found,
     ) -> Result<Settled, AllocError>
-        requires told { (x : ℕ → ℕ → Date) × IsToldBy net.now rows.now form x }
-        ensures { IfOk result (IsFormOf net.now rows.now form) }
+        requires found { IsFound net.now _releases.now found.now }
+        ensures form { IfOk result (IsLeastForm net.now _releases.now) }
+        ensures length { IfOk result (λ form. settled_length form
+            ≡ found.now.form.after + found.now.form.period) }
     {
-        let compared = Compared {
-            net,
-            rows,
-            period: form.period,
-        };
-        let table = table_of(alloc, &compared, form.after + form.period)?;
-        let steps = compared.steps(alloc)?;
+        let form = found.form;
+        let table = table_of(alloc, net, &found.rows, form.after + form.period)?;
+        let steps = steps_of(alloc, net, &found.rows, form.period)?;
         let own = numbers_below(alloc, net.transitions().len())?;
         Ok(Settled {
             after: form.after,

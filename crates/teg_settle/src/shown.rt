@@ -2,13 +2,14 @@
 ghost use Rattle.std.specs.Prelude.{ℕ, ◌≡◌, ◌<◌, ◌≤◌, ◌+◌, IfOk, length};
 ghost use Rattle.teg_net.specs.Limits.{greatest_firing_number};
 ghost use Rattle.periodic_laws.specs.settled_laws.SettledForms.{settled_date, row_date, settled_length, step_of_form};
-ghost use Rattle.teg_settle.specs.Copies.{IsFormOf};
 ghost use Rattle.teg_settle.specs.KeptForms.{IsFormKept};
-ghost use Rattle.teg_settle.specs.ComparedRows.{IsToldBy};
+ghost use Rattle.teg_settle.specs.ComparedRows.{IsLeastForm};
+ghost use Rattle.teg_settle.specs.ShortestForms.{IsFound};
 
 use crate::back::{back_from, moved};
-use crate::releases::Repetition;
-use crate::window::Compared;
+use crate::releases::{Releases, Repetition};
+use crate::search::Found;
+use crate::window::steps_of;
 use dioid::Date;
 use std::alloc::{AllocError, Global};
 use std::marker::Model;
@@ -37,23 +38,24 @@ impl Model for SettledDates {
 }
 
 impl SettledDates {
-    // The form that the rows show.
-    pub(crate) fn of_rows(
+    // The form that the rows show, which it takes over.
+    pub(crate) fn of_found(
         alloc: Global,
         net: &Net,
-        rows: Rows,
-        form: Repetition,
+        _releases: &Releases,
+        found: Found,
     ) -> Result<SettledDates, AllocError>
-        requires told { (x : ℕ → ℕ → Date) × IsToldBy net.now rows form x }
-        ensures { IfOk result (IsFormOf net.now rows form) }
+        requires found { IsFound net.now _releases.now found }
+        ensures form { IfOk result (IsLeastForm net.now _releases.now) }
+        ensures length { IfOk result (λ form. settled_length form
+            ≡ found.form.after + found.form.period) }
     {
-        let compared = Compared {
-            net,
-            rows: &rows,
-            period: form.period,
-        };
-        let steps = compared.steps(alloc)?;
-        Ok(SettledDates { form, rows, steps })
+        let steps = steps_of(alloc, net, &found.rows, found.form.period)?;
+        Ok(SettledDates {
+            form: found.form,
+            rows: found.rows,
+            steps,
+        })
     }
 
     /// The number past which the dates go on by their steps, 0 or more.

@@ -1,12 +1,16 @@
-//! What refuted the last periods that were tried: it mostly refutes the next one too, so it is
-//! tested first.
-ghost use Rattle.std.specs.Prelude.{◌≡◌, IfSome, IsTrue};
-ghost use Rattle.teg_settle.specs.Witnesses.{HasDatesApart, HasFall, HasReleasesApart, IsFailed, IsTestable, Refutes, tested_period};
+//! The tests of a period on rows of dates. What refuted the last periods that were tried mostly
+//! refutes the next one too, so it is tested first.
+ghost use Rattle.std.specs.Prelude.{◌≡◌, ◌+◌, ◌<◌, ◌≤◌, All, Decides, IfSome, IsTrue, MatchOption, MatchResult, length};
+ghost use Rattle.teg_settle.specs.ComparedRows.{AreReleasedAlike, GoesOnBy, IsMovedAt, IsMovedPast, IsRisingPlace, read_step};
+ghost use Rattle.teg_settle.specs.InitialReleases.{release_by};
+ghost use Rattle.teg_settle.specs.Witnesses.{IsFailed, IsPassed, IsTestable, tested_period};
 
 use crate::releases::Releases;
-use crate::window::{Compared, FIRST_PAIRS, is_step};
+use crate::window::{is_step, step_in};
+use dioid::Date;
 use std::marker::Model;
-use teg_net::TransitionId;
+use teg_dates::Rows;
+use teg_net::{Net, Place, TransitionId};
 
 // Why a period was refuted.
 #[derive(Clone, Copy, Debug, Drop)]
@@ -26,6 +30,9 @@ pub(crate) struct Witnesses {
     before: Option<Witness>,
 }
 
+// The pairs of rows that are compared before the input lists are.
+const FIRST_PAIRS: u64 = 16;
+
 // The greatest number of a window.
 const MOST_WINDOW: u64 = 100_000_000_000_000;
 
@@ -35,8 +42,10 @@ const MOST_LOOKS: u64 = 4_096;
 // A period that is tested on rows of dates, past a number.
 #[derive(Drop)]
 pub(crate) struct PeriodTest<'a> {
-    compared: Compared<'a>,
+    net: &'a Net,
     releases: &'a Releases,
+    rows: &'a Rows,
+    period: u64,
     after: u64,
 }
 
@@ -45,104 +54,136 @@ impl<'a> Model for PeriodTest<'a> {
 
     ghost Value = { TestedPeriod };
 
-    ghost view = { λ t. tested_period t.compared.net.now t.releases.now t.compared.rows.now
-        t.compared.period t.after };
+    ghost view = { λ t. tested_period t.net.now t.releases.now t.rows.now t.period t.after };
 
-    ghost invariant = { λ t. IsTestable t.compared.net.now t.releases.now t.compared.rows.now
-        t.compared.period t.after };
+    ghost invariant = { λ t. IsTestable t.net.now t.releases.now t.rows.now t.period t.after };
 }
 
 impl<'a> PeriodTest<'a> {
     // The test of this period on these rows.
-    pub(crate) fn new(compared: Compared<'a>, releases: &'a Releases, after: u64) -> PeriodTest<'a>
-        requires { IsTestable compared.net.now releases.now compared.rows.now compared.period
-            after }
-        ensures { result ≡ tested_period compared.entry.net.now releases.now compared.entry.rows.now
-            compared.entry.period after }
+    pub(crate) fn new(
+        net: &'a Net,
+        releases: &'a Releases,
+        rows: &'a Rows,
+        period: u64,
+        after: u64,
+    ) -> PeriodTest<'a>
+        requires { IsTestable net.now releases.now rows.now period after }
+        ensures { result ≡ tested_period net.now releases.now rows.now period after }
     {
         PeriodTest {
-            compared,
+            net,
             releases,
+            rows,
+            period,
             after,
         }
     }
 
-    // Whether the step falls along the place of this number.
-    fn falls_along(&self, place: usize) -> bool
-        ensures { IsTrue result → HasFall self.now }
+    // Whether the step does not fall along the place, or it leads to never or from early.
+    fn rises_along(&self, place: &Place) -> bool
+        requires from { place.now.from.index < length self.now.net.transitions }
+        requires to { place.now.to.index < length self.now.net.transitions }
+        ensures { Decides result (IsRisingPlace self.now.rows self.now.period place.now) }
     {
-        let places = self.compared.net.places();
-        if place >= places.len() {
-            return false;
+        let last = self.rows.count();
+        self.rows.date(place.to, last) == Date::Never
+            || self.rows.date(place.from, last) == Date::Early
+            || step_in(self.net, self.rows, self.period, place.from)
+                <= step_in(self.net, self.rows, self.period, place.to)
+    }
+
+    // Whether a period after this number each date has moved by its step.
+    fn is_moved(&self, number: u64) -> bool
+        requires first { 1 ≤ number }
+        requires last { number + self.now.period ≤ self.now.rows.count }
+        ensures { Decides result (IsMovedAt self.now.rows self.now.period number) }
+    {
+        for index in 0..self.net.transitions().len() {
+            let id = TransitionId {
+                index: index as u32,
+            };
+            let step = step_in(self.net, self.rows, self.period, id);
+            let early = self.rows.date(id, number);
+            let late = self.rows.date(id, number + self.period);
+            if !is_step(early, late, step) {
+                return false;
+            }
         }
-        !self.compared.rises_along(&places[place])
+        true
+    }
+
+    // The least number, from `least` on, past which the dates of the rows have moved so, found from
+    // the end.
+    fn moved_past(&self, least: u64) -> u64
+        requires least { least + self.now.period ≤ self.now.rows.count }
+        ensures within { result + self.now.period ≤ self.now.rows.count }
+        ensures moved { IsMovedPast self.now.rows self.now.period result }
+        ensures first { least < result → IsMovedAt self.now.rows self.now.period result → ⊥ }
+    {
+        let mut number = self.rows.count() - self.period;
+        while number > least {
+            if !self.is_moved(number) {
+                return number;
+            }
+            number -= 1;
+        }
+        least
     }
 
     // Whether past the number the date of this firing does not move by the step.
     fn is_firing_apart(&self, transition: TransitionId, number: u64) -> bool
-        ensures { IsTrue result → HasDatesApart self.now }
+        ensures { IsTrue result → IsFailed self.now }
     {
-        if transition.index as usize >= self.compared.net.transitions().len() {
+        if transition.index as usize >= self.net.transitions().len() {
             return false;
         }
-        if number <= self.after || number > self.compared.rows.count() - self.compared.period {
+        if number <= self.after || number > self.rows.count() - self.period {
             return false;
         }
-        let step = self.compared.step(transition);
-        !is_step(
-            self.compared.rows.date(transition, number),
-            self.compared
-                .rows
-                .date(transition, number + self.compared.period),
-            step,
-        )
+        let step = step_in(self.net, self.rows, self.period, transition);
+        let early = self.rows.date(transition, number);
+        let late = self.rows.date(transition, number + self.period);
+        !is_step(early, late, step)
     }
 
     // Whether past the number the release of this firing does not move by the step.
     fn is_release_apart(&self, transition: TransitionId, number: u64) -> bool
-        ensures { IsTrue result → HasReleasesApart self.now }
+        ensures { IsTrue result → IsFailed self.now }
     {
-        if transition.index as usize >= self.compared.net.transitions().len() {
+        if transition.index as usize >= self.net.transitions().len() {
             return false;
         }
         if number <= self.after || number > MOST_WINDOW {
             return false;
         }
-        let step = self.compared.step(transition);
-        let early = self.releases.date(self.compared.net, transition, number);
-        let late = self.releases.date(self.compared.net, transition, number + self.compared.period);
+        let step = step_in(self.net, self.rows, self.period, transition);
+        let early = self.releases.date(self.net, transition, number);
+        let late = self
+            .releases
+            .date(self.net, transition, number + self.period);
         !is_step(early, late, step)
     }
 
-    // Whether the witness refutes the period.
-    fn is_refuted_by(&self, witness: Witness) -> bool
-        ensures { IsTrue result → Refutes self.now witness }
+    // Whether there is a witness and it refutes the period.
+    fn is_refuted_by(&self, witness: Option<Witness>) -> bool
+        ensures { IsTrue result → IsFailed self.now }
     {
         match witness {
-            Witness::Fall(place) => self.falls_along(place),
-            Witness::Firing(transition, number) => self.is_firing_apart(transition, number),
-            Witness::Release(transition, number) => self.is_release_apart(transition, number),
-        }
-    }
-
-    // The witness, if it refutes the period.
-    fn still(&self, witness: Option<Witness>) -> Option<Witness>
-        ensures { IfSome result (Refutes self.now) }
-    {
-        let witness = witness?;
-        if self.is_refuted_by(witness) {
-            Some(witness)
-        } else {
-            None
+            Some(Witness::Fall(place)) => {
+                let places = self.net.places();
+                place < places.len() && !self.rises_along(&places[place])
+            }
+            Some(Witness::Firing(transition, number)) => self.is_firing_apart(transition, number),
+            Some(Witness::Release(transition, number)) => self.is_release_apart(transition, number),
+            None => false,
         }
     }
 
     // The first number past that of the test, of those that are looked at, whose date does not move
     // by the transition's step: an early one stays in the rows for the most periods.
-    fn first_number_apart(&self, transition: TransitionId) -> Option<u64>
-        ensures { IfSome result (λ _. HasDatesApart self.now) }
-    {
-        let end = (self.compared.rows.count() - self.compared.period).min(self.after + MOST_LOOKS);
+    fn first_number_apart(&self, transition: TransitionId) -> Option<u64> {
+        let end = (self.rows.count() - self.period).min(self.after + MOST_LOOKS);
         for number in self.after + 1..end + 1 {
             if self.is_firing_apart(transition, number) {
                 return Some(number);
@@ -153,9 +194,7 @@ impl<'a> PeriodTest<'a> {
 
     // A number whose date does not move by the transition's step: the one before `number`, which a
     // period later by one leads to the same date, or the first of those that are looked at.
-    fn number_apart(&self, transition: TransitionId, number: u64) -> Option<u64>
-        ensures { IfSome result (λ _. HasDatesApart self.now) }
-    {
+    fn number_apart(&self, transition: TransitionId, number: u64) -> Option<u64> {
         let before = number.saturating_sub(1);
         if self.is_firing_apart(transition, before) {
             return Some(before);
@@ -164,9 +203,7 @@ impl<'a> PeriodTest<'a> {
     }
 
     // Another firing of the transition that the witness names, if one refutes the period.
-    fn other_number(&self, witness: Option<Witness>) -> Option<Witness>
-        ensures { IfSome result (Refutes self.now) }
-    {
+    fn other_number(&self, witness: Option<Witness>) -> Option<Witness> {
         match witness {
             Some(Witness::Firing(transition, number)) => {
                 let number = self.number_apart(transition, number)?;
@@ -176,23 +213,9 @@ impl<'a> PeriodTest<'a> {
         }
     }
 
-    // The first place along which the step falls.
-    fn first_fall(&self) -> Option<usize>
-        ensures { IfSome result (λ _. HasFall self.now) }
-    {
-        for place in 0..self.compared.net.places().len() {
-            if self.falls_along(place) {
-                return Some(place);
-            }
-        }
-        None
-    }
-
     // The first transition whose date of this number does not move by its step.
-    fn first_apart(&self, number: u64) -> Option<TransitionId>
-        ensures { IfSome result (λ _. HasDatesApart self.now) }
-    {
-        for index in 0..self.compared.net.transitions().len() {
+    fn first_apart(&self, number: u64) -> Option<TransitionId> {
+        for index in 0..self.net.transitions().len() {
             let id = TransitionId {
                 index: index as u32,
             };
@@ -203,29 +226,64 @@ impl<'a> PeriodTest<'a> {
         None
     }
 
-    // The last number of which the transition's release does not move by its step.
-    fn last_release_apart(&self, transition: TransitionId) -> Option<u64>
-        ensures { IfSome result (λ _. HasReleasesApart self.now) }
+    // An early firing that is apart, of the first transition that has one of this number.
+    fn firing_apart(&self, number: u64) -> Option<Witness> {
+        let transition = self.first_apart(number)?;
+        let witness = Some(Witness::Firing(transition, number));
+        match self.other_number(witness) {
+            Some(early) => Some(early),
+            None => witness,
+        }
+    }
+
+    // The first place along which the step falls.
+    fn first_fall(&self) -> Option<usize>
+        ensures { MatchOption result (All (IsRisingPlace self.now.rows self.now.period)
+            self.now.net.places) (λ _. IsFailed self.now) }
     {
-        let span = self.releases.span(self.compared.net, transition);
-        let end = self.after.max(span.after) + span.every;
-        for back in 0..end - self.after {
-            if self.is_release_apart(transition, end - back) {
-                return Some(end - back);
+        let places = self.net.places();
+        for place in 0..places.len() {
+            if !self.rises_along(&places[place]) {
+                return Some(place);
             }
+        }
+        None
+    }
+
+    // The last number of which the transition's release does not move by the step: tested from
+    // where on they go on evenly.
+    fn last_release_apart(&self, transition: TransitionId, step: i128) -> Option<u64>
+        ensures { MatchOption result (GoesOnBy (release_by self.now.releases.waits.items
+            self.now.net transition.index) self.now.after self.now.period step) (λ _. GoesOnBy
+            (release_by self.now.releases.waits.items self.now.net transition.index) self.now.after
+            self.now.period step → ⊥) }
+    {
+        let span = self.releases.span(self.net, transition);
+        let mut number = self.after.max(span.after) + span.every;
+        while number > self.after {
+            let early = self.releases.date(self.net, transition, number);
+            let late = self
+                .releases
+                .date(self.net, transition, number + self.period);
+            if !is_step(early, late, step) {
+                return Some(number);
+            }
+            number -= 1;
         }
         None
     }
 
     // The last release that does not move by its step, of the first transition that has one.
     fn release_apart(&self) -> Option<Witness>
-        ensures { IfSome result (Refutes self.now) }
+        ensures { MatchOption result (AreReleasedAlike self.now.net self.now.releases
+            self.now.rows self.now.period self.now.after) (λ _. IsFailed self.now) }
     {
-        for index in 0..self.compared.net.transitions().len() {
+        for index in 0..self.net.transitions().len() {
             let id = TransitionId {
                 index: index as u32,
             };
-            match self.last_release_apart(id) {
+            let step = step_in(self.net, self.rows, self.period, id);
+            match self.last_release_apart(id, step) {
                 Some(number) => return Some(Witness::Release(id, number)),
                 None => {}
             }
@@ -233,39 +291,30 @@ impl<'a> PeriodTest<'a> {
         None
     }
 
-    // An early firing that is apart, of the first transition that has one of this number.
-    fn firing_apart(&self, number: u64) -> Option<Witness>
-        ensures { IfSome result (Refutes self.now) }
-    {
-        let transition = self.first_apart(number)?;
-        let witness = Some(Witness::Firing(transition, number));
-        match self.other_number(witness) {
-            Some(early) => Some(early),
-            None => self.still(witness),
-        }
-    }
-
-    // What refutes the period, where it was refuted, found in the order of the tests.
-    pub(crate) fn witness(&self) -> Option<Witness>
-        ensures { IfSome result (Refutes self.now) }
+    // The least number past which the dates of the rows move by their steps, where the period passes
+    // all tests; or what refutes it. What fails soonest is tested first: a few pairs of rows, then
+    // the lists, then all other pairs.
+    pub(crate) fn tested(&self) -> Result<u64, Option<Witness>>
+        ensures { MatchResult result (IsPassed self.now) (λ _. IsFailed self.now) }
     {
         match self.first_fall() {
-            Some(place) => return Some(Witness::Fall(place)),
+            Some(place) => return Err(Some(Witness::Fall(place))),
             None => {}
         }
-        let near = self.after.max(
-            (self.compared.rows.count() - self.compared.period).saturating_sub(FIRST_PAIRS),
-        );
-        let first = self.compared.moved_past(near);
+        let near = self.after.max((self.rows.count() - self.period).saturating_sub(FIRST_PAIRS));
+        let first = self.moved_past(near);
         if first > near {
-            return self.firing_apart(first);
+            return Err(self.firing_apart(first));
         }
         match self.release_apart() {
-            Some(witness) => return Some(witness),
+            Some(witness) => return Err(Some(witness)),
             None => {}
         }
-        let last = self.compared.moved_past(self.after);
-        self.firing_apart(last)
+        let from = self.moved_past(0);
+        if from > self.after {
+            return Err(self.firing_apart(from));
+        }
+        Ok(from)
     }
 }
 
@@ -289,20 +338,8 @@ impl Witnesses {
         }
     }
 
-    // One of them that refutes the period.
-    fn still(self, test: &PeriodTest<'_>) -> Option<Witness>
-        ensures { IfSome result (Refutes test.now) }
-    {
-        match test.still(self.last) {
-            Some(witness) => Some(witness),
-            None => test.still(self.before),
-        }
-    }
-
-    // Another firing of a transition that one of them names, which refutes the period.
-    fn other(self, test: &PeriodTest<'_>) -> Option<Witness>
-        ensures { IfSome result (Refutes test.now) }
-    {
+    // Another firing of a transition that one of them names, if one refutes the period.
+    fn other(self, test: &PeriodTest<'_>) -> Option<Witness> {
         match test.other_number(self.last) {
             Some(witness) => Some(witness),
             None => test.other_number(self.before),
@@ -314,12 +351,14 @@ impl Witnesses {
     pub(crate) fn against(self, test: &PeriodTest<'_>) -> Option<Witnesses>
         ensures { IfSome result (λ _. IsFailed test.now) }
     {
-        match self.still(test) {
-            Some(_) => Some(self),
-            None => match self.other(test) {
-                Some(witness) => Some(self.joined(Some(witness))),
-                None => None,
-            },
+        if test.is_refuted_by(self.last) || test.is_refuted_by(self.before) {
+            return Some(self);
+        }
+        let other = self.other(test);
+        if test.is_refuted_by(other) {
+            Some(self.joined(other))
+        } else {
+            None
         }
     }
 }

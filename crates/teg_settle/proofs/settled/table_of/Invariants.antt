@@ -5,7 +5,7 @@ use Rattle.teg_settle.proofs.settled.table_of.Given as goal
 abbrev pub invariant-loop-shown : goal.invariant-loop-shown
 invariant-loop-shown l = record {
   few : l.shown ≤ l.count;
-  table : IsTableTo l.compared.rows.now l.shown l.table.items;
+  table : IsTableTo l.rows l.shown l.table.items;
 }
 
 abbrev pub decreases-loop-shown : goal.decreases-loop-shown

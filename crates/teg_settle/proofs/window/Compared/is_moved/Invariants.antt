@@ -1,8 +1,0 @@
-use Rattle.std.proofs.Common.{ℕ, ◌≡◌, ◌+◌, ◌<◌}
-use Rattle.dioid.specs.Dates.{move}
-use Rattle.teg_dates.specs.DateTables.{date_at}
-use Rattle.teg_settle.specs.ComparedRows.{read_step}
-use Rattle.teg_settle.proofs.window.Compared.is_moved.Given as goal
-
-abbrev pub invariant-loop-index : goal.invariant-loop-index
-invariant-loop-index l = (t : ℕ) → t < l.index → date_at l.self.rows.now t (l.number + l.self.period) ≡ move (read_step l.self.rows.now l.self.period t) (date_at l.self.rows.now t l.number)
