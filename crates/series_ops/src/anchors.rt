@@ -4,9 +4,8 @@ ghost use Rattle.std.specs.Int.RustNames.{unsigned_abs};
 ghost use Rattle.dioid.specs.declared.dates.Date.TheVariants.{At, Never};
 ghost use Rattle.series_laws.specs.Periodic.{times};
 ghost use Rattle.series_laws.specs.SeriesForms.{form_with, repeat_start};
-ghost use Rattle.series_form.specs.NumberBounds.{IsMagnitudeUpTo};
 ghost use Rattle.series_laws.specs.Needs.{greatest_int};
-ghost use Rattle.series_laws.specs.ProductNeeds.{beats, anchor_step, anchor_of, loss_of_part, natural_of, own_plan, anchored_plan};
+ghost use Rattle.series_laws.specs.ProductNeeds.{beats, anchor_of, loss_of_part, natural_of, own_plan};
 ghost use Rattle.series_form.specs.SeriesLimits.{greatest_part_value, greatest_part_product, greatest_part_loss, greatest_star_need};
 ghost use Rattle.series_ops.specs.ListFunctions.{AreUpTo, AreUpTo-prop, IsModest};
 

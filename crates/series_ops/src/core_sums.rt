@@ -5,11 +5,10 @@ ghost use Rattle.std.specs.Int.RustNames.{unsigned_abs};
 ghost use Rattle.series_laws.specs.SeriesForms.{value_at, table};
 ghost use Rattle.series_laws.specs.Product.{product_at};
 ghost use Rattle.series_form.specs.NumberBounds.{IsMagnitudeUpTo};
-ghost use Rattle.series_form.specs.SeriesLimits.{greatest_value, greatest_value_ahead, greatest_value_far_ahead};
+ghost use Rattle.series_form.specs.SeriesLimits.{greatest_value, greatest_value_far_ahead};
 ghost use Rattle.series_ops.specs.Cells.{far};
 ghost use Rattle.series_ops.specs.CoreSums.{summed_list};
 ghost use Rattle.series_ops.specs.ListFunctions.{AreEarlyTo, AreUpTo, value_listed};
-ghost use Rattle.series_ops.specs.Pieces.{ArePieceSums};
 ghost use Rattle.series_ops.specs.Strides.{IsStarSums, star_sum_at};
 
 use crate::cells::Cells;

@@ -9,7 +9,7 @@ ghost use Rattle.series_laws.specs.Periodic.{times};
 ghost use Rattle.series_laws.specs.SeriesForms.{table};
 ghost use Rattle.series_form.specs.NumberBounds.{IsMagnitudeUpTo};
 ghost use Rattle.series_form.specs.SeriesLimits.{greatest_listed, greatest_value_ahead, greatest_value_far_ahead, greatest_moderate, greatest_part_product};
-ghost use Rattle.series_ops.specs.Pieces.{carried_at, joined_at, window, ArePieceSums, IsPiece, IsSpanOf, RepeatsIn};
+ghost use Rattle.series_ops.specs.Pieces.{joined_at, window, ArePieceSums, IsPiece, IsSpanOf};
 ghost use Rattle.series_ops.specs.ListFunctions.{value_listed, AreUpTo};
 
 use crate::anchors::many;

@@ -9,9 +9,8 @@ ghost use Rattle.series_form.specs.NumberBounds.{IsSeries};
 ghost use Rattle.series_form.specs.SeriesAnswers.{AnswersOf, AnswersForm};
 ghost use Rattle.series_laws.specs.Needs.{need_of, period_with, rise_of, fall_of, tail_of, slopes_of};
 ghost use Rattle.series_laws.specs.Product.{product_at};
-ghost use Rattle.series_laws.specs.ProductNeeds.{lifts_of, waits_of, product_first, product_by_slopes, product_plan, form_product};
+ghost use Rattle.series_laws.specs.ProductNeeds.{lifts_of, waits_of, product_first, product_plan, form_product};
 ghost use Rattle.series_form.specs.SeriesLimits.{most_covering_shifts, greatest_moderate, greatest_reach, most_waits};
-ghost use Rattle.series_ops.specs.ListFunctions.{IsNumberDate};
 
 use crate::cells::collected;
 use crate::core_sums::CoreSums;

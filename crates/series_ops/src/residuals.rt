@@ -6,7 +6,7 @@ ghost use Rattle.series_laws.specs.declared.plans.Slopes.TheVariants.{First};
 ghost use Rattle.series_laws.specs.SeriesForms.{size_of, value_at, table};
 ghost use Rattle.series_form.specs.NumberBounds.{IsMagnitudeUpTo, IsSeries};
 ghost use Rattle.series_form.specs.SeriesAnswers.{AnswersOf, AnswersForm};
-ghost use Rattle.series_laws.specs.Needs.{need_of, tail_of};
+ghost use Rattle.series_laws.specs.Needs.{need_of};
 ghost use Rattle.series_laws.specs.Residual.{IsLeftAt};
 ghost use Rattle.series_laws.specs.ProductNeeds.{offsets_of, left_over, OffsetsDecide, residual_at, long_left, short_left, left_plan, form_left};
 ghost use Rattle.series_form.specs.SeriesLimits.{most_covering_shifts, greatest_listed};

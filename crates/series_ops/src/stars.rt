@@ -2,17 +2,17 @@
 ghost use Rattle.std.specs.Prelude.{◌≡◌, ◌≤◌, ◌<◌, ◌+◌, ◌-◌, ℕ, IfOk, pos};
 ghost use Rattle.dioid.specs.declared.dates.Date.TheVariants.{At, Never};
 ghost use Rattle.series_laws.specs.Periodic.{times};
-ghost use Rattle.series_laws.specs.SeriesForms.{size_of, value_at, table, Form, HasValues, IsCanonical, monomial_at};
-ghost use Rattle.series_form.specs.NumberBounds.{IsMagnitudeUpTo, IsSeries};
+ghost use Rattle.series_laws.specs.SeriesForms.{size_of, value_at, table, HasValues, monomial_at};
+ghost use Rattle.series_form.specs.NumberBounds.{IsSeries};
 ghost use Rattle.series_laws.specs.Pointwise.{sum_at};
 ghost use Rattle.series_laws.specs.Needs.{need_of, sum_plan};
 ghost use Rattle.series_form.specs.declared.forms.SeriesRefused.{SeriesRefused};
 ghost use Rattle.dioid.specs.DateOrder.{Le};
-ghost use Rattle.series_form.specs.SeriesAnswers.{AnswersOf, AnswersForm, IsBeginning, form_before};
-ghost use Rattle.series_laws.specs.ProductNeeds.{own_plan, at_least, star_plan, carried_of, star_need, star_carried, form_star};
-ghost use Rattle.series_ops.specs.ListFunctions.{AreUpTo, later_part};
+ghost use Rattle.series_form.specs.SeriesAnswers.{AnswersOf, AnswersForm};
+ghost use Rattle.series_laws.specs.ProductNeeds.{at_least, star_plan, carried_of, star_need, star_carried, form_star};
+ghost use Rattle.series_ops.specs.ListFunctions.{later_part};
 ghost use Rattle.series_laws.specs.StarOf.{parts_star, above_zero, IsStarOf};
-ghost use Rattle.series_form.specs.SeriesLimits.{greatest_value_ahead, greatest_star_need};
+ghost use Rattle.series_form.specs.SeriesLimits.{greatest_star_need};
 
 use crate::anchors::Parts;
 use crate::beginnings::{greatest_begun, nothing_begun, renewed};

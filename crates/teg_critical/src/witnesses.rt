@@ -1,12 +1,11 @@
 //! What shows the slack of one place, by itself: a circuit, potentials and a circuit, or numbers.
-ghost use Rattle.std.specs.Prelude.{◌≡◌, ◌≤◌, ◌<◌, ◌↔◌, length, IfOk, IfNone, IfSome, IsTrue, Some};
+ghost use Rattle.std.specs.Prelude.{◌≡◌, ◌≤◌, ◌<◌, ◌↔◌, length, IfOk, IsTrue, Some};
 ghost use Rattle.teg_net.specs.Nets.{IsNet};
 ghost use Rattle.teg_net.specs.Circuits.{IsLive};
 ghost use Rattle.teg_net.specs.Certificates.{IsCertificate};
 ghost use Rattle.teg_certificates.specs.BestRatios.{best_ratio_of};
 ghost use Rattle.teg_certificates.specs.SlackWitnesses.{RiseAtPlace};
 ghost use Rattle.teg_critical.specs.Slacks.{IsOnCircuit};
-ghost use Rattle.teg_critical.specs.Told.{IsGapWithin};
 ghost use Rattle.teg_critical.specs.Hops.{reached_number};
 ghost use Rattle.teg_critical.specs.Heights.{CanRaise, CanPass, AreHeights, AreFinal, IsTightBy, AreTight, LacksGap};
 ghost use Rattle.teg_critical.specs.SlackWitnessed.{IsSlackWitness, IsWitnessAt};

@@ -1,5 +1,5 @@
 //! A settled form by the rows of dates that show it.
-ghost use Rattle.std.specs.Prelude.{ℕ, ◌≡◌, ◌<◌, ◌≤◌, ◌+◌, IfOk, length};
+ghost use Rattle.std.specs.Prelude.{◌≡◌, ◌<◌, ◌≤◌, ◌+◌, IfOk, length};
 ghost use Rattle.teg_net.specs.Limits.{greatest_firing_number};
 ghost use Rattle.periodic_laws.specs.settled_laws.SettledForms.{settled_date, row_date, settled_length, step_of_form};
 ghost use Rattle.teg_settle.specs.KeptForms.{IsFormKept};

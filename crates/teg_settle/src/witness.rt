@@ -1,7 +1,7 @@
 //! The tests of a period on rows of dates. What refuted the last periods that were tried mostly
 //! refutes the next one too, so it is tested first.
 ghost use Rattle.std.specs.Prelude.{◌≡◌, ◌+◌, ◌<◌, ◌≤◌, All, Decides, IfSome, IsTrue, MatchOption, MatchResult, length};
-ghost use Rattle.teg_settle.specs.ComparedRows.{AreReleasedAlike, GoesOnBy, IsMovedAt, IsMovedPast, IsRisingPlace, read_step};
+ghost use Rattle.teg_settle.specs.ComparedRows.{AreReleasedAlike, GoesOnBy, IsMovedAt, IsMovedPast, IsRisingPlace};
 ghost use Rattle.teg_settle.specs.InitialReleases.{release_by};
 ghost use Rattle.teg_settle.specs.Witnesses.{IsFailed, IsPassed, IsTestable, tested_period};
 
