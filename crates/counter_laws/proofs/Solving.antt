@@ -21,7 +21,8 @@ use Rattle.teg_model.proofs.LeastOver.{falls}
 use Rattle.teg_model.proofs.LiveRanks.{live_is_ranked}
 use Rattle.teg_model.proofs.OfNet.{net_ends, all_extended_in, tight_of_least}
 use Rattle.teg_model.proofs.Tokens.{available_after, available_first, implicit_after, place_keeps, not_before_zero}
-use Rattle.counter_laws.specs.Counters.{IsUpTo, and_more, tokens_by, IsUpToLeast, AreWithinLeast}
+use Rattle.counter_laws.specs.Counters.{IsUpTo, and_more, tokens_by, AreReadyBy, IsUpToLeast, AreWithinLeast}
+use Rattle.dating_laws.proofs.SlowerNets.{climb}
 use Rattle.counter_laws.specs.CounterEquations.{AreCounted, CountersAreLeastOfTokens, CountersAreGreatest}
 
 abbrev Counts : Type 0
@@ -100,12 +101,13 @@ own_token x s (suc zero) d o before = ready_at_zero (implicit_place s) 1 d refl
 own_token x s (suc (suc j)) d o before = rw (implicit_after initial_date x s j) (before (suc j) refl (omega arith))
 
 -- a firing comes by the date where the one before it and all that it takes do
-comes_by : (net : NetLists) (u x : Dating) → All (λ p. length p.ready ≡ 0) net.places → IsTight net u x → (t d k : ℕ) → t < length net.transitions → 1 ≤ k
+comes_by : (net : NetLists) (u x : Dating) → IsTight net u x → (t d k : ℕ) → t < length net.transitions → 1 ≤ k
+    → All (λ p. p.to.index ≡ t → AreReadyBy p d k) net.places
     → All (λ p. p.to.index ≡ t → p.tokens < k → (p.hold ≤ d) × IsAtMostDate (x p.from.index (k - p.tokens)) (At (pos (d - p.hold)))) net.places
     → ((j : ℕ) → suc j ≡ k → 1 ≤ j → IsAtMostDate (x t j) (At (pos d)))
     → (IsInput net t → IsAtMostDate (u t k) (At (pos d)))
     → IsAtMostDate (x t k) (At (pos d))
-comes_by net u x ready tight t d k l o tokens before released =
+comes_by net u x tight t d k l o ready tokens before released =
     tight.tight t k (At (pos d)) l o
     (all_extended_in net (λ p. p.to.index ≡ t → IsAtMostDate (available_at x p k) (At (pos d)))
     (λ i e m to.
@@ -115,7 +117,9 @@ comes_by net u x ready tight t d k l o tokens before released =
     let at = tokens i e m to q in
     let a : Date = x p.from.index (k - p.tokens) in
     rw (available_after initial_date x p k a q refl) (held_on p.hold d a at.0 at.1))
-    (λ (q : k ≤ p.tokens). rw (available_first initial_date x p k q) (ready_at_zero p k d (ready i e m)))
+    (λ (q : k ≤ p.tokens).
+    let in' : ready_date p k ≤ d = ready i e m to k o (omega arith) q in
+    rw (available_first initial_date x p k q) (omega (arith, ints, in')))
     (cases_lt p.tokens k))
     (λ s m to. own_token x s k d o (λ j e one. rw to (before j e one))))
     released
@@ -140,6 +144,18 @@ module _ (net : NetLists) (u x : Dating) (r c : Counts) (h : AreCounted net u x 
         let first = not_before_zero net u x h.least.feasible p.from.index j place.from_in (omega (arith, q)) in
         let back = held_back p.hold d a first (rw (available_after initial_date x p k a q refl) at by) in
         (back.0, (h.firings p.from.index place.from_in (d - p.hold) j (omega (arith, q))).0 back.1)));
+    ready = λ i e m to j one up first.
+        let p : Place = get_or net.places i no_place in
+        let same : get_or net.places i e ≡ p = get_or_default net.places i e no_place m in
+        let into : p.to.index ≡ t = rw same at to in
+        let within' : j ≤ p.tokens = rw same at first in
+        let last : j + (k - j) ≡ k = omega (arith, up) in
+        let rises : IsAtMostDate (x t j) (x t k) = rw last at (climb net u x h.least.feasible t j l one (k - j)) in
+        let keeps : IsAtMostDate (available_at x p j) (x t j) = rw into at (place_keeps net u x h.least.feasible j one i m) in
+        let token : IsAtMostDate (At (pos (ready_date p j))) (x t j) = rw (available_first initial_date x p j within') at keeps in
+        let by : IsAtMostDate (At (pos (ready_date p j))) (At (pos d)) =
+        at_most_trans (At (pos (ready_date p j))) (x t j) (At (pos d)) token (at_most_trans (x t j) (x t k) (At (pos d)) rises low) in
+        rw same (omega (arith, ints, by));
     released = λ i. (h.releases t i d k o).0 (at_most_trans (u t k) (x t k) (At (pos d)) (h.least.feasible.inputs t k o i) low);
   }
 
@@ -150,7 +166,7 @@ module _ (net : NetLists) (u x : Dating) (r c : Counts) (h : AreCounted net u x 
       → ((j : ℕ) → suc j ≡ k → 1 ≤ j → IsAtMostDate (x t j) (At (pos d)))
       → IsAtMostDate (x t k) (At (pos d))
   comes_with tight other t d k l o up come before =
-      comes_by net u x h.no_ready_dates tight t d k l o
+      comes_by net u x tight t d k l o up.ready
       (λ i e m to q. let at = tokens_from other (get_or net.places i e) d k (up.tokens i e m to) q in (at.0, come i e m to q at.0 at.1))
       before
       (λ i. (h.releases t i d k o).1 (up.released i))
@@ -158,6 +174,7 @@ module _ (net : NetLists) (u x : Dating) (r c : Counts) (h : AreCounted net u x 
   lower_least : (t d j k : ℕ) → j ≤ k → IsUpToLeast net r c t d k → IsUpToLeast net r c t d j
   lower_least t d j k l up = record {
     tokens = λ i e m to. up_to_lower j k (tokens_by c (get_or net.places i e) d) l (up.tokens i e m to);
+    ready = λ i e m to token one last. up.ready i e m to token one (omega (arith, l, last));
     released = λ i. up_to_lower j k (r t d) l (up.released i);
   }
 

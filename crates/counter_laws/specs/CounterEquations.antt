@@ -1,5 +1,5 @@
 -- The min-plus equations of counters (chapter 5).
-use Rattle.std.specs.Prelude.{ℕ, pos, ◌<◌, ◌≤◌, ◌≡◌, ◌↔◌, Option, length, All}
+use Rattle.std.specs.Prelude.{ℕ, pos, ◌<◌, ◌≤◌, ◌≡◌, ◌↔◌, Option, length}
 use Rattle.teg_model.specs.dioid.declared.dates.Date.{Date}
 use Rattle.teg_model.specs.dioid.declared.dates.Date.TheVariants.{At}
 use Rattle.teg_model.specs.dioid.Dates.{IsAtMostDate}
@@ -8,16 +8,15 @@ use Rattle.teg_model.specs.teg_net.Circuits.{IsLive}
 use Rattle.teg_model.specs.Datings.{IsFeasibleUnder, IsLeastUnder}
 use Rattle.counter_laws.specs.Counters.{IsUpTo, AreCounters, AreReleaseCounters, IsUpToLeast, AreWithinLeast}
 
--- a live net, all of whose initial tokens are ready at 0, its least dating under releases, and the counts of both
+-- a live net, its least dating under releases, and the counts of both
 pub record AreCounted (net : NetLists) (u x : ℕ → ℕ → Date) (r c : ℕ → ℕ → Option ℕ) : Type 0 where
   pub net_rules : IsNet net
   pub live : IsLive net
-  pub no_ready_dates : All (λ p. length p.ready ≡ 0) net.places
   pub least : IsLeastUnder net u x
   pub releases : AreReleaseCounters net u r
   pub firings : AreCounters net x c
 
--- each count of firings is the least of the tokens of the places before it and of the releases
+-- each count of firings is the least of the tokens of the places before it, those that are ready, and of the releases
 abbrev pub CountersAreLeastOfTokens : Type 0
 CountersAreLeastOfTokens = (net : NetLists) (u x : ℕ → ℕ → Date) (r c : ℕ → ℕ → Option ℕ) → AreCounted net u x r c
     → (t d k : ℕ) → t < length net.transitions → 1 ≤ k → IsUpTo k (c t d) ↔ IsUpToLeast net r c t d k

@@ -5,6 +5,7 @@ use Rattle.teg_model.specs.dioid.declared.dates.Date.TheVariants.{At}
 use Rattle.teg_model.specs.dioid.Dates.{IsAtMostDate}
 use Rattle.teg_model.specs.teg_net.declared.entries.Place.{Place}
 use Rattle.teg_model.specs.teg_net.Nets.{NetLists, IsInput}
+use Rattle.teg_model.specs.teg_net.ReadyDates.{ready_date}
 
 -- the number is at most the count, of which `None` is one without end
 abbrev pub IsUpTo : ℕ → Option ℕ → Type 0
@@ -33,9 +34,15 @@ and_more m (Some n) = Some (m + n)
 abbrev pub tokens_by : (ℕ → ℕ → Option ℕ) → Place → ℕ → Option ℕ
 tokens_by c p d = if nat_le p.hold d then and_more p.tokens (c p.from.index (d - p.hold)) else Some p.tokens
 
--- k is at most the least of the tokens that each place into transition t has had up to date d and, of an input, of its releases
+-- of the first k tokens that firings take from the place each initial one is ready by date d
+abbrev pub AreReadyBy : Place → ℕ → ℕ → Type 0
+AreReadyBy p d k = (token : ℕ) → 1 ≤ token → token ≤ k → token ≤ p.tokens → ready_date p token ≤ d
+
+-- k is at most the least of the tokens that each place into transition t has had up to date d, of those before the first that
+-- is not ready by then and, of an input, of its releases
 pub record IsUpToLeast (net : NetLists) (r c : ℕ → ℕ → Option ℕ) (t d k : ℕ) : Type 0 where
   pub tokens : All (λ p. p.to.index ≡ t → IsUpTo k (tokens_by c p d)) net.places
+  pub ready : All (λ p. p.to.index ≡ t → AreReadyBy p d k) net.places
   pub released : IsInput net t → IsUpTo k (r t d)
 
 -- no count exceeds that least

@@ -3,21 +3,21 @@
 ghost use Rattle.counter_laws.specs.CountedRuns.{CountersCountFirings};
 ghost use Rattle.counter_laws.specs.CounterEquations.{CountersAreGreatest, CountersAreLeastOfTokens, CountersAreOne, CountersExist};
 
-/// The min-plus equations: of a live net whose places have no ready dates, under any releases, the
-/// count of firings up to a date is the least of the tokens that each place into the transition has
-/// had up to then, its initial ones and the firings before it up to a hold earlier, and of the
-/// releases of an input; and no counts within that least are greater (chapter 5). The equations
-/// alone do not tell the counters: around a circuit without tokens and without hold each count
-/// solves them, so liveness is asked for. And they count each initial token from 0 on: behind a
-/// token that is ready at 5 no firing comes up to 0.
+/// The min-plus equations: of a live net, under any releases, the count of firings up to a date is
+/// the least of the tokens that each place into the transition has had up to then, its initial ones
+/// and the firings before it up to a hold earlier, of those before the first initial token that is
+/// not ready by then, and of the releases of an input; and no counts within that least are greater
+/// (chapter 5). The equations alone do not tell the counters: around a circuit without tokens and
+/// without hold each count solves them, so liveness is asked for.
 pub fn counters_solve_min_plus_equations()
     ensures equations { CountersAreLeastOfTokens }
     ensures greatest { CountersAreGreatest }
 {}
 
-/// Counters exist where each transition has a firing after each date, and a dating has but one
-/// counter of each transition (chapter 5). Where a transition has no firing after some date, its
-/// count has no end from there on, as that of a transition without a place before it from 0 on.
+/// Counters of a feasible dating exist where each transition has a firing after each date, and a
+/// dating has but one counter of each transition (chapter 5). Where a transition has no firing
+/// after some date, its count has no end from there on, as that of a transition without a place
+/// before it from 0 on.
 pub fn counters_exist()
     ensures exist { CountersExist }
     ensures one { CountersAreOne }

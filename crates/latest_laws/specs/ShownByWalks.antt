@@ -1,6 +1,7 @@
 -- What a walk that a plan or a refusal names shows by itself (chapter 5).
-use Rattle.std.specs.Prelude.{ℕ, ◌<◌, ◌≡◌, Option, Some}
+use Rattle.std.specs.Prelude.{ℕ, pos, ◌<◌, ◌≡◌, Option, Some}
 use Rattle.teg_model.specs.dioid.declared.dates.Date.{Date}
+use Rattle.teg_model.specs.dioid.declared.dates.Date.TheVariants.{At}
 use Rattle.teg_model.specs.dioid.Dates.{IsAtMostDate}
 use Rattle.teg_model.specs.teg_net.Nets.{NetLists, IsNet}
 use Rattle.teg_model.specs.teg_net.declared.walks.Walk.{Walk}
@@ -12,6 +13,11 @@ use Rattle.due_laws.specs.LatestDates.{IsTightWalk, IsLateWalk}
 abbrev pub TightWalksBound : Type 0
 TightWalksBound = (net : NetLists) → IsNet net → (due : ℕ → ℕ → Option ℕ) (t k : ℕ) (date : Date) (w : Walk) → IsTightWalk net due t k date w
     → (u x : ℕ → ℕ → Date) → IsFeasibleUnder net u x → KeepsDues net due x → IsAtMostDate (x t k) date
+
+-- no feasible dating, under any inputs, comes to the firing at which a walk ends before the date of the walk
+abbrev pub LateWalksBound : Type 0
+LateWalksBound = (net : NetLists) → IsNet net → (t k start date : ℕ) (w : Walk) → IsLateWalk net t k start date w
+    → (u x : ℕ → ℕ → Date) → IsFeasibleUnder net u x → IsAtMostDate (At (pos date)) (x t k)
 
 -- where a walk comes to a firing after it is due, no inputs meet the due dates
 abbrev pub LateWalksRefuse : Type 0

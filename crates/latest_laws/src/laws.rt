@@ -5,7 +5,7 @@ ghost use Rattle.latest_laws.specs.BackwardSolutions.{LatestDatesAreOne, LatestD
 ghost use Rattle.latest_laws.specs.Floats.{InputsMeetByFloats, LatestDatesAreFeasible, LatestDatesAreGreatest};
 ghost use Rattle.latest_laws.specs.JointInputs.{EarlierInputsMeet, InputsMeetUpToLatest, LaterInputsAreInputs, LaterInputsMeet};
 ghost use Rattle.latest_laws.specs.ShiftedDues.{LateDuesAreMet, LaterDuesLaterLatest, ShiftedDuesShiftLatest};
-ghost use Rattle.latest_laws.specs.ShownByWalks.{LateWalksRefuse, TightWalksBound};
+ghost use Rattle.latest_laws.specs.ShownByWalks.{LateWalksBound, LateWalksRefuse, TightWalksBound};
 
 /// A tight walk bounds: no feasible dating that keeps the due dates comes to the first firing of a
 /// tight walk after the date of the walk, whatever the inputs are (chapter 5). So one walk shows
@@ -14,10 +14,12 @@ pub fn tight_walks_bound()
     ensures { TightWalksBound }
 {}
 
-/// A late walk refuses: where a walk comes to a firing after it is due, no inputs meet the due
-/// dates (chapter 5).
+/// A late walk refuses: no feasible dating comes to the firing at which it ends before its date,
+/// whatever the inputs are, with no liveness asked; so where the firing is due before, no inputs
+/// meet the due dates (chapter 5).
 pub fn late_walks_refuse()
-    ensures { LateWalksRefuse }
+    ensures bound { LateWalksBound }
+    ensures refuse { LateWalksRefuse }
 {}
 
 /// Inputs meet together: the later of two inputs that meet the due dates are inputs that meet them,

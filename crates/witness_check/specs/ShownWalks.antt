@@ -1,5 +1,5 @@
 -- What a line of latest dates shows, and what a walk shows that comes late.
-use Rattle.std.specs.Prelude.{ℕ, pos, ◌≡◌, ◌++◌, ◌∷◌, [], List, Some, Option, codes}
+use Rattle.std.specs.Prelude.{ℕ, pos, ◌<◌, ◌≡◌, ◌++◌, ◌∷◌, [], List, Some, Option, codes}
 use Rattle.std.specs.Fmt.{decimal}
 use Rattle.teg_model.specs.dioid.declared.dates.Date.{Date}
 use Rattle.teg_model.specs.dioid.declared.dates.Date.TheVariants.{At}
@@ -39,6 +39,14 @@ late_words net shown = codes "late" ∷ name_of_transition net shown.transition 
 abbrev pub MeetsNoInputs : NetLists → ℕ → ℕ → ℕ → Type 0
 MeetsNoInputs net t k date = (due : ℕ → ℕ → Option ℕ) → due t k ≡ Some date → (v : ℕ → ℕ → Date) → InputsMeet net due v → ⊥
 
--- the text begins with the line of the firing, which comes after its due date whatever the inputs do
-abbrev pub IsShownLate : NetLists → List ℕ → ShownLate → Type 0
-IsShownLate net text shown = BeginsWithLine text (late_words net shown) × MeetsNoInputs net shown.transition.index shown.number shown.due
+-- no feasible dating, under any inputs, has the firing before this date
+abbrev pub ComesNoEarlier : NetLists → ℕ → ℕ → ℕ → Type 0
+ComesNoEarlier net t k date = (u x : ℕ → ℕ → Date) → IsFeasibleUnder net u x → IsAtMostDate (At (pos date)) (x t k)
+
+-- the text begins with the line of the firing, which comes no earlier than at the date that it tells as least, whatever the
+-- inputs do; that is after its due date, and no inputs meet what is due
+pub record IsShownLate (net : NetLists) (text : List ℕ) (shown : ShownLate) : Type 0 where
+  pub told : BeginsWithLine text (late_words net shown)
+  pub no_earlier : ComesNoEarlier net shown.transition.index shown.number shown.least
+  pub late : shown.due < shown.least
+  pub refused : MeetsNoInputs net shown.transition.index shown.number shown.due

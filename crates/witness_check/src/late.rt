@@ -3,7 +3,7 @@ ghost use Rattle.std.specs.Prelude.{ℕ, ◌≡◌, ◌<◌, ◌++◌, [], IfOk,
 ghost use Rattle.due_laws.specs.LatestDates.{IsLateWalk};
 ghost use Rattle.teg_text.specs.Lines.{line_then};
 ghost use Rattle.witness_check.specs.Witnesses.{BeginsWithLine};
-ghost use Rattle.witness_check.specs.ShownWalks.{IsShownLate, MeetsNoInputs, late_words};
+ghost use Rattle.witness_check.specs.ShownWalks.{ComesNoEarlier, IsShownLate, MeetsNoInputs, late_words};
 
 use crate::beginnings::begins_with;
 use crate::latest::ends_at;
@@ -21,7 +21,7 @@ pub struct ShownLate {
     pub number: u64,
     /// The due date, in the user's unit.
     pub due: u64,
-    /// What the walk comes to, in the user's unit; the clause of [`shown_late`] does not speak of it.
+    /// The date of the walk, in the user's unit: before it the firing does not come.
     pub least: u64,
 }
 
@@ -40,9 +40,14 @@ fn is_late(net: &Net, walk: &Walk, shown: ShownLate) -> bool
     shown.due < shown.least && time <= least && least - time == start
 }
 
-// Whether the walk shows that no inputs meet what is due.
+// Whether the walk shows that the firing comes no earlier than told, so that no inputs meet what is
+// due.
 fn refuses(net: &Net, walk: &Walk, shown: ShownLate) -> bool
-    ensures { IsTrue result → MeetsNoInputs net.now shown.transition.index shown.number shown.due }
+    ensures no_earlier { IsTrue result → ComesNoEarlier net.now shown.transition.index
+        shown.number shown.least }
+    ensures late { IsTrue result → shown.due < shown.least }
+    ensures refused { IsTrue result → MeetsNoInputs net.now shown.transition.index shown.number
+        shown.due }
 {
     net.rules();
     late_walks_refuse();
@@ -107,9 +112,10 @@ fn walk_told(alloc: Global, net: &Net, text: &str) -> Result<Option<Walk>, Alloc
     }
 }
 
-/// What the text of `teg jit` tells of due dates that cannot be met, where its walk shows it: where
-/// the firing is due by its date, no inputs meet what is due (chapter 5). `OutOfMemory` comes only
-/// where no memory is found.
+/// What the text of `teg jit` tells of due dates that cannot be met, where its walk shows it: the
+/// firing comes no earlier than at the date that is told as least, whatever the inputs are, and
+/// where it is due by its date, no inputs meet what is due (chapter 5). That it can come as early as
+/// that is not shown. `OutOfMemory` comes only where no memory is found.
 pub fn shown_late(alloc: Global, net: &Net, text: &str) -> Result<Option<ShownLate>, OutOfMemory>
     ensures { IfOk result (λ shown. IfSome shown (IsShownLate net.now text.now)) }
 {

@@ -2,4 +2,9 @@ use Rattle.std.proofs.Common.{rules, refl}
 use Rattle.witness_check.proofs.late.shown_late.Goals as goal
 
 pub returns : goal.returns
-returns c = (search rules, c.if-not-refuses.ensures refl)
+returns c = record {
+  told = search rules;
+  no_earlier = c.if-not-refuses.ensures.no_earlier refl;
+  late = c.if-not-refuses.ensures.late refl;
+  refused = c.if-not-refuses.ensures.refused refl;
+}
