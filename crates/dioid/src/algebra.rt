@@ -110,7 +110,7 @@ pub trait Kleene: Dioid {
 }
 
 /// A dioid with residuals and meets: `left(a, b)` is the greatest `x` with `a x` at most `b`, and
-/// the meet of two elements is their greatest lower bound (section 4.4).
+/// the meet of two elements is their greatest lower bound (chapter 4).
 pub trait Residuated: Dioid {
     ghost use Rattle.dioid.specs.ElementAnswers.{Answers};
     ghost use Rattle.dioid.specs.DioidAxioms.{ResidualLaws};

@@ -1,4 +1,4 @@
--- What holds of residuals and meets by the Galois law alone (section 4.4).
+-- What holds of residuals and meets by the Galois law alone (chapter 4).
 use Rattle.std.specs.Prelude.{◌≡◌}
 use Rattle.dioid.specs.DioidAxioms.{IsAtMost}
 use Rattle.dioid.specs.declared.algebra.Dioid.{Ghosts as DioidOf}

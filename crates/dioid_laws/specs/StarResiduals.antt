@@ -1,4 +1,4 @@
--- What holds of stars and residuals together (section 4.4): latest dates are such residuals.
+-- What holds of stars and residuals together (chapter 4): latest dates are such residuals.
 use Rattle.std.specs.Prelude.{◌≡◌}
 use Rattle.dioid.specs.DioidAxioms.{IsAtMost}
 use Rattle.dioid.specs.declared.algebra.Dioid.{Ghosts as DioidOf}

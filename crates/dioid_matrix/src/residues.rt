@@ -83,7 +83,7 @@ impl<D: Residuated> Matrix<D> {
     ghost use Rattle.dioid_matrix.specs.Tables.{IsTable};
 
     /// The greatest `x` with `self x` at most `other`, entry by entry the meet over the rows of the
-    /// residuals (section 4.4): the left's columns by the right's columns. It takes time of the
+    /// residuals (chapter 4): the left's columns by the right's columns. It takes time of the
     /// order of the entries of the result, times the rows of the operands.
     ///
     /// `Shape`, with the left's rows and then the right's, exactly where these are not as many.

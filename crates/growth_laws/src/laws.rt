@@ -5,22 +5,23 @@ ghost use Rattle.growth_laws.specs.Growth.{DatesGrowBySlopes, SlopesAreOne, Slop
 
 use periodic_laws::least_datings_repeat;
 
-/// Potentials bound dates: in a live net take potentials of a set of transitions that no place into
-/// the set exceeds at a ratio `a / b`, and a constant `c`; where `b` times each start is at most
-/// `c` plus the potential plus `a` for each number, so is `b` times each least date, so that no
-/// date of the set rises by more than the ratio in the long run (chapter 3).
+/// Potentials bound dates: in a live net take potentials of a set of transitions that only places
+/// from the set enter, and that none of these exceeds at a ratio `a / b`, and a constant `c`; where
+/// `b` times each start is at most `c` plus the potential plus `a` for each number, so is `b` times
+/// each least date, so that no date of the set rises by more than the ratio in the long run
+/// (chapter 3).
 ///
 /// Where no input is kept waiting there is such a constant: `b` times the greatest ready date, and
 /// as much as the potentials are below 0. The places into the set have to come from it: a
-/// transition behind a faster one that is left out comes later than its own line.
+/// transition behind a slower one that is left out comes later than its own line.
 pub fn potentials_bound_dates()
     ensures bound { PotentialsBoundDates }
     ensures starts { StartsHaveLines }
 {}
 
-/// A certificate draws such lines: at a ratio that no part of the set exceeds, the potentials of
-/// its parts, brought to that ratio, rounded down, and lifted enough from part to part, are
-/// potentials of the whole set (chapter 3).
+/// A certificate draws such lines: of a set that only places from it enter, at a ratio that no part
+/// of it exceeds, the potentials of its parts, brought to that ratio, rounded down, and lifted
+/// enough from part to part, are potentials of the whole set (chapter 3).
 pub fn certificates_draw_lines()
     ensures { CertificatesDrawLines }
 {}

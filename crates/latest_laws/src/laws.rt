@@ -61,8 +61,8 @@ pub fn latest_dates_solve_backwards()
 /// that solves the backward equations and is never past that number (chapter 5). Due dates without
 /// an end may have none: a transition on a circuit of hold 1 and one token, due at 0 at each
 /// number, would have to come ever earlier. And the equations alone do not tell them: where nothing
-/// is due, all dates at 0 solve them, and so do those at 5 around a circuit without tokens and
-/// without hold.
+/// is due, all dates at 0 solve them in a net without hold, and so do those at 5 around a circuit
+/// without tokens and without hold.
 pub fn latest_dates_are_solutions()
     ensures exist { LatestDatesExist }
     ensures one { LatestDatesAreOne }

@@ -16,8 +16,8 @@ pub fn greatest_ratios_exist()
 {}
 
 /// Where a net has the places of another with the same ends, none of them with a longer holding
-/// time and none with fewer tokens, its greatest ratio is at most that of the other, and so is that
-/// of each part; and it is live where the other is (chapter 2).
+/// time and none with fewer tokens, it is live where the other is; and if it is live, its greatest
+/// ratio is at most that of the other, and so is that of each part (chapter 2).
 ///
 /// The first net has to be live: a circuit without time and without tokens has every ratio, so a
 /// net that is one such circuit has a greater one than itself.

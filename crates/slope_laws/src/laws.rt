@@ -14,7 +14,8 @@ pub fn forms_have_slopes()
     ensures { FormsHaveSlopes }
 {}
 
-/// So it is for each transition in each settled form of the least dating (chapter 3).
+/// Each transition has its slope in each settled form of the least dating of a live net (chapter
+/// 3).
 pub fn settled_forms_have_slopes()
     ensures { SettledFormsHaveSlopes }
 {}

@@ -1,5 +1,5 @@
 //! The standard form of a timed event graph: the greatest times of its paths without tokens, and of
-//! those that begin with a place with tokens (chapter 2, the explicit form).
+//! those whose first place alone has tokens (chapter 2, the explicit form).
 //!
 //! Its one contract: [`standard_form`] answers exactly these times, sorted, for each pair of
 //! transitions that such a path joins. Only the net's own places count. The law

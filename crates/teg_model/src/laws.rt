@@ -34,8 +34,8 @@ pub fn least_dates_are_walks()
     ensures { LeastDatesAreWalks }
 {}
 
-/// In a live net each least date is a number from 0 on, or `Never`, and up to the greatest number
-/// those that are numbers are at most 2 times 10^30 (chapter 2).
+/// In a live net each least date is a number from 0 on, or `Never`, and up to the greatest firing
+/// number those that are numbers are at most 2 times 10^30 (chapter 2).
 pub fn least_dates_are_within()
     ensures first { LeastDatesAreFromZero }
     ensures last { LeastDatesAreWithin }

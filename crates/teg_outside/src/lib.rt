@@ -4,10 +4,11 @@
 //! The one contract: each trait says what a call did to what the value tells, and which count rose
 //! where it failed. A shelf tells its files and its reads, a sink its bytes, or nothing of them; a
 //! count never falls. `MemoryShelf` and `MemorySink` tell everything: they fail at the calls that
-//! they were given, at a name that the shelf does not have and where the sink has no room, and
-//! nowhere else. `FileShelf` and `WriterSink` stand before the real files and the real
-//! output: they tell nothing of content. Of the monitors `FiringCount`, `HighWater` and `Lateness`
-//! print a number each of the firings seen, and `NoLine` never finds memory for a line.
+//! they were given, at a name that the shelf does not have, at a file that is longer than the limit
+//! and where the sink has no room, and, but for want of memory, nowhere else. `FileShelf` and
+//! `WriterSink` stand before the real files and the real output: they tell nothing of content. Of
+//! the monitors `FiringCount`, `HighWater` and `Lateness` print a number each of the firings seen,
+//! and `NoLine` never finds memory for a line.
 //!
 //! It stands on std alone.
 //! Its examples stand in `worked_examples`.

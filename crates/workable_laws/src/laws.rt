@@ -3,7 +3,7 @@
 ghost use Rattle.workable_laws.specs.WorkablePeriods.{PeriodsAreWorkable, PeriodsFromTheRatioAreWorkable, TimetablesFromFirstsAreWorkable, WorkableIsByFirsts, WorkablePeriodsAreAboveRatios, WorkablePeriodsLeaveTime};
 
 /// Where a net can keep to a timetable, no circuit takes longer than the period gives it for its
-/// tokens, and so the period is at least the greatest ratio of the net (chapters 2 and 3).
+/// tokens, and so the period of a live net is at least its greatest ratio (chapters 2 and 3).
 ///
 /// For the ratio the net has to be live: a circuit without time and without tokens has every ratio,
 /// and any period leaves it its time.
