@@ -97,7 +97,7 @@ def listed(text):
 
 
 def otherwise(text):
-    """The items that were described otherwise, each with its entry."""
+    """The items for which another form was open, each with its entry."""
     for name, body in sections(text):
         if name == "otherwise":
             for item, _, entry in re.findall(r"^(\S+) \| (.*) \| (.*)$", body, re.M):
@@ -117,7 +117,7 @@ def faults_of(text, decisions):
     entries = {it.rstrip(".") for it in re.findall(r"^- \*\*(.*?)\*\*", decisions, re.M)}
     for item, entry in otherwise(text):
         if item not in names:
-            yield f"{item} is told to be described otherwise, and no item"
+            yield f"{item} stands below [otherwise], and is no item"
         if entry.rstrip(".") not in entries:
             yield f"docs/DECISIONS.md has no entry {entry}"
 

@@ -200,7 +200,7 @@ IsKind k = IsFew k.part
         self.assertEqual(list(check_signatures.faults_of(text, "")), ["docs/DECISIONS.md has no entry Counting"])
         changed = list(check_signatures.faults_of(text.replace("usize", "u64").replace("low::count |", "low::sum |"), decided))
         self.assertEqual(changed[0], "low: count reads otherwise: pub fn count(things: &[u8]) -> usize")
-        self.assertEqual(changed[1], "low::sum is told to be described otherwise, and no item")
+        self.assertEqual(changed[1], "low::sum stands below [otherwise], and is no item")
         self.assertEqual(list(check_signatures.faults_of("[low]\npub fn sum() -> u8\n", "")), ["low hands on no sum"])
 
     def test_code_is_shown_as_it_stands(self):

@@ -115,7 +115,7 @@ fn read_table(alloc: Global, table: Table) -> Result<Net, ReadRefusal>
 /// and each goes over the whole tree, the top first, then the transitions, the places and the input
 /// lists, each by position (rules of net files, in the guide). `OutOfMemory` says that no memory
 /// was found, and nothing of the bytes. Beside what `toml` takes, it takes time in proportion to
-/// the length of the file.
+/// the length of the file, and of order m log m for m entries, whose texts are kept in order.
 pub fn read_net(alloc: Global, bytes: &[u8]) -> Result<Net, ReadRefusal>
     ensures { AnswersAsMeant (document bytes.now) result }
 {
