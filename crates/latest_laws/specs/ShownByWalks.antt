@@ -14,7 +14,7 @@ abbrev pub TightWalksBound : Type 0
 TightWalksBound = (net : NetLists) → IsNet net → (due : ℕ → ℕ → Option ℕ) (t k : ℕ) (date : Date) (w : Walk) → IsTightWalk net due t k date w
     → (u x : ℕ → ℕ → Date) → IsFeasibleUnder net u x → KeepsDues net due x → IsAtMostDate (x t k) date
 
--- no feasible dating, under any inputs, comes to the firing at which a walk ends before the date of the walk
+-- in no feasible dating, whatever the inputs, does the firing at which a walk ends come before the date of the walk
 abbrev pub LateWalksBound : Type 0
 LateWalksBound = (net : NetLists) → IsNet net → (t k start date : ℕ) (w : Walk) → IsLateWalk net t k start date w
     → (u x : ℕ → ℕ → Date) → IsFeasibleUnder net u x → IsAtMostDate (At (pos date)) (x t k)

@@ -14,9 +14,9 @@ pub fn tight_walks_bound()
     ensures { TightWalksBound }
 {}
 
-/// A late walk refuses: no feasible dating comes to the firing at which it ends before its date,
-/// whatever the inputs are, with no liveness asked; so where the firing is due before, no inputs
-/// meet the due dates (chapter 5).
+/// A late walk refuses: in any feasible dating, whatever the inputs are, the firing at which it ends
+/// comes no earlier than its date; so where the firing is due before that, no inputs meet the due
+/// dates (chapter 5). No liveness is asked.
 pub fn late_walks_refuse()
     ensures bound { LateWalksBound }
     ensures refuse { LateWalksRefuse }
