@@ -1,5 +1,5 @@
 -- What makes an answer on cycle times a certificate: conditions on the answer and the net alone, which a short check
--- decides. They show that the ratio told is the greatest over all circuits (chapters 2 and 3).
+-- decides. In a live net they show that the ratio told is the greatest over all circuits (chapters 2 and 3).
 use Rattle.std.specs.Prelude.{ℕ, ℤ, pos, ◌+ℤ◌, ◌≤ℤ◌, ◌*◌, ◌<◌, ◌≤◌, ◌≡◌, ◌==◌, if◌then◌else◌, List, [], ◌∷◌, length, All, slice_index, slice_index_or}
 use Rattle.teg_net.specs.declared.entries.PlaceId.{PlaceId}
 use Rattle.teg_net.specs.declared.answers.Potential.{Potential}
