@@ -1,4 +1,4 @@
--- The left residual of two matrices (chapter 4).
+-- The left residual of two matrices (section 4.4).
 use Rattle.std.specs.Prelude.{◌≡◌, ◌≢◌, ◌↔◌, ◌<◌, ℕ, zero, suc, Result, Ok, Err, ⊤}
 use Rattle.dioid.specs.DioidAxioms.{IsAtMost}
 use Rattle.dioid.specs.declared.algebra.Dioid.{Ghosts as DioidOf}
