@@ -1,4 +1,5 @@
 -- What the tests of a form that is told tell: where its releases go on evenly, and that the least dating settles so.
+use Rattle.std.specs.Prelude.{pos, slice_index_or}
 use Rattle.std.proofs.Common.{ℕ, ℤ, ◌+◌, ◌-◌, ◌<◌, ◌≤◌, ◌≡◌, true, leb, List, [], map, length, get_or, Option, Some, None, refl, sym, ap, ◌∙◌, arith, ⊎_elim, inl, inr}
 use Rattle.std.specs.List.{range_with_len}
 use Rattle.std.proofs.lemmas.Bool.Decides.{nat_tests}
@@ -25,7 +26,8 @@ use Rattle.settled_laws.proofs.Telling.{form_tells}
 use Rattle.dating_certificates.specs.CheckedRows.{AreFirstRows, AreRowsOf, date_in_rows}
 use Rattle.dating_certificates.specs.LatestRows.{date_up_to}
 use Rattle.dating_certificates.specs.ToldRows.{told_dates, date_told}
-use Rattle.dating_certificates.specs.SettledRows.{form_by_rows, SettlesAs}
+use Rattle.dating_certificates.specs.SettledRows.{form_by_rows, SettlesAs, IsStillAfter}
+use Rattle.dating_certificates.specs.SettledWindows.{MovesInWindow}
 use Rattle.dating_certificates.specs.ToldForms.{ToldForm, told_form, step_told, IsFormTold, ReleasesGoOn, ReleaseMoves, every_told}
 use Rattle.dating_certificates.proofs.WholeRows.{same_count}
 use Rattle.dating_certificates.proofs.SettledWindows.{windows_go_on}
@@ -80,6 +82,79 @@ release_goes_on f t long every g h k l =
 told_in : (numbers width : ℕ) (dates : List Date) (t k : ℕ) → k ≤ numbers → date_up_to numbers width dates t k ≡ date_in_rows width dates t k
 told_in numbers width dates t k l = let b : leb k numbers ≡ true = grind (arith, nat_tests) in rw b refl
 
+-- a window is one of all dates that are the same there
+window_of : (net : NetLists) (u x y : Dating) (after period last : ℕ) (step : ℕ → ℤ) → IsNet net
+    → ((t k : ℕ) → t < length net.transitions → 1 ≤ k → k ≤ last → x t k ≡ y t k)
+    → MovesInWindow net u x after period last step → MovesInWindow net u y after period last step
+window_of net u x y after period last step ok same w =
+    let some = w.at_least_one in
+    let room = w.two_periods in
+    record {
+      at_least_one = some;
+      two_periods = room;
+      tokens = w.tokens;
+      moves = λ t k l a m.
+          sym (same t (k + period) l (omega (arith, a)) m)
+          ∙ (w.moves t k l a m ∙ ap (move (step t)) (same t k l (omega (arith, a)) (omega (arith, m))));
+      rises = λ i d l.
+          let p : Place = get_or net.places i d in
+          let ends = ok.each_place i d l in
+          ⊎_elim
+          (λ e. inl (sym (same p.to.index last ends.to_in (omega (arith, some, room)) (omega arith)) ∙ e))
+          (λ b. ⊎_elim
+          (λ e. inr (inl (sym (same p.from.index last ends.from_in (omega (arith, some, room)) (omega arith)) ∙ e)))
+          (λ e. inr (inr e))
+          b)
+          (w.rises i d l);
+      releases = w.releases;
+    }
+
+-- the tests of a form that is told say how its rows move, and the other way round
+module _ (net : NetLists) (after period rows : ℕ) (dates : List Date) (steps : List ℤ) (ok : IsNet net) where
+  abbrev Rows : Dating → Type 0
+  Rows x = MovesInWindow net (listed_releases net) x after period rows (λ t. slice_index_or steps t (pos 0))
+
+  read : (t k : ℕ) → k ≤ rows → date_told (told_dates net rows dates) t k ≡ date_in_rows (length net.transitions) dates t k
+  read t k l = told_in rows (length net.transitions) dates t k l
+
+  told_window : IsFormTold (told_form (told_dates net rows dates) after period steps) → Rows (date_told (told_dates net rows dates))
+  told_window f = record {
+    at_least_one = f.sized.at_least_one;
+    two_periods = f.sized.room;
+    tokens = f.tokens;
+    moves = λ t k l a m. f.moves k a m t l;
+    rises = λ i d l. (f.rises i d l).rises;
+    releases = λ t k i a. f.releases t (input_in net t i) i k a;
+  }
+
+  pub window_told : IsFormTold (told_form (told_dates net rows dates) after period steps) → Rows (date_in_rows (length net.transitions) dates)
+  window_told f =
+      window_of net (listed_releases net) (date_told (told_dates net rows dates)) (date_in_rows (length net.transitions) dates) after period rows
+      (λ t. slice_index_or steps t (pos 0)) ok (λ t k l o m. read t k m) (told_window f)
+
+  pub still_told : IsFormTold (told_form (told_dates net rows dates) after period steps) → IsStillAfter (length net.transitions) dates after steps
+  still_told f t l e =
+      let room = f.sized.room in
+      let here = read t (after + 1) (omega (arith, room)) in
+      f.still t l (⊎_elim (λ a. inl (here ∙ a)) (λ a. inr (here ∙ a)) e)
+
+  pub form_told : length steps ≡ length net.transitions → rows ≤ 100000000000000000 → Rows (date_in_rows (length net.transitions) dates)
+      → IsStillAfter (length net.transitions) dates after steps → IsFormTold (told_form (told_dates net rows dates) after period steps)
+  form_told steps_are few moves still =
+      let w = window_of net (listed_releases net) (date_in_rows (length net.transitions) dates) (date_told (told_dates net rows dates)) after period rows
+      (λ t. slice_index_or steps t (pos 0)) ok (λ t k l o m. sym (read t k m)) moves in
+      let room = w.two_periods in
+      record {
+        sized = record { at_least_one = w.at_least_one; room = room; steps_are = steps_are; small = few };
+        tokens = w.tokens;
+        moves = λ k a m t l. w.moves t k l a m;
+        rises = λ i d l. record { rises = w.rises i d l };
+        still = λ t l e.
+            let here = read t (after + 1) (omega (arith, room)) in
+            still t l (⊎_elim (λ a. inl (sym here ∙ a)) (λ a. inr (sym here ∙ a)) e);
+        releases = λ t l i k a. w.releases t k i a;
+      }
+
 form_row : (n : ℕ) (dates : List Date) (long t : ℕ) → t < n
     → get_or (map (λ u. map (date_in_rows n dates u) (range_with_len 1 long)) (range_with_len 0 n)) t [] ≡ map (date_in_rows n dates t) (range_with_len 1 long)
 form_row n dates long t l = get_or-map-range_with_len (λ u. map (date_in_rows n dates u) (range_with_len 1 long)) 0 n t t [] l (omega arith)
@@ -115,32 +190,11 @@ module _ (net : NetLists) (after period rows : ℕ) (dates : List Date) (steps :
       let count : first.rows ≡ rows = same_count net dates first.rows rows ok first.whole whole in
       first.same x least t k l o (omega (arith, count, m))
 
-  at : (x : Dating) → IsLeastDating net x → (t k : ℕ) → t < length net.transitions → 1 ≤ k → k ≤ rows → date_told (told_dates net rows dates) t k ≡ x t k
-  at x least t k l o m = told_in rows n dates t k m ∙ in_rows x least t k l o m
-
   repeats : (x : Dating) → IsLeastDating net x → RepeatsAfter (length net.transitions) x after period (step_told (told_form (told_dates net rows dates) after period steps))
   repeats x least =
-      let some = f.sized.at_least_one in
-      let room = f.sized.room in
-      windows_go_on net ok live (listed_releases net) x least after period rows (step_told form) (record {
-        at_least_one = some;
-        two_periods = room;
-        tokens = f.tokens;
-        moves = λ t k l a m.
-            sym (at x least t (k + period) l (omega (arith, a)) m)
-            ∙ (f.moves k a m t l ∙ ap (move (step_told form t)) (at x least t k l (omega (arith, a)) (omega (arith, m))));
-        rises = λ i d l.
-            let p : Place = get_or net.places i d in
-            let ends = ok.each_place i d l in
-            ⊎_elim
-            (λ e. inl (sym (at x least p.to.index rows ends.to_in (omega (arith, some, room)) (omega arith)) ∙ e))
-            (λ b. ⊎_elim
-            (λ e. inr (inl (sym (at x least p.from.index rows ends.from_in (omega (arith, some, room)) (omega arith)) ∙ e)))
-            (λ e. inr (inr e))
-            b)
-            (f.rises i d l).rises;
-        releases = λ t k i a. f.releases t (input_in net t i) i k a;
-      })
+      windows_go_on net ok live (listed_releases net) x least after period rows (step_told form)
+      (window_of net (listed_releases net) (date_in_rows (length net.transitions) dates) x after period rows (step_told form) ok (in_rows x least)
+      (window_told net after period rows dates steps ok f))
 
   stands : (x : Dating) → IsLeastDating net x → StandsFor (length net.transitions) (form_by_rows (length net.transitions) dates after period steps) x
   stands x least =
@@ -151,8 +205,8 @@ module _ (net : NetLists) (after period rows : ℕ) (dates : List Date) (steps :
         dates = λ t k l o m. form_date n dates after period steps t k l o m ∙ in_rows x least t k l o (omega (arith, m, room));
         repeats = repeats x least;
         still = λ t l e.
-            let here = at x least t (after + 1) l (omega arith) (omega (arith, room)) in
-            f.still t l
+            let here = in_rows x least t (after + 1) l (omega arith) (omega (arith, room)) in
+            still_told net after period rows dates steps ok f t l
             (⊎_elim
             (λ (a : IsTail (x t) after period Never). inl (here ∙ a (after + 1) (omega arith) (omega (arith, some))))
             (λ (a : IsTail (x t) after period Early). inr (here ∙ a (after + 1) (omega arith) (omega (arith, some))))

@@ -7,10 +7,10 @@
 //! dates of a list. The law [`locally_latest_rows_are_latest`]: such a table of a live net is that
 //! of its latest dates, and no other is; and [`due_rows_are_listed`]: a list says what is due. The
 //! law [`windows_go_on`]: where the least dating moves by steps in a window of its rows, it does so
-//! for ever. By it [`check_settled`] says yes only of rows that show with a period and steps the
-//! least dating at every number; what a no means, no clause says. The crate stands on `teg_model` for what a least dating is, on `teg_due`
-//! for the rows of due dates, on `due_laws` and `latest_laws` for latest dates, and on
-//! `settled_laws` for dates that go on.
+//! for ever. [`check_settled`] tells whether rows move so by a period and steps; by the law they
+//! then show the least dating at every number. The crate stands on `teg_model` for what a least
+//! dating is, on `teg_due` for the rows of due dates, on `due_laws` and `latest_laws` for latest
+//! dates, and on `settled_laws` for dates that go on.
 //! Its examples stand in `library_examples`.
 #![tactic(auto)]
 

@@ -1,7 +1,7 @@
 //! Whether rows of dates show how the least dating of a live net settles (chapter 3).
-ghost use Rattle.std.specs.Prelude.{◌≡◌, IfOk, IsTrue};
+ghost use Rattle.std.specs.Prelude.{◌+◌, ◌≡◌, ◌≤◌, ◌<◌, ◌↔◌, IfOk, IsTrue};
 ghost use Rattle.teg_net.specs.Circuits.{IsLive};
-ghost use Rattle.dating_certificates.specs.SettledRows.{SettlesAs};
+ghost use Rattle.dating_certificates.specs.SettledRows.{AreSettledRows, SettlesAs};
 
 use crate::rows::{check_rows, rows_of};
 use crate::told_form::FormTest;
@@ -13,6 +13,18 @@ use teg_net::{Net, OutOfMemory};
 // Rows of more numbers are not looked at: no memory holds them.
 const MOST_NUMBERS: u64 = 100_000_000_000_000_000;
 
+// Whether so many rows go on past the number by two periods and one number more, and are no more
+// than memory may hold.
+fn has_room(rows: u64, after: u64, period: u64) -> bool
+    ensures { IsTrue result ↔ (rows ≤ 100000000000000000) × (1 ≤ period)
+        × (after + period + period < rows) }
+{
+    if rows > MOST_NUMBERS || after > rows || period > rows || period == 0 {
+        return false;
+    }
+    after + period + period < rows
+}
+
 /// Whether the dates, in the user's unit, are whole rows that show that past a number the least
 /// dating of the net goes on by these steps in each period (chapter 3): the dates are tight, as
 /// [`check_rows`](crate::check_rows) tells; past the number, as far as they go, each date has moved
@@ -23,12 +35,12 @@ const MOST_NUMBERS: u64 = 100_000_000_000_000_000;
 /// the tokens of each place. The steps stand one for each transition in order, 0 where the dates
 /// are never.
 ///
-/// In a live net, where it says yes, the dates are the first rows of the least dating, and the form
-/// that they tell with the period and the steps stands for it: the date of each transition at each
-/// number is that of the form (`settled`). That no shorter period and no less number would do, it
-/// does not tell; and that it says yes wherever all this is so, no clause says. It says no of rows
-/// that go past number 10^17, which no memory holds. It takes memory for one row, and time of order
-/// `n + p` a row for n transitions and p places, and of the length of the input lists.
+/// It says yes just where all this is so (`exact`), and no of rows that go past number 10^17, which
+/// no memory holds. In a live net, where it says yes, the dates are the first rows of the least
+/// dating, and the form that they tell with the period and the steps stands for it: the date of
+/// each transition at each number is that of the form (`settled`). That no shorter period and no
+/// less number would do, it does not tell. It takes memory for one row, and time of order `n + p` a
+/// row for n transitions and p places, and of the length of the input lists.
 pub fn check_settled(
     alloc: Global,
     net: &Net,
@@ -37,6 +49,8 @@ pub fn check_settled(
     dates: &[Date],
     steps: &[i128],
 ) -> Result<bool, OutOfMemory>
+    ensures exact { IfOk result (λ yes. IsTrue yes ↔ AreSettledRows net.now after period dates.now
+        steps.now) }
     ensures settled { IsLive net.now → IfOk result (λ yes. IsTrue yes → SettlesAs net.now after
         period dates.now steps.now) }
 {
@@ -44,10 +58,7 @@ pub fn check_settled(
     let Some(rows) = rows_of(net, dates) else {
         return Ok(false);
     };
-    if rows > MOST_NUMBERS || after > rows || period > rows || period == 0 {
-        return Ok(false);
-    }
-    if after + period + period >= rows || steps.len() != width {
+    if !has_room(rows, after, period) || steps.len() != width {
         return Ok(false);
     }
     let are_first = check_rows(alloc, net, dates)?;

@@ -1,5 +1,5 @@
 //! Whether rows of dates that are told move by steps, as a settled form says (chapter 3).
-ghost use Rattle.std.specs.Prelude.{◌+◌, ◌≡◌, ◌≤◌, ◌<◌, IsTrue, length, option_copied};
+ghost use Rattle.std.specs.Prelude.{◌+◌, ◌≡◌, ◌≤◌, ◌<◌, ◌≤ℤ◌, ◌↔◌, IsTrue, length, option_copied};
 ghost use Rattle.dioid.specs.Dates.{move};
 ghost use Rattle.teg_net.specs.Inputs.{list_of_input};
 ghost use Rattle.teg_net.specs.Nets.{IsInput, IsNet};
@@ -14,7 +14,7 @@ use teg_net::{InputList, Net, PlaceId, TransitionId};
 
 // Whether the second date is the first moved by the step.
 fn is_moved(date: Date, other: Date, step: i128) -> bool
-    ensures { IsTrue result → other ≡ move step date }
+    ensures { IsTrue result ↔ (other ≡ move step date) }
 {
     match (date, other) {
         (Date::Early, Date::Early) | (Date::Never, Date::Never) => true,
@@ -114,7 +114,7 @@ impl<'a> FormTest<'a> {
     // Whether the second date is the first moved by the step of the transition.
     fn has_moved(&self, transition: usize, date: Date, other: Date) -> bool
         requires { transition < length self.now.told.net.transitions }
-        ensures { IsTrue result → other ≡ move (step_told self.now transition) date }
+        ensures { IsTrue result ↔ (other ≡ move (step_told self.now transition) date) }
     {
         let steps = self.steps;
         is_moved(date, other, steps[transition])
@@ -124,7 +124,7 @@ impl<'a> FormTest<'a> {
     fn moves_at(&self, number: u64) -> bool
         requires number { 1 ≤ number }
         requires last { number + self.now.period ≤ self.now.told.numbers }
-        ensures { IsTrue result → MovesAt self.now number }
+        ensures { IsTrue result ↔ MovesAt self.now number }
     {
         for index in 0..self.rows.width() {
             let late = self.rows.date(index, number + self.period);
@@ -137,7 +137,7 @@ impl<'a> FormTest<'a> {
 
     // Whether it is so past the number from which the rows are said to go on.
     fn moves_on(&self) -> bool
-        ensures { IsTrue result → MovesOn self.now }
+        ensures { IsTrue result ↔ MovesOn self.now }
     {
         for number in self.after + 1..self.rows.numbers() - self.period + 1 {
             if !self.moves_at(number) {
@@ -149,7 +149,7 @@ impl<'a> FormTest<'a> {
 
     // Whether the rows have room for the tokens of each place.
     fn has_token_room(&self) -> bool
-        ensures { IsTrue result → HasTokenRoom self.now }
+        ensures { IsTrue result ↔ HasTokenRoom self.now }
     {
         for place in self.rows.places() {
             let room = self.after + u64::from(place.tokens) + self.period + self.period;
@@ -160,24 +160,34 @@ impl<'a> FormTest<'a> {
         true
     }
 
+    // Whether the step of the one transition is at most that of the other.
+    fn step_rises(&self, from: usize, to: usize) -> bool
+        requires from { from < length self.now.told.net.transitions }
+        requires to { to < length self.now.told.net.transitions }
+        ensures { IsTrue result ↔ (step_told self.now from ≤ℤ step_told self.now to) }
+    {
+        let steps = self.steps;
+        steps[from] <= steps[to]
+    }
+
     // Whether the step does not fall along the place.
     fn rises_along(&self, place: PlaceId) -> bool
         requires { place.index < length self.now.told.net.places }
-        ensures { IsTrue result → RisesAlong self.now (place_at self.now.told.net place) }
+        ensures { IsTrue result ↔ RisesAlong self.now (place_at self.now.told.net place) }
     {
         let own = &self.rows.places()[place.index()];
         let from = own.from.index();
         let to = own.to.index();
         let last = self.rows.numbers();
-        if self.rows.date(to, last) == Date::Never || self.rows.date(from, last) == Date::Early {
-            return true;
+        match (self.rows.date(to, last), self.rows.date(from, last)) {
+            (Date::Never, _) | (_, Date::Early) => true,
+            _ => self.step_rises(from, to),
         }
-        self.steps[from] <= self.steps[to]
     }
 
     // Whether no step falls along a place.
     fn steps_rise(&self) -> bool
-        ensures { IsTrue result → StepsRise self.now }
+        ensures { IsTrue result ↔ StepsRise self.now }
     {
         for index in 0..self.rows.places().len() {
             if !self.rises_along(PlaceId::new(index as u32)) {
@@ -190,7 +200,7 @@ impl<'a> FormTest<'a> {
     // Whether the step is 0 of a transition that is never or early from there on.
     fn stays_still(&self, transition: usize) -> bool
         requires { transition < length self.now.told.net.transitions }
-        ensures { IsTrue result → StaysStill self.now transition }
+        ensures { IsTrue result ↔ StaysStill self.now transition }
     {
         match self.rows.date(transition, self.after + 1) {
             Date::At(_) => true,
@@ -200,7 +210,7 @@ impl<'a> FormTest<'a> {
 
     // Whether it is so of each transition.
     fn stay_still(&self) -> bool
-        ensures { IsTrue result → StayStill self.now }
+        ensures { IsTrue result ↔ StayStill self.now }
     {
         for index in 0..self.rows.width() {
             if !self.stays_still(index) {
@@ -216,7 +226,7 @@ impl<'a> FormTest<'a> {
         requires transition { transition.index < length self.now.told.net.transitions }
         requires number { 1 ≤ number }
         requires few { number ≤ 200000000000000000 }
-        ensures { IsTrue result → ReleaseMovesAt self.now transition.index number }
+        ensures { IsTrue result ↔ ReleaseMovesAt self.now transition.index number }
     {
         let net = self.net();
         let (_, period) = self.numbers();
@@ -230,7 +240,7 @@ impl<'a> FormTest<'a> {
     fn release_moves(&self, transition: TransitionId) -> bool
         requires input { IsInput self.now.told.net transition.index }
         requires transition { transition.index < length self.now.told.net.transitions }
-        ensures { IsTrue result → ReleaseMoves self.now transition.index }
+        ensures { IsTrue result ↔ ReleaseMoves self.now transition.index }
     {
         let (after, _) = self.numbers();
         let (long, every) = span_of(self.net(), transition);
@@ -245,7 +255,7 @@ impl<'a> FormTest<'a> {
     // Whether they do if the transition is an input.
     fn input_moves(&self, transition: TransitionId) -> bool
         requires { transition.index < length self.now.told.net.transitions }
-        ensures { IsTrue result → InputMoves self.now transition.index }
+        ensures { IsTrue result ↔ InputMoves self.now transition.index }
     {
         if !self.net().is_input(transition) {
             return true;
@@ -255,7 +265,7 @@ impl<'a> FormTest<'a> {
 
     // Whether the releases of each input do.
     fn releases_move(&self) -> bool
-        ensures { IsTrue result → ReleasesMoveOn self.now }
+        ensures { IsTrue result ↔ ReleasesMoveOn self.now }
     {
         for index in 0..self.rows.width() {
             if !self.input_moves(TransitionId::new(index as u32)) {
@@ -267,7 +277,7 @@ impl<'a> FormTest<'a> {
 
     // Whether the rows show the form.
     pub(crate) fn holds(&self) -> bool
-        ensures { IsTrue result → IsFormTold self.now }
+        ensures { IsTrue result ↔ IsFormTold self.now }
     {
         // The rows and the form are of one size, whatever the tests say.
         let _ = &self.rows;

@@ -7,13 +7,16 @@ use Rattle.dating_certificates.specs.ToldForms.{step_told}
 use Rattle.dating_certificates.proofs.told_form.FormTest.release_moves_at.Goals as goal
 
 pub returns : goal.returns
-returns c = λ yes.
+returns c =
     let f = c.args.self.now in
     let net = f.told.net in
     let t = c.args.transition.index in
     let k = c.args.number in
     let early : c.release-early.result ≡ at_input net t (listed_releases net t k) Early = rw c.net-net.ensures at c.release-early.ensures in
     let late : c.release-late.result ≡ at_input net t (listed_releases net t (k + f.period)) Early = rw (c.net-net.ensures, c.numbers-period.ensures.period) at c.release-late.ensures in
-    let moved : c.release-late.result ≡ move (step_told f t) c.release-early.result = rw c.index.ensures at (c.has_moved.ensures yes) in
-    sym (late ∙ at_input_is net t (listed_releases net t (k + f.period)) Early c.requires.input)
-    ∙ (moved ∙ ap (move (step_told f t)) (early ∙ at_input_is net t (listed_releases net t k) Early c.requires.input))
+    let first = early ∙ at_input_is net t (listed_releases net t k) Early c.requires.input in
+    let second = late ∙ at_input_is net t (listed_releases net t (k + f.period)) Early c.requires.input in
+    let moved = rw c.index.ensures at c.has_moved.ensures in (
+      λ yes. sym second ∙ (moved.0 yes ∙ ap (move (step_told f t)) first),
+      λ h. moved.1 (second ∙ (h ∙ ap (move (step_told f t)) (sym first))),
+    )

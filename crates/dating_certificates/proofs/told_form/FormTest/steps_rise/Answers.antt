@@ -1,4 +1,4 @@
-use Rattle.std.proofs.Common.{◌≡◌, ◌<◌, ◌≤◌, length, sym, ap, arith, ⊎_elim}
+use Rattle.std.proofs.Common.{◌≡◌, ◌<◌, ◌≤◌, length, refl, sym, ap, arith, ⊎_elim}
 use Rattle.std.proofs.lemmas.Bool.{cases_lt}
 use Rattle.std.proofs.lemmas.List.{get_or_default}
 use Rattle.teg_net.specs.Circuits.{no_place}
@@ -10,12 +10,15 @@ loop-index-preserved c = λ q l. ⊎_elim
     (λ (m : c.loop-index.index ≤ q).
     let is : q ≡ c.loop-index.index = omega (arith, m, l) in
     let new_is : c.new.result.index ≡ c.loop-index.index = c.new.ensures in
-    rw is (rw new_is at (c.rises_along.ensures c.if-not-rises_along.false)))
+    rw is (rw new_is at (c.rises_along.ensures.0 c.if-not-rises_along.false)))
     (cases_lt q c.loop-index.index)
 
 pub returns : goal.returns
-returns c = λ yes k d l.
-    let places = c.args.self.now.told.net.places in
-    let told : places ≡ c.self.inside.rows.now.net.places = sym (ap (λ f. f.told.net.places) c.self.view_is) in
-    let end : length places ≤ c.loop-index.index = rw (c.places-index-end.ensures.value, ← told) at c.loop-index-test.false in
-    rw (get_or_default places k d no_place l) (c.loop-index.invariant k (omega (arith, l, end)))
+returns c = (
+  λ yes k d l.
+      let places = c.args.self.now.told.net.places in
+      let told : places ≡ c.self.inside.rows.now.net.places = sym (ap (λ f. f.told.net.places) c.self.view_is) in
+      let end : length places ≤ c.loop-index.index = rw (c.places-index-end.ensures.value, ← told) at c.loop-index-test.false in
+      rw (get_or_default places k d no_place l) (c.loop-index.invariant k (omega (arith, l, end))),
+  λ h. refl,
+)
