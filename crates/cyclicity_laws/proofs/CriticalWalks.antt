@@ -1,4 +1,4 @@
--- A path of a net without gaining circuits meets a critical circuit, or loses by each of its circuits.
+-- A path in which no circuit exceeds a ratio meets a critical circuit, or loses by each of its circuits.
 use Rattle.std.proofs.Common.{ℕ, ◌+◌, ◌*◌, ◌<◌, ◌≤◌, ◌≡◌, ◌⊎◌, inl, inr, List, ◌++◌, length, subst, sym, arith, ⊎_elim}
 use Rattle.std.specs.Prelude.{sum_by}
 use Rattle.std.proofs.lemmas.Bool.{cases_lt}
@@ -6,11 +6,12 @@ use Rattle.std.proofs.Math.Nat.{mul-le-mul_left, mul-le-mul_right}
 use Rattle.bound_laws.specs.teg_net.declared.entries.PlaceId.{PlaceId}
 use Rattle.bound_laws.specs.teg_net.Limits.{greatest_hold, most_place_tokens}
 use Rattle.bound_laws.specs.teg_net.Nets.{NetLists, IsNet}
-use Rattle.bound_laws.specs.teg_net.Circuits.{no_place, place_at, IsPathBetween, IsCircuit, time_of, tokens_of}
+use Rattle.bound_laws.specs.teg_net.Circuits.{no_place, place_at, IsPathBetween, time_of, tokens_of}
 use Rattle.bound_laws.proofs.teg_net_proofs.PathLaws.{IsPathBetween-append}
 use Rattle.bound_laws.proofs.teg_loops_proofs.Taking.{loop_sum, by_loops, sum_most}
 use Rattle.bound_laws.proofs.teg_loops_proofs.Visits.{Meets, joined_meets, still_meets}
 use Rattle.bound_laws.specs.Critical.{IsCriticalAt}
+use Rattle.slope_laws.specs.teg_loops.Loops.{IsCircuitTowards}
 use Rattle.slope_laws.proofs.WalkPaths.{ends_below, tokens_round}
 
 -- the path meets a transition of a critical circuit
@@ -41,9 +42,9 @@ loses_more b C a P t1 t2 k1 k2 time tokens q e f h l m w =
     let three : C * (q + 1) ≡ C * q + C = grind arith in
     (omega (arith, one, two, h, m), omega (arith, three, l, w, f))
 
-pub meets_or_loses : (net : NetLists) (a b : ℕ) → IsNet net → ((ps : List PlaceId) → IsCircuit net ps → b * time_of net ps ≤ a * tokens_of net ps)
-    → (j t : ℕ) → t < length net.transitions → (ps : List PlaceId) → IsPathBetween net j ps t → MeetsCritical net a b t ps ⊎ LosesMuch net a b ps
-meets_or_loses net a b ok greatest j t lt ps h = by_loops net (length net.transitions) j t (λ qs. MeetsCritical net a b t qs ⊎ LosesMuch net a b qs) (ends_below net ok) lt
+pub meets_or_loses : (net : NetLists) (a b : ℕ) → IsNet net → (j t : ℕ) → ((ps : List PlaceId) → IsCircuitTowards net t ps → b * time_of net ps ≤ a * tokens_of net ps)
+    → t < length net.transitions → (ps : List PlaceId) → IsPathBetween net j ps t → MeetsCritical net a b t ps ⊎ LosesMuch net a b ps
+meets_or_loses net a b ok j t greatest lt ps h = by_loops net (length net.transitions) j t (λ qs. MeetsCritical net a b t qs ⊎ LosesMuch net a b qs) (ends_below net ok) lt
     (λ qs g l.
     let few : tokens_of net qs ≤ most_tokens net = short (λ p. (place_at net p).tokens) most_place_tokens qs g l (λ id m. (ok.each_place id.index no_place m).tokens_in) in
     let soon : time_of net qs ≤ most_time net = short (λ p. (place_at net p).hold) greatest_hold qs g l (λ id m. (ok.each_place id.index no_place m).hold_in) in
@@ -59,7 +60,7 @@ meets_or_loses net a b ok greatest j t lt ps h = by_loops net (length net.transi
       critical = m.critical;
     }))
     (λ (o : LosesMuch net a b (loop.before ++ loop.after)).
-    let ratio = greatest loop.loop loop.circuit in
+    let ratio = greatest loop.loop (record { circuit = loop.circuit; at = loop.at; round = loop.closed; towards = (loop.after, loop.last) }) in
     ⊎_elim
     (λ (less : b * time_of net loop.loop < a * tokens_of net loop.loop).
     let both = loses_more b (most_tokens net) a (most_time net) (time_of net (loop.before ++ loop.after)) (time_of net loop.loop)

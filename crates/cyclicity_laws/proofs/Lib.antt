@@ -1,3 +1,9 @@
 pub mod Rounds
 pub mod CriticalWalks
+pub mod ListStarts
+pub mod Lines
+pub mod RepeatsTowards
 pub mod Cyclic
+pub mod Reached
+pub mod CommonNumbers
+pub mod TransferPeriods

@@ -37,11 +37,13 @@ pub record IsCircuitOfCriticalPart (net : NetLists) (a b c : ℕ) (ps : List Pla
 abbrev pub IsMultipleOfGcd : NetLists → List (List PlaceId) → ℕ → Type 0
 IsMultipleOfGcd net circuits L = (d : ℕ) → All (λ ps. d ∣ tokens_of net ps) circuits → d ∣ L
 
--- of each strong part of the critical graph, L is a multiple of the greatest common divisor of the tokens of some of its circuits
+-- of the strong part of the critical graph in which c is, L is a multiple of the greatest common divisor of the tokens of some circuits
+abbrev pub IsCommonOfPart : NetLists → ℕ → ℕ → ℕ → ℕ → Type 0
+IsCommonOfPart net a b c L = (circuits : List (List PlaceId)) × All (IsCircuitOfCriticalPart net a b c) circuits × IsMultipleOfGcd net circuits L
+
+-- L is such a number for each strong part of the critical graph
 abbrev pub IsCommonByParts : NetLists → ℕ → ℕ → ℕ → Type 0
-IsCommonByParts net a b L =
-    (c : ℕ) (ps : List PlaceId) → IsCriticalAt net a b c ps
-    → (circuits : List (List PlaceId)) × All (IsCircuitOfCriticalPart net a b c) circuits × IsMultipleOfGcd net circuits L
+IsCommonByParts net a b L = (c : ℕ) (ps : List PlaceId) → IsCriticalAt net a b c ps → IsCommonOfPart net a b c L
 
 -- the period of the shortest settled form of the least dating divides each such number
 abbrev pub PeriodsDivideByParts : Type 0

@@ -1,1 +1,3 @@
 pub mod CriticalParts
+pub mod PartsTowards
+pub mod Reached

@@ -1,8 +1,10 @@
 //! The laws of strongly connected nets. Each is a function that does nothing when it runs: its
 //! contract is the law.
 ghost use Rattle.cyclicity_laws.specs.CriticalParts.{CommonMultiplesAreByParts, DatesGrowByCycleTime, PeriodsDivideByParts};
+ghost use Rattle.cyclicity_laws.specs.PartsTowards.{DatesRepeatByParts, PeriodsDivideOfNets};
+ghost use Rattle.cyclicity_laws.specs.Reached.{CommonByPartsExist, CommonOfNetsExist, CommonTowardsExist, CyclicityIsByParts, TransfersAreCommon, TransfersDivideByParts, TransfersExist};
 
-use periodic_laws::least_datings_repeat;
+use periodic_laws::{least_datings_repeat, systems_settle};
 
 /// The cycle time: the dates of every transition of a strongly connected live net without inputs
 /// grow by its greatest ratio `a / b`: `b x(t, k)` stays between `a k - c` and `a k + d` for two
@@ -32,4 +34,57 @@ pub fn periods_divide_by_parts()
     ensures single { CommonMultiplesAreByParts }
 {
     least_datings_repeat();
+}
+
+/// Cyclicity with inputs and several parts: in a live net the dates of a transition that no ended
+/// list reaches repeat by every common multiple `L` of what leads to it at its slope `a / b`: of
+/// each strong part of the critical graph the greatest common divisor of the tokens of its
+/// circuits, and of each input list that goes on with this ratio its `every`. Past some number
+/// `x(t, k + L)` is `x(t, k)` and a step `S` with `b S = a L`. Circuits and lists that are slower
+/// do not count; where the slope is 0, the dates repeat by 1. So the period of the whole net
+/// divides each number that is common for every such transition, whatever its other transitions
+/// do: their dates are `Never` from some number on (chapter 3).
+///
+/// An input lists the dates 0, 1, 5 and then comes 6 later each 3 firings; `loop` has a place back
+/// to itself of 2 tokens and hold 4; `out` takes one from each at once. All go on at 2 for each
+/// firing, and the dates of `out`, 0, 1, 5, 6, 8, 11, 12, 13, 17, 18, 20, 23, have the period 6:
+/// neither 2, which the loop alone has, nor 3, which the input has. For a strongly connected net
+/// without inputs this is `periods_divide_by_parts`.
+pub fn dates_repeat_by_parts()
+    ensures dates { DatesRepeatByParts }
+    ensures periods { PeriodsDivideOfNets }
+{
+    least_datings_repeat();
+}
+
+/// In each live net there are numbers such as the laws of cyclicity ask for: the product of all
+/// whole numbers up to `1,000 n`, for `n` transitions, is common by the parts at every ratio,
+/// towards each transition at every rate, and for the net, whatever its ready dates, inputs and
+/// parts are (chapter 3). The least common multiple is far below it.
+pub fn common_numbers_exist()
+    ensures parts { CommonByPartsExist }
+    ensures towards { CommonTowardsExist }
+    ensures nets { CommonOfNetsExist }
+{
+    least_datings_repeat();
+}
+
+/// The cyclicity is by parts: a number is a multiple of the periods of all transfers of a strongly
+/// connected live net, the greatest times of walks from one transition to the others, just where it
+/// is, of each strong part of the critical graph, a multiple of the greatest common divisor of the
+/// tokens of its circuits; so the least such numbers are one (`is`). The period of a transfer
+/// divides each number that is common by parts (`divide`), and it is a multiple of the divisor of
+/// the part in which its transition is, in every live net in which no circuit that leads to it is
+/// above the ratio (`common`). Each transition of a live net has a transfer (`exist`) (chapter 3).
+///
+/// The period of a least dating may be a proper divisor of it: `loop` with a place back to itself
+/// of 2 tokens and hold 4 fires at 0, 0, 4, 4, .. with the period 2, but at 0, 2, 4, 6, .. with the
+/// period 1 where its second token is ready at 2. Where the ratio is 0 the periods are 1.
+pub fn cyclicity_is_by_parts()
+    ensures is { CyclicityIsByParts }
+    ensures divide { TransfersDivideByParts }
+    ensures common { TransfersAreCommon }
+    ensures exist { TransfersExist }
+{
+    systems_settle();
 }

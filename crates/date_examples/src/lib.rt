@@ -12,6 +12,10 @@ mod one_dates;
 #[cfg(test)]
 mod own_rows;
 #[cfg(test)]
+mod plan_tables;
+#[cfg(test)]
 mod settled_rows;
+#[cfg(test)]
+mod shortest_rows;
 #[cfg(test)]
 mod streams;

@@ -3,6 +3,8 @@ pub mod RowWaits
 pub mod WholeRows
 pub mod LeastRows
 pub mod SolvedRows
+pub mod PlanRows
 pub mod SettledWindows
 pub mod ListedDues
 pub mod ToldForms
+pub mod ShortestRows

@@ -140,7 +140,7 @@ rows_more told rows met k j r b l r_is h is =
     ))
 
 -- past the numbers all dates are never
-never_past : (net : NetLists) (numbers : ℕ) (dates : List Date) (t k : ℕ) → numbers < k → date_up_to numbers (length net.transitions) dates t k ≡ Never
+pub never_past : (net : NetLists) (numbers : ℕ) (dates : List Date) (t k : ℕ) → numbers < k → date_up_to numbers (length net.transitions) dates t k ≡ Never
 never_past net numbers dates t k l = let b : leb k numbers ≡ false = grind (arith, nat_tests) in rw b refl
 
 -- what the checks of all rows and numbers tell
@@ -259,12 +259,12 @@ solve_solved net rows due numbers dates ok rules lists h = (
 
 pub local_latest : LocallyLatestRowsAreLatest
 local_latest net ok live due numbers dates = (
-  λ h. record { whole = h.whole; latest = solutions_are_latest net ok live due numbers (date_up_to numbers (length net.transitions) dates) h.solve },
+  λ h. record { whole = h.whole; latest = solutions_are_latest net (net_ends net ok) live due numbers (date_up_to numbers (length net.transitions) dates) h.solve },
   λ h. record {
     whole = h.whole;
     solve = record {
       never = λ t k l m. never_past net numbers dates t k m;
-      equations = least_ahead net ok due (date_up_to numbers (length net.transitions) dates) h.latest;
+      equations = least_ahead net (net_ends net ok) due (date_up_to numbers (length net.transitions) dates) h.latest;
     };
   },
 )

@@ -79,7 +79,7 @@ release_goes_on f t long every g h k l =
     goes_on_again (listed_releases f.told.net t) long every g.gap f.after (f.after + long) f.period (step_told f t) (record { at_least_one = g.some; again = g.again })
     (omega arith) (omega arith) h k l
 
-told_in : (numbers width : ℕ) (dates : List Date) (t k : ℕ) → k ≤ numbers → date_up_to numbers width dates t k ≡ date_in_rows width dates t k
+pub told_in : (numbers width : ℕ) (dates : List Date) (t k : ℕ) → k ≤ numbers → date_up_to numbers width dates t k ≡ date_in_rows width dates t k
 told_in numbers width dates t k l = let b : leb k numbers ≡ true = grind (arith, nat_tests) in rw b refl
 
 -- a window is one of all dates that are the same there

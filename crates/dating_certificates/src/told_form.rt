@@ -103,7 +103,7 @@ impl<'a> FormTest<'a> {
     }
 
     // The number past which the rows are said to go on, and the period.
-    fn numbers(&self) -> (u64, u64)
+    pub(crate) fn numbers(&self) -> (u64, u64)
         ensures after { result.0 ≡ self.now.after }
         ensures period { result.1 ≡ self.now.period }
         ensures sized { IsFormSized self.now }
@@ -121,7 +121,7 @@ impl<'a> FormTest<'a> {
     }
 
     // Whether a period after this number each date has moved by its step.
-    fn moves_at(&self, number: u64) -> bool
+    pub(crate) fn moves_at(&self, number: u64) -> bool
         requires number { 1 ≤ number }
         requires last { number + self.now.period ≤ self.now.told.numbers }
         ensures { IsTrue result ↔ MovesAt self.now number }

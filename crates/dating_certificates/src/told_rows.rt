@@ -15,7 +15,7 @@ use teg_due::DueRow;
 use teg_net::{FiringNumber, Net, Place, PlaceId};
 
 // Whether the first date is at most the second.
-fn is_at_most(date: Date, other: Date) -> bool
+pub(crate) fn is_at_most(date: Date, other: Date) -> bool
     ensures { IsTrue result ↔ IsAtMostDate date other }
 {
     match (date, other) {

@@ -6,7 +6,7 @@ use Rattle.teg_model.specs.dioid.declared.dates.Date.{Date}
 use Rattle.teg_model.specs.teg_net.Nets.{NetLists}
 use Rattle.teg_model.specs.teg_net.Circuits.{IsLive}
 use Rattle.teg_model.specs.Datings.{IsLeastDating}
-use Rattle.settled_laws.specs.SettledForms.{SettledForm, row_of, step_of_form, settled_date, StandsFor}
+use Rattle.settled_laws.specs.SettledForms.{SettledForm, row_of, step_of_form, settled_date, StandsFor, IsSettledFormOf}
 use Rattle.teg_text.specs.Lines.{written}
 use Rattle.teg_text.specs.ValueWords.{date_word}
 use Rattle.teg_text.specs.WordsOfNames.{name_of_transition, settled_words}
@@ -21,12 +21,14 @@ form_line net f t =
 abbrev pub lines_of_form : NetLists → SettledForm → List (List (List ℕ))
 lines_of_form net f = settled_words f.after f.period ∷ map (form_line net f) (range_with_len 0 (length net.transitions))
 
--- the form stands for the least dating, and the date of each transition at each number is that of the form
+-- the form stands for the least dating, the date of each transition at each number is that of the form, and it is the
+-- shortest: no less number and no shorter period would do
 pub record TellsLeastDating (net : NetLists) (f : SettledForm) : Type 0 where
   pub stands : (x : ℕ → ℕ → Date) → IsLeastDating net x → StandsFor (length net.transitions) f x
   pub tells : (x : ℕ → ℕ → Date) → IsLeastDating net x → (t k : ℕ) → t < length net.transitions → 1 ≤ k → settled_date f t k ≡ x t k
+  pub shortest : IsSettledFormOf net f
 
--- the text is that of a form of this number and this period, which in a live net tells the least dating at each number
+-- the text is that of a form of this number and this period, which in a live net is its settled form
 abbrev pub IsShownSettled : NetLists → List ℕ → ShownSettled → Type 0
 IsShownSettled net text shown = (f : SettledForm) × (f.after ≡ shown.after) × (f.period ≡ shown.period)
     × (text ≡ written (lines_of_form net f)) × (IsLive net → TellsLeastDating net f)

@@ -10,11 +10,13 @@ use Rattle.teg_model.specs.teg_net.declared.walks.Step.{Step}
 use Rattle.teg_model.specs.teg_net.declared.walks.Step.TheVariants.{By, Next}
 use Rattle.teg_model.specs.teg_net.Nets.{NetLists}
 use Rattle.teg_model.specs.teg_net.Circuits.{IsLive}
+use Rattle.due_laws.specs.MeetingDueDates.{AreLatestInputs}
 use Rattle.teg_due.specs.declared.rows.DueRow.{DueRow}
 use Rattle.teg_text.specs.Lines.{written}
 use Rattle.teg_text.specs.WordsOfNames.{name_of_place, name_of_transition, no_transition}
 use Rattle.dating_certificates.specs.CheckedRows.{date_in_rows}
-use Rattle.dating_certificates.specs.LatestRows.{AreLatestRows, ListsDues}
+use Rattle.dating_certificates.specs.LatestRows.{date_up_to, ListsDues}
+use Rattle.dating_certificates.specs.PlanRows.{ArePlanRows}
 
 -- how lines of a transition begin
 abbrev pub role_told : Role → List ℕ
@@ -57,7 +59,13 @@ table_told_lines net width numbers dates ways =
     (codes "latest" ∷ codes "inputs" ∷ codes "for" ∷ decimal numbers ∷ codes "firings" ∷ [])
     ∷ flat_map (firing_lines net width numbers dates ways) (range_with_len 0 (length net.transitions))
 
--- the text is a table up to this number, and in a live net its dates are the latest dates for what the rows list
+-- the dates are those of a plan: the latest dates of the net, where inputs at 0 meet what is due; at the inputs they are the
+-- latest inputs that meet it
+pub record IsPlanTold (net : NetLists) (due : ℕ → ℕ → Option ℕ) (numbers : ℕ) (dates : List Date) : Type 0 where
+  pub rows : ArePlanRows net due numbers dates
+  pub inputs : AreLatestInputs net due (date_up_to numbers (length net.transitions) dates)
+
+-- the text is a table up to this number, and in a live net its dates are those of a plan for what the rows list
 abbrev pub IsShownTable : NetLists → List DueRow → List ℕ → ℕ → Type 0
 IsShownTable net rows text numbers = (dates : List Date) × (ways : List (Option Step)) × (text ≡ written (table_told_lines net (length net.transitions) numbers dates ways))
-    × (IsLive net → (due : ℕ → ℕ → Option ℕ) → ListsDues rows due → AreLatestRows net due numbers dates)
+    × (IsLive net → (due : ℕ → ℕ → Option ℕ) → ListsDues rows due → IsPlanTold net due numbers dates)

@@ -10,7 +10,7 @@ ghost use Rattle.teg_text.specs.WordsOfNames.{name_of_transition};
 ghost use Rattle.dating_check.specs.ShownForms.{IsShownSettled, form_line, lines_of_form};
 
 use crate::settled_reading::settled_in;
-use dating_certificates::check_settled;
+use dating_certificates::check_shortest;
 use dioid::Date;
 use std::alloc::{AllocError, Global};
 use teg_net::{Net, OutOfMemory};
@@ -133,10 +133,11 @@ fn lines_of(alloc: Global, net: &Net, form: FormRows<'_>) -> Result<String, Allo
 
 /// The number and the period that the text of `teg dates` tells, where its dates and steps show of
 /// a live net that they tell the least dating: the date of each transition at each number is that
-/// of the form of the text (chapter 3). The whole text is looked at. That no less number and no
-/// shorter period would do, it does not tell. It takes memory for the dates that are told, for
-/// those of another period and of the tokens of a place, and for the text; and time of their order
-/// with the places of the net. `OutOfMemory` comes only where no memory is found.
+/// of the form of the text, and no less number and no shorter period would do (chapter 3). The whole
+/// text is looked at. It takes memory for the dates that are told, for those of another period and
+/// of the tokens of a place, and for the text; and time of their order with the places of the net,
+/// and for each number that divides the period that of one period. `OutOfMemory` comes only where
+/// no memory is found.
 pub fn shown_settled(
     alloc: Global,
     net: &Net,
@@ -152,7 +153,7 @@ pub fn shown_settled(
     let Some(count) = count_of(net, after, period, dates, steps) else {
         return Ok(None);
     };
-    if !check_settled(alloc, net, after, period, dates, steps)? {
+    if !check_shortest(alloc, net, after, period, dates, steps)? {
         return Ok(None);
     }
     let form = FormRows {

@@ -4,7 +4,7 @@ ghost use Rattle.teg_text.specs.Lines.{further_then, line_then, written};
 ghost use Rattle.dating_check.specs.ShownTables.{IsShownTable, IsWayIn, firing_line, firing_lines, role_told, table_told_lines, way_words};
 
 use crate::table_reading::table_in;
-use dating_certificates::check_latest;
+use dating_certificates::check_plan;
 use dioid::Date;
 use std::alloc::{AllocError, Global};
 use teg_due::{Due, is_due_of};
@@ -148,13 +148,15 @@ fn lines_of(alloc: Global, net: &Net, rows: TableRows<'_>) -> Result<String, All
     Ok(text)
 }
 
-/// The number of firings that the text of `teg jit` tells, where its dates are shown to be the
-/// latest of a live net for these due dates (chapter 5): up to that number the date of each line is
-/// that of its firing, a firing that is `free` has none, and past it all firings are free. The
-/// whole text is looked at, but not whether a walk leads on by the step that a line names, as
-/// [`shown_latest`](witness_check::shown_latest) does. No rows that are no due list of the net show
-/// anything. It takes memory for the dates, the steps and the text, and time of their order with
-/// the places and the due dates. `OutOfMemory` comes only where no memory is found.
+/// The number of firings that the text of `teg jit` tells, where its dates are shown to be those of
+/// a plan of a live net for these due dates (chapter 5): inputs at 0 meet what is due, up to that
+/// number the date of each line is the latest of its firing, a firing that is `free` has none, and
+/// past it all firings are free; so the lines of inputs tell the latest inputs. Latest dates that no
+/// inputs keep show nothing. The whole text is looked at, but not whether a walk leads on by the
+/// step that a line names, as [`shown_latest`](witness_check::shown_latest) does. No rows that are
+/// no due list of the net show anything. It takes memory for the dates, the steps and the text, and
+/// time of their order with the places and the due dates. `OutOfMemory` comes only where no memory
+/// is found.
 pub fn shown_table(
     alloc: Global,
     net: &Net,
@@ -172,7 +174,7 @@ pub fn shown_table(
     if !is_whole(net, numbers, dates, ways) || !are_ways_in(net, ways) || !is_due_of(net, due) {
         return Ok(None);
     }
-    if !check_latest(alloc, net, due, numbers, dates)? {
+    if !check_plan(alloc, net, due, numbers, dates)? {
         return Ok(None);
     }
     let rows = TableRows {

@@ -17,7 +17,8 @@ use Rattle.teg_model.proofs.DateFunctions.{Dating}
 use Rattle.teg_model.proofs.Delays.{delayed_twice}
 use Rattle.teg_model.proofs.OfNet.{all_extended_in}
 use Rattle.teg_model.proofs.Tokens.{available_after, available_first, place_keeps, implicit_keeps, dates_climb, not_before_zero}
-use Rattle.dating_laws.specs.SlowerNets.{IsSlowerPlace, SlowerNetsAreLater}
+use Rattle.change_laws.specs.SlowerNets.{IsSlowerPlace, IsReadyNoLater}
+use Rattle.dating_laws.specs.SlowerNets.{SlowerNetsAreLater}
 
 -- the dates of a feasible dating rise over any numbers
 pub climb : (net : NetLists) (u x : Dating) → IsFeasibleUnder net u x → (t k : ℕ) → t < length net.transitions → 1 ≤ k → (n : ℕ) → IsAtMostDate (x t k) (x t (k + n))
@@ -33,7 +34,7 @@ longer_hold g h d l =
     subst (λ n. IsAtMostDate (delayed g d) (delayed n d)) e (rw (delayed_twice g (h - g) d) (delayed_later (h - g) (delayed g d)))
 
 module _ (slower : NetLists) (ok : IsNet slower) (v y : Dating) (f : IsFeasibleUnder slower v y) (i : ℕ) (l : i < length slower.places)
-    (p : Place) (h : IsSlowerPlace p (get_or slower.places i no_place)) where
+    (p : Place) (h : IsSlowerPlace p (get_or slower.places i no_place)) (ready : IsReadyNoLater p (get_or slower.places i no_place)) where
   abbrev q : Place
   q = get_or slower.places i no_place
 
@@ -62,7 +63,7 @@ module _ (slower : NetLists) (ok : IsNet slower) (v y : Dating) (f : IsFeasibleU
       let held = at_most_trans (delayed p.hold a) (delayed q.hold a) (delayed q.hold b) (longer_hold p.hold q.hold a h.holds) (delayed_rises q.hold a b rises) in
       rw (available_after initial_date y p k a m (ap (λ t. y t j) h.same_from)) (at_most_trans (delayed p.hold a) (delayed q.hold b) (y to k) held there))
       (λ (m : k ≤ p.tokens).
-      let early = h.ready k o m in
+      let early = ready k o m in
       let first : IsAtMostDate (At (pos (ready_date p k))) (At (pos (ready_date q k))) = omega (arith, ints, early) in
       let there : IsAtMostDate (At (pos (ready_date q k))) (y to k) =
       ⊎_elim
@@ -76,12 +77,11 @@ module _ (slower : NetLists) (ok : IsNet slower) (v y : Dating) (f : IsFeasibleU
 pub slower_later : SlowerNetsAreLater
 slower_later net slower ok s u v x y before least late t k in' o =
     let f = late.feasible in
-    let count = s.count in
     let many = ap length s.transitions in
     least.least y
     (record {
       places = λ j one. all_extended_in net (λ p. IsAtMostDate (available_at y p j) (y p.to.index j))
-          (λ i d l. rw (get_or_default net.places i d no_place l) (kept slower ok v y f i (omega (arith, count, l)) (get_or net.places i no_place) (s.each i l) j one))
+          (λ i d l. let w = s.each (record { index = i }) l in rw (get_or_default net.places i d no_place l) (kept slower ok v y f w.0.index w.1 (get_or net.places i no_place) w.2 w.3 j one))
           (λ a m. implicit_keeps slower v y f a j (omega (arith, many, m)) one);
       inputs = λ a j one i. at_most_trans (u a j) (v a j) (y a j) (before a j one i) (f.inputs a j one (rw s.transitions at i));
     })

@@ -33,12 +33,13 @@ pub fn no_shift_grows()
     ensures { NoShiftGrows }
 {}
 
-/// Dates rise with the net: where a net has the places of another between the same transitions,
-/// none with a shorter holding time, none with more tokens and none whose tokens are ready earlier,
-/// none of its least dates is earlier, also under later releases (chapter 2). A token that the
-/// quicker net has beyond those of the slower one has to be ready at 0: one more token, ready at 5,
-/// before a transition that had one token, ready at 0, on a place of hold 1 that comes from an
-/// input released at 0, puts off its second firing from 1 to 5.
+/// Dates rise with the net: where a net has for each place of another a slower one, between the
+/// same transitions, with no shorter holding time, no more tokens and none that is ready earlier,
+/// none of its least dates is earlier, also under later releases (chapter 2); it may have further
+/// places. A token that the quicker net has beyond those of the slower one has to be ready at 0:
+/// one more token, ready at 5, before a transition that had one token, ready at 0, on a place of
+/// hold 1 that comes from an input released at 0, puts off its second firing from 1 to 5. Changes
+/// of one place that make a net slower are told by `change_laws`.
 pub fn dates_rise_with_the_net()
     ensures { SlowerNetsAreLater }
 {}

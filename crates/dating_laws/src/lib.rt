@@ -3,10 +3,10 @@
 //!
 //! Later releases lead to later dates; the later of two releases has the later of the two least
 //! datings, so dates superpose; releases that are moved move no date by more; feasible datings have
-//! the earlier of two among them; and a net with longer holding times or fewer tokens has later
-//! dates. Each law is the contract of a function that does nothing when it runs. The crate stands
-//! on `teg_model` for datings, on `teg_net` for nets and on `dioid` for dates; no crate of the
-//! program stands on it.
+//! the earlier of two among them; and a net with longer holding times, fewer tokens or further
+//! places has later dates. Each law is the contract of a function that does nothing when it runs.
+//! The crate stands on `change_laws` for slower nets, on `teg_model` for datings, on `teg_net` for
+//! nets and on `dioid` for dates; no crate of the program stands on it.
 #![tactic(auto)]
 
 mod laws;

@@ -1,5 +1,6 @@
 pub mod Commuting
 pub mod CommutingGains
+pub mod FeedbackFacts
 pub mod OrderFacts
 pub mod ResidualFacts
 pub mod SquareStars

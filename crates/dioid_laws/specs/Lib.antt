@@ -1,5 +1,6 @@
 pub mod Commuting
 pub mod DioidOrder
+pub mod Feedback
 pub mod ResidualIdentities
 pub mod SquareMatrices
 pub mod StarIdentities

@@ -3,6 +3,7 @@
 ghost use Rattle.std.specs.Prelude.{ℕ};
 ghost use Rattle.dioid_laws.specs.Commuting.{ProductsCommute};
 ghost use Rattle.dioid_laws.specs.DioidOrder.{IsOrderOfSums};
+ghost use Rattle.dioid_laws.specs.Feedback.{EquationsAreSolvedByResiduals, FeedbackLaws};
 ghost use Rattle.dioid_laws.specs.ResidualIdentities.{ResidualIdentities};
 ghost use Rattle.dioid_laws.specs.SquareMatrices.{SquaresAreDioid, SquaresHaveResiduals, SquaresHaveStars, square_dioid, square_residuals, square_stars};
 ghost use Rattle.dioid_laws.specs.StarIdentities.{StarIdentities};
@@ -76,4 +77,20 @@ pub fn products_commute()
     ensures dates { ProductsCommute ⟦<Date as Dioid>⟧ }
     ensures flags { ProductsCommute ⟦<Flag as Dioid>⟧ }
     ensures series { ProductsCommute ⟦<Gain as Dioid>⟧ }
+{}
+
+/// Feedback that keeps a transfer: `(h f)* h` is `h` just where `h f h` is at most `h`; where
+/// products commute that is where `f` is at most `(h h)\h`, the greatest such feedback (chapter 6).
+pub fn feedback_keeps_transfers<D: Kleene + Residuated>()
+    ensures elements { FeedbackLaws D.Dioid D.Kleene.own D.Residuated.own }
+    ensures squares { (n : ℕ) → FeedbackLaws (square_dioid D.Dioid n)
+        (square_stars D.Dioid D.Kleene.own n) (square_residuals D.Dioid D.Residuated.own n) }
+{}
+
+/// Equations: some `x` has `a x = b` just where `a\b`, the greatest with `a x` at most `b`, has it
+/// (chapter 4).
+pub fn equations_are_solved_by_residuals<D: Residuated>()
+    ensures elements { EquationsAreSolvedByResiduals D.Dioid D.Residuated.own }
+    ensures squares { (n : ℕ) → EquationsAreSolvedByResiduals (square_dioid D.Dioid n)
+        (square_residuals D.Dioid D.Residuated.own n) }
 {}

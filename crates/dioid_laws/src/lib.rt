@@ -13,7 +13,7 @@
 mod laws;
 
 pub use laws::{
-    products_commute, residuals_are_lawful, square_matrices_are_a_dioid,
-    square_matrices_have_residuals, square_matrices_have_stars, stars_are_lawful,
-    stars_have_residuals, sums_are_ordered,
+    equations_are_solved_by_residuals, feedback_keeps_transfers, products_commute,
+    residuals_are_lawful, square_matrices_are_a_dioid, square_matrices_have_residuals,
+    square_matrices_have_stars, stars_are_lawful, stars_have_residuals, sums_are_ordered,
 };

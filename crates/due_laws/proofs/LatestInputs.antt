@@ -15,7 +15,7 @@ use Rattle.teg_model.specs.LiveRanks.{HasEndsInRange}
 use Rattle.teg_model.specs.Datings.{implicit_place, extended_places, initial_date, available_at, IsFeasibleUnder, IsLeastUnder, system_of}
 use Rattle.teg_model.proofs.LeastOver.{least_over}
 use Rattle.teg_model.proofs.LiveRanks.{live_is_ranked}
-use Rattle.teg_model.proofs.OfNet.{net_ends, all_extended_in, least_of, least_of_system}
+use Rattle.teg_model.proofs.OfNet.{all_extended_in, least_of, least_of_system}
 use Rattle.teg_model.proofs.Tokens.{available_after, available_first, implicit_after, place_keeps, implicit_keeps, not_before_zero}
 use Rattle.teg_model.proofs.DateFunctions.{Dating}
 use Rattle.due_laws.specs.MeetingDueDates.{KeepsDues, inputs_at_zero}
@@ -71,7 +71,7 @@ input_in net t i =
 
 pub latest_dates_are_inputs : LatestDatesAreLatestInputs
 latest_dates_are_inputs net ok live due zero y l =
-    let ends = net_ends net ok in
+    let ends = ok in
     let ranked = live_is_ranked net ends live in
     let x : Dating = zero.0 in
     let f = zero.1.feasible in
@@ -97,7 +97,7 @@ latest_dates_are_inputs net ok live due zero y l =
 
 pub zero_meets : ZeroInputsMeet
 zero_meets net ok live due v meets =
-    let ends = net_ends net ok in
+    let ends = ok in
     let ranked = live_is_ranked net ends live in
     let x : Dating = meets.0 in
     let f = meets.1.feasible in

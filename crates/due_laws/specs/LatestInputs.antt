@@ -2,7 +2,8 @@
 use Rattle.std.specs.Prelude.{ℕ, ◌≡◌, ◌↔◌, List, Option, Some}
 use Rattle.teg_model.specs.dioid.declared.dates.Date.{Date}
 use Rattle.teg_model.specs.dioid.declared.dates.Date.TheVariants.{Never}
-use Rattle.teg_model.specs.teg_net.Nets.{NetLists, IsNet}
+use Rattle.teg_model.specs.LiveRanks.{HasEndsInRange}
+use Rattle.teg_model.specs.teg_net.Nets.{NetLists}
 use Rattle.teg_model.specs.teg_net.Circuits.{IsLive}
 use Rattle.teg_model.specs.teg_net.declared.walks.Step.{Step}
 use Rattle.teg_model.specs.teg_net.Walks.{Walks}
@@ -11,12 +12,12 @@ use Rattle.due_laws.specs.LatestDates.{IsLatestDate, AreLatestDates}
 
 -- where inputs at 0 meet the due dates, the latest dates are the latest inputs
 abbrev pub LatestDatesAreLatestInputs : Type 0
-LatestDatesAreLatestInputs = (net : NetLists) → IsNet net → IsLive net → (due : ℕ → ℕ → Option ℕ) → InputsMeet net due inputs_at_zero
+LatestDatesAreLatestInputs = (net : NetLists) → HasEndsInRange net → IsLive net → (due : ℕ → ℕ → Option ℕ) → InputsMeet net due inputs_at_zero
     → (y : ℕ → ℕ → Date) → AreLatestDates net due y → AreLatestInputs net due y
 
 -- where any inputs meet the due dates, those at 0 do
 abbrev pub ZeroInputsMeet : Type 0
-ZeroInputsMeet = (net : NetLists) → IsNet net → IsLive net → (due : ℕ → ℕ → Option ℕ) (v : ℕ → ℕ → Date) → InputsMeet net due v → InputsMeet net due inputs_at_zero
+ZeroInputsMeet = (net : NetLists) → HasEndsInRange net → IsLive net → (due : ℕ → ℕ → Option ℕ) (v : ℕ → ℕ → Date) → InputsMeet net due v → InputsMeet net due inputs_at_zero
 
 -- no walk leads from firing k of transition t to one that is due
 abbrev pub LeadsToNoDue : NetLists → (ℕ → ℕ → Option ℕ) → ℕ → ℕ → Type 0

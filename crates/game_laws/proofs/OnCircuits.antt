@@ -1,6 +1,6 @@
 -- A circuit as a net of its own: each firing takes as many of its tokens as it brings.
 use Rattle.std.proofs.Common.{ℕ, ◌+◌, ◌≡◌, List, [], ◌∷◌, ◌++◌, cond, eqb, get_or, map, refl, sym, ap, ◌∙◌, arith}
-use Rattle.std.specs.Prelude.{sum_by, count_by, ◌==◌}
+use Rattle.std.specs.Prelude.{zero, suc, ◌≤◌, ◌<◌, sum_by, count_by, ◌==◌, length}
 use Rattle.std.proofs.lemmas.List.Elements.{All-map}
 use Rattle.std.proofs.lemmas.List.Sums.{sum_by-cons}
 use Rattle.teg_net.specs.declared.entries.PlaceId.{PlaceId}
@@ -13,7 +13,7 @@ use Rattle.run_laws.specs.Runs.{next_number, token_date, IsThereBy, IsLegalAfter
 use Rattle.run_laws.specs.Earliest.{tokens_in, tokens_after}
 use Rattle.run_laws.proofs.Counting.{tokens_moved}
 use Rattle.run_laws.proofs.Prefixes.{along, legal_begins, legal_push}
-use Rattle.game_laws.specs.TokensOnCircuits.{TokensOnCircuitsStay}
+use Rattle.game_laws.specs.TokensOnCircuits.{TokensOnCircuitsStay, PlacesHoldWithinCircuits}
 
 -- the net of the places of a path alone
 abbrev net_along : NetLists → List PlaceId → NetLists
@@ -78,3 +78,15 @@ tokens_stay net run legal ps c =
     (next, same))
     run legal in
     sym (sum_along net ps (tokens_in run)) ∙ stay.1
+
+-- no element of a list has more than all together
+one_of : (f : PlaceId → ℕ) (ps : List PlaceId) (i : ℕ) (d : PlaceId) → i < length ps → f (get_or ps i d) ≤ sum_by f ps
+one_of f [] i d l = absurd (omega (arith, l))
+one_of f (p ∷ ps) zero d l = let e = sum_by-cons f p ps in omega (arith, e)
+one_of f (p ∷ ps) (suc i) d l = let e = sum_by-cons f p ps in let r = one_of f ps i d (omega (arith, l)) in omega (arith, e, r)
+
+pub places_within : PlacesHoldWithinCircuits
+places_within net run legal ps c p h =
+    let all = tokens_stay net run legal ps c in
+    let own : tokens_in run (place_at net (get_or ps h.0 p)) ≤ sum_by (λ q. tokens_in run (place_at net q)) ps = one_of (λ q. tokens_in run (place_at net q)) ps h.0 p h.1 in
+    rw (sym h.2) (omega (arith, own, all))

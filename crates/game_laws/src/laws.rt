@@ -4,7 +4,7 @@ ghost use Rattle.game_laws.specs.DatesByTheGame.{LeastDatesAreEarliest, NeverIsI
 ghost use Rattle.game_laws.specs.EarliestRunsExist.{EachRankHasAnEarliestRun, EarliestRunsAreAlike, EarliestRunsAreFirst, EarliestRunsAreOne, EarliestRunsAreWhole, EarliestRunsExist};
 ghost use Rattle.game_laws.specs.FiringOutcomes.{EarliestDatesExist, FiringsAreLegalOrFail};
 ghost use Rattle.game_laws.specs.LiveByTheGame.{FiringEachShowsLife, LiveNetsFireOn, TokenFreeCircuitsNeverFire};
-ghost use Rattle.game_laws.specs.TokensOnCircuits.{TokensOnCircuitsStay};
+ghost use Rattle.game_laws.specs.TokensOnCircuits.{PlacesHoldWithinCircuits, TokensOnCircuitsStay};
 
 /// Each firing of a transition of the net may follow a run, or fails in one of the three ways, so
 /// that nothing else keeps one back: a token that is not there, a date that goes back, a release
@@ -23,6 +23,13 @@ pub fn earliest_dates_exist()
 /// path that is not closed it does: a firing of its last transition takes one away.
 pub fn tokens_on_circuits_stay()
     ensures { TokensOnCircuitsStay }
+{}
+
+/// A place never holds more tokens along a legal run than a circuit through it has (chapter 2): a
+/// buffer in a loop of three cards never holds more than three parts. A place on no circuit may
+/// hold any number.
+pub fn places_hold_within_circuits()
+    ensures { PlacesHoldWithinCircuits }
 {}
 
 /// No legal run has a firing of a transition on a circuit without tokens; so a net is live if some

@@ -15,7 +15,6 @@ use Rattle.teg_model.specs.teg_net.declared.walks.Step.TheVariants.{By, Next}
 use Rattle.teg_model.specs.teg_net.Walks.{Walks, step_time, walk_time}
 use Rattle.teg_model.specs.LiveRanks.{HasEndsInRange}
 use Rattle.teg_model.proofs.Delays.{delayed_twice, delayed_not}
-use Rattle.teg_model.proofs.OfNet.{net_ends}
 use Rattle.teg_model.proofs.WalkSteps.{Keeps, walk_below}
 use Rattle.teg_model.proofs.DateFunctions.{Dating}
 use Rattle.due_laws.specs.MeetingDueDates.{KeepsDues}
@@ -77,8 +76,8 @@ latest_in_time net due y ok l t k in' o =
 
 pub least_ahead : LatestDatesAreLeastAhead
 least_ahead net ok due y l t k in' o = record {
-  in_time = latest_in_time net due y (net_ends net ok) l t k in' o;
-  one = one_ahead net due y (net_ends net ok) l t k in' o;
+  in_time = latest_in_time net due y ok l t k in' o;
+  one = one_ahead net due y ok l t k in' o;
 }
 
 pub last_in_time : LatestDatesAreLastInTime
@@ -92,7 +91,7 @@ last_in_time net ok due y l t k in' o date h =
     let place : Place = place_at net (c.0) in
     delayed_back place.hold date (y t k) (rw c.3 (h.places c.0.index no_place c.1 c.2)))
     b)
-    (one_ahead net due y (net_ends net ok) l t k in' o)
+    (one_ahead net due y ok l t k in' o)
 
 -- what is in time for what is ahead keeps each step
 pub in_time_keeps : (net : NetLists) (due : Dues) (z : Dating) → HasEndsInRange net → AreInTime net due z → Keeps net z
@@ -116,7 +115,7 @@ in_time_keeps_dues net due z h t k d in' o e = (h t k in' o).due_date d e
 
 pub greatest_in_time : LatestDatesAreGreatestInTime
 greatest_in_time net ok due y z l h t k in' o =
-    let ends = net_ends net ok in
+    let ends = ok in
     ⊎_elim
     (λ (e : y t k ≡ Never). rw e (never_last (z t k)))
     (λ (e : y t k ≢ Never). below_walk net due z ends (in_time_keeps net due z ends h) (in_time_keeps_dues net due z h) t k (y t k) in' o ((l t k in' o).attained e))

@@ -13,7 +13,6 @@ use Rattle.teg_model.specs.teg_net.Nets.{NetLists}
 use Rattle.teg_model.specs.teg_net.Circuits.{no_place, place_at}
 use Rattle.teg_model.specs.LiveRanks.{AreRanks, HasEndsInRange}
 use Rattle.teg_model.proofs.LiveRanks.{live_is_ranked}
-use Rattle.teg_model.proofs.OfNet.{net_ends}
 use Rattle.teg_model.proofs.DateFunctions.{Dating}
 use Rattle.due_laws.specs.LatestDates.{IsDateToDue}
 use Rattle.latest_laws.specs.BackwardEquations.{AreInTime, IsDueThen, IsHoldBefore}
@@ -85,7 +84,7 @@ attained net due last y bound r ok rr h (suc n) t k m in' o e =
 
 pub solutions_are_latest : SolutionsAreLatestDates
 solutions_are_latest net ok live due last y h t k in' o =
-    let ends = net_ends net ok in
+    let ends = ok in
     let ranked = live_is_ranked net ends live in
     let in_time : AreInTime net due y = λ s j m one. (h.equations s j m one).in_time in
     record {

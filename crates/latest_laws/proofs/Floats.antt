@@ -6,7 +6,6 @@ use Rattle.std.proofs.lemmas.Option.{slice_get_past}
 use Rattle.teg_model.specs.dioid.declared.dates.Date.TheVariants.{At}
 use Rattle.teg_model.proofs.dioid_proofs.DateOrder.{at_most_trans}
 use Rattle.teg_model.specs.teg_net.Nets.{NetLists, IsInput}
-use Rattle.teg_model.proofs.OfNet.{net_ends}
 use Rattle.teg_model.proofs.DateFunctions.{Dating}
 use Rattle.latest_laws.specs.Floats.{LatestDatesAreFeasible, LatestDatesAreGreatest, InputsMeetByFloats}
 use Rattle.due_laws.proofs.LatestDates.{kept_below, latest_keeps_dues}
@@ -21,14 +20,14 @@ input_in net t i =
     (cases_lt t (length net.transitions))
 
 pub latest_are_greatest : LatestDatesAreGreatest
-latest_are_greatest net ok due u x y f keeps l t k in' o = kept_below net due u x (net_ends net ok) f keeps t k (y t k) in' o (l t k in' o)
+latest_are_greatest net ok due u x y f keeps l t k in' o = kept_below net due u x ok f keeps t k (y t k) in' o (l t k in' o)
 
 pub latest_are_feasible : LatestDatesAreFeasible
 latest_are_feasible net ok due v y meets l =
     let x : Dating = meets.0 in
     let f = meets.1.feasible in (
       record {
-        places = (latest_is_feasible net due v x y (net_ends net ok) f meets.2 l).places;
+        places = (latest_is_feasible net due v x y ok f meets.2 l).places;
         inputs = λ t k o i. at_most_trans (v t k) (x t k) (y t k) (f.inputs t k o i) (latest_are_greatest net ok due v x y f meets.2 l t k (input_in net t i) o);
       },
       latest_keeps_dues net due y l,

@@ -7,7 +7,7 @@ use Rattle.teg_model.proofs.dioid_proofs.DateOrder.{at_most_trans, later_left, l
 use Rattle.teg_model.specs.Datings.{IsLeastUnder, system_of}
 use Rattle.teg_model.proofs.LeastOver.{least_over}
 use Rattle.teg_model.proofs.LiveRanks.{live_is_ranked}
-use Rattle.teg_model.proofs.OfNet.{net_ends, least_of, least_of_system}
+use Rattle.teg_model.proofs.OfNet.{least_of, least_of_system}
 use Rattle.dating_laws.proofs.OrderOfDatings.{least_join, later_dates}
 use Rattle.teg_model.proofs.DateFunctions.{Dating}
 use Rattle.latest_laws.specs.JointInputs.{LaterInputsAreInputs, LaterInputsMeet, EarlierInputsMeet, InputsMeetUpToLatest}
@@ -34,7 +34,7 @@ later_meet net due v w a b =
 
 pub earlier_meet : EarlierInputsMeet
 earlier_meet net ok live due v w h meets =
-    let ranked = live_is_ranked net (net_ends net ok) live in
+    let ranked = live_is_ranked net ok live in
     let least : Dating = least_over (system_of net v) ranked.0 ranked.1 in
     let is_least : IsLeastUnder net v least = least_of_system net v least (least_of net v ranked.0 ranked.1 ranked.2) in (
       least,
@@ -46,6 +46,6 @@ pub meet_up_to_latest : InputsMeetUpToLatest
 meet_up_to_latest net ok live due zero v y l = (
   λ meets t k o i.
       at_most_trans (v t k) (meets.0 t k) (y t k) (meets.1.feasible.inputs t k o i)
-      (kept_below net due v (meets.0) (net_ends net ok) meets.1.feasible meets.2 t k (y t k) (input_in net t i) o (l t k (input_in net t i) o)),
+      (kept_below net due v (meets.0) ok meets.1.feasible meets.2 t k (y t k) (input_in net t i) o (l t k (input_in net t i) o)),
   λ below. earlier_meet net ok live due v y below (latest_dates_are_inputs net ok live due zero y l).meet,
 )

@@ -17,7 +17,7 @@ use Rattle.teg_model.proofs.DateFunctions.{Dating}
 use Rattle.teg_model.proofs.GreatestWalks.{least_is_walk}
 use Rattle.teg_model.proofs.LeastOver.{least_over}
 use Rattle.teg_model.proofs.LiveRanks.{live_is_ranked}
-use Rattle.teg_model.proofs.OfNet.{net_ends, input_or_not, least_of, least_of_system}
+use Rattle.teg_model.proofs.OfNet.{input_or_not, least_of, least_of_system}
 use Rattle.teg_model.proofs.Tokens.{not_before_zero}
 use Rattle.due_laws.specs.MeetingDueDates.{inputs_at_zero}
 use Rattle.dating_laws.proofs.SlowerNets.{climb}
@@ -66,7 +66,7 @@ due_of_later c d (Some e) h = let is : e + c ≡ d = cc in (e, refl, omega (arit
 
 pub late_dues_met : LateDuesAreMet
 late_dues_met net ok live due last up =
-    let ends = net_ends net ok in
+    let ends = ok in
     let ranked = live_is_ranked net ends live in
     let x : Dating = least_over (system_of net inputs_at_zero) ranked.0 ranked.1 in
     let least : IsLeastUnder net inputs_at_zero x = least_of_system net inputs_at_zero x (least_of net inputs_at_zero ranked.0 ranked.1 ranked.2) in

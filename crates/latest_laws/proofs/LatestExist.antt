@@ -18,7 +18,6 @@ use Rattle.teg_model.specs.teg_net.Walks.{Walks, step_time, walk_time}
 use Rattle.teg_model.specs.LiveRanks.{AreRanks}
 use Rattle.teg_model.proofs.Delays.{delayed_twice, delayed_not}
 use Rattle.teg_model.proofs.LiveRanks.{live_is_ranked}
-use Rattle.teg_model.proofs.OfNet.{net_ends}
 use Rattle.teg_model.proofs.DateFunctions.{Dating}
 use Rattle.due_laws.specs.LatestDates.{IsDateToDue, IsLatestDate}
 use Rattle.latest_laws.specs.BackwardSolutions.{LatestDatesExist, LatestDatesAreOne}
@@ -185,7 +184,7 @@ steps_few net bound r rr (Next ∷ steps) t k b m w =
 
 pub latest_exist : LatestDatesExist
 latest_exist net ok live due last up =
-    let ends = net_ends net ok in
+    let ends = ok in
     let ranked = live_is_ranked net ends live in
     let bound : ℕ = ranked.0 in
     let r : ℕ → ℕ = ranked.1 in

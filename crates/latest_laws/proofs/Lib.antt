@@ -4,5 +4,6 @@ pub mod Floats
 pub mod JointInputs
 pub mod LateDues
 pub mod LatestExist
+pub mod MetByStarts
 pub mod ShiftedDues
 pub mod ShownByWalks

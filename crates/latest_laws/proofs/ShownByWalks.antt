@@ -7,7 +7,6 @@ use Rattle.teg_model.specs.dioid.Dates.{delayed}
 use Rattle.teg_model.proofs.dioid_proofs.DateOrder.{at_most_trans, delayed_rises}
 use Rattle.teg_model.specs.teg_net.ReadyDates.{start_date}
 use Rattle.teg_model.specs.teg_net.Walks.{walk_time}
-use Rattle.teg_model.proofs.OfNet.{net_ends}
 use Rattle.teg_model.proofs.WalkSteps.{walk_below}
 use Rattle.teg_model.proofs.GreatestWalks.{not_before_ready}
 use Rattle.teg_model.proofs.DateFunctions.{Dating}
@@ -18,7 +17,7 @@ use Rattle.latest_laws.proofs.BackwardEquations.{below_walk}
 
 pub tight_walks_bound : TightWalksBound
 tight_walks_bound net ok due t k date w h u x f keeps =
-    let ends = net_ends net ok in
+    let ends = ok in
     let here : t < length net.transitions = rw h.from at h.is_walk.start_in in
     let one : 1 ≤ k = rw h.number at h.is_walk.number_in in
     let d = h.leads in
@@ -27,7 +26,7 @@ tight_walks_bound net ok due t k date w h u x f keeps =
 
 pub late_walks_bound : LateWalksBound
 late_walks_bound net ok t k start date w h u x f =
-    let ends = net_ends net ok in
+    let ends = ok in
     let a : ℕ = w.start.index in
     let s : ℕ = w.number in
     let time : ℕ = walk_time net w.steps.items in
@@ -42,7 +41,7 @@ late_walks_bound net ok t k start date w h u x f =
 pub late_walks_refuse : LateWalksRefuse
 late_walks_refuse net ok due t k start date d w h is_due past v meets =
     let x : Dating = meets.0 in
-    let end = walk_ends_in net (net_ends net ok) w.steps.items w.start.index w.number t k h.is_walk.start_in h.is_walk.number_in h.ends in
+    let end = walk_ends_in net ok w.steps.items w.start.index w.number t k h.is_walk.start_in h.is_walk.number_in h.ends in
     let low = late_walks_bound net ok t k start date w h v x meets.1.feasible in
     let both = at_most_trans (At (pos date)) (x t k) (At (pos d)) low (meets.2 t k d end.0 end.1 is_due) in
     absurd (omega (arith, ints, both, past))

@@ -4,7 +4,8 @@ use Rattle.teg_model.specs.dioid.declared.dates.Date.{Date}
 use Rattle.teg_model.specs.dioid.declared.dates.Date.TheVariants.{At}
 use Rattle.teg_model.specs.dioid.Dates.{IsAtMostDate, delayed}
 use Rattle.teg_model.specs.teg_net.declared.entries.PlaceId.{PlaceId}
-use Rattle.teg_model.specs.teg_net.Nets.{NetLists, IsNet}
+use Rattle.teg_model.specs.LiveRanks.{HasEndsInRange}
+use Rattle.teg_model.specs.teg_net.Nets.{NetLists}
 use Rattle.teg_model.specs.teg_net.Circuits.{place_at}
 use Rattle.due_laws.specs.LatestDates.{AreLatestDates}
 use Rattle.latest_laws.specs.Floats.{IsAtMostOn}
@@ -37,15 +38,15 @@ pub record IsLeastAhead (net : NetLists) (due : ℕ → ℕ → Option ℕ) (y :
 
 -- the backward equations hold of the latest dates
 abbrev pub LatestDatesAreLeastAhead : Type 0
-LatestDatesAreLeastAhead = (net : NetLists) → IsNet net → (due : ℕ → ℕ → Option ℕ) (y : ℕ → ℕ → Date) → AreLatestDates net due y
+LatestDatesAreLeastAhead = (net : NetLists) → HasEndsInRange net → (due : ℕ → ℕ → Option ℕ) (y : ℕ → ℕ → Date) → AreLatestDates net due y
     → (t k : ℕ) → t < length net.transitions → 1 ≤ k → IsLeastAhead net due y t k (y t k)
 
 -- no date that is in time for the latest dates ahead comes after the latest date
 abbrev pub LatestDatesAreLastInTime : Type 0
-LatestDatesAreLastInTime = (net : NetLists) → IsNet net → (due : ℕ → ℕ → Option ℕ) (y : ℕ → ℕ → Date) → AreLatestDates net due y
+LatestDatesAreLastInTime = (net : NetLists) → HasEndsInRange net → (due : ℕ → ℕ → Option ℕ) (y : ℕ → ℕ → Date) → AreLatestDates net due y
     → (t k : ℕ) → t < length net.transitions → 1 ≤ k → (date : Date) → IsInTime net due y t k date → IsAtMostDate date (y t k)
 
 -- the latest dates are the greatest of which each is in time for those ahead
 abbrev pub LatestDatesAreGreatestInTime : Type 0
-LatestDatesAreGreatestInTime = (net : NetLists) → IsNet net → (due : ℕ → ℕ → Option ℕ) (y z : ℕ → ℕ → Date) → AreLatestDates net due y
+LatestDatesAreGreatestInTime = (net : NetLists) → HasEndsInRange net → (due : ℕ → ℕ → Option ℕ) (y z : ℕ → ℕ → Date) → AreLatestDates net due y
     → AreInTime net due z → IsAtMostOn net z y

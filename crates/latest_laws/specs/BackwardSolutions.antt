@@ -3,7 +3,8 @@
 use Rattle.std.specs.Prelude.{ℕ, ◌<◌, ◌≤◌, ◌≡◌, length, Option, Some}
 use Rattle.teg_model.specs.dioid.declared.dates.Date.{Date}
 use Rattle.teg_model.specs.dioid.declared.dates.Date.TheVariants.{Never}
-use Rattle.teg_model.specs.teg_net.Nets.{NetLists, IsNet}
+use Rattle.teg_model.specs.LiveRanks.{HasEndsInRange}
+use Rattle.teg_model.specs.teg_net.Nets.{NetLists}
 use Rattle.teg_model.specs.teg_net.Circuits.{IsLive}
 use Rattle.teg_model.specs.LeastDatings.{AreSameOn}
 use Rattle.due_laws.specs.LatestDates.{AreLatestDates}
@@ -15,7 +16,7 @@ AreDueUpTo net due last = (t k d : ℕ) → t < length net.transitions → due t
 
 -- a live net has latest dates for due dates up to a number
 abbrev pub LatestDatesExist : Type 0
-LatestDatesExist = (net : NetLists) → IsNet net → IsLive net → (due : ℕ → ℕ → Option ℕ) (last : ℕ) → AreDueUpTo net due last
+LatestDatesExist = (net : NetLists) → HasEndsInRange net → IsLive net → (due : ℕ → ℕ → Option ℕ) (last : ℕ) → AreDueUpTo net due last
     → (y : ℕ → ℕ → Date) × AreLatestDates net due y
 
 -- a firing has no second latest date
@@ -29,5 +30,5 @@ pub record SolveBackwards (net : NetLists) (due : ℕ → ℕ → Option ℕ) (l
 
 -- what solves the backward equations of a live net are the latest dates
 abbrev pub SolutionsAreLatestDates : Type 0
-SolutionsAreLatestDates = (net : NetLists) → IsNet net → IsLive net → (due : ℕ → ℕ → Option ℕ) (last : ℕ) (y : ℕ → ℕ → Date) → SolveBackwards net due last y
+SolutionsAreLatestDates = (net : NetLists) → HasEndsInRange net → IsLive net → (due : ℕ → ℕ → Option ℕ) (last : ℕ) (y : ℕ → ℕ → Date) → SolveBackwards net due last y
     → AreLatestDates net due y

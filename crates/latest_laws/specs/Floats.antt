@@ -2,7 +2,8 @@
 use Rattle.std.specs.Prelude.{ℕ, ◌<◌, ◌≤◌, ◌↔◌, length, Option}
 use Rattle.teg_model.specs.dioid.declared.dates.Date.{Date}
 use Rattle.teg_model.specs.dioid.Dates.{IsAtMostDate}
-use Rattle.teg_model.specs.teg_net.Nets.{NetLists, IsNet}
+use Rattle.teg_model.specs.LiveRanks.{HasEndsInRange}
+use Rattle.teg_model.specs.teg_net.Nets.{NetLists}
 use Rattle.teg_model.specs.Datings.{IsFeasibleUnder, IsLeastUnder}
 use Rattle.due_laws.specs.MeetingDueDates.{KeepsDues, InputsMeet}
 use Rattle.due_laws.specs.LatestDates.{AreLatestDates}
@@ -13,15 +14,15 @@ IsAtMostOn net x y = (t k : ℕ) → t < length net.transitions → 1 ≤ k → 
 
 -- the latest dates are a feasible dating under all inputs that meet the due dates, and keep these
 abbrev pub LatestDatesAreFeasible : Type 0
-LatestDatesAreFeasible = (net : NetLists) → IsNet net → (due : ℕ → ℕ → Option ℕ) (v y : ℕ → ℕ → Date) → InputsMeet net due v → AreLatestDates net due y
+LatestDatesAreFeasible = (net : NetLists) → HasEndsInRange net → (due : ℕ → ℕ → Option ℕ) (v y : ℕ → ℕ → Date) → InputsMeet net due v → AreLatestDates net due y
     → IsFeasibleUnder net v y × KeepsDues net due y
 
 -- no feasible dating that keeps the due dates, under any inputs, has a date after the latest
 abbrev pub LatestDatesAreGreatest : Type 0
-LatestDatesAreGreatest = (net : NetLists) → IsNet net → (due : ℕ → ℕ → Option ℕ) (u x y : ℕ → ℕ → Date) → IsFeasibleUnder net u x → KeepsDues net due x
+LatestDatesAreGreatest = (net : NetLists) → HasEndsInRange net → (due : ℕ → ℕ → Option ℕ) (u x y : ℕ → ℕ → Date) → IsFeasibleUnder net u x → KeepsDues net due x
     → AreLatestDates net due y → IsAtMostOn net x y
 
 -- inputs meet the due dates just where no float is negative: the earliest date is at most the latest at each firing
 abbrev pub InputsMeetByFloats : Type 0
-InputsMeetByFloats = (net : NetLists) → IsNet net → (due : ℕ → ℕ → Option ℕ) (v x y : ℕ → ℕ → Date) → IsLeastUnder net v x → AreLatestDates net due y
+InputsMeetByFloats = (net : NetLists) → HasEndsInRange net → (due : ℕ → ℕ → Option ℕ) (v x y : ℕ → ℕ → Date) → IsLeastUnder net v x → AreLatestDates net due y
     → (InputsMeet net due v ↔ IsAtMostOn net x y)

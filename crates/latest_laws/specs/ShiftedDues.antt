@@ -2,7 +2,8 @@
 use Rattle.std.specs.Prelude.{ℕ, ◌+◌, ◌≤◌, ◌≡◌, Option, Some, None}
 use Rattle.teg_model.specs.dioid.declared.dates.Date.{Date}
 use Rattle.teg_model.specs.dioid.Dates.{delayed}
-use Rattle.teg_model.specs.teg_net.Nets.{NetLists, IsNet}
+use Rattle.teg_model.specs.LiveRanks.{HasEndsInRange}
+use Rattle.teg_model.specs.teg_net.Nets.{NetLists}
 use Rattle.teg_model.specs.teg_net.Circuits.{IsLive}
 use Rattle.due_laws.specs.MeetingDueDates.{InputsMeet, inputs_at_zero}
 use Rattle.due_laws.specs.LatestDates.{AreLatestDates}
@@ -30,5 +31,5 @@ ShiftedDuesShiftLatest = (net : NetLists) (due : ℕ → ℕ → Option ℕ) (y 
 
 -- due dates of a live net up to a number are met by inputs at 0 where they are moved far enough
 abbrev pub LateDuesAreMet : Type 0
-LateDuesAreMet = (net : NetLists) → IsNet net → IsLive net → (due : ℕ → ℕ → Option ℕ) (last : ℕ) → AreDueUpTo net due last
+LateDuesAreMet = (net : NetLists) → HasEndsInRange net → IsLive net → (due : ℕ → ℕ → Option ℕ) (last : ℕ) → AreDueUpTo net due last
     → (enough : ℕ) × ((c : ℕ) → enough ≤ c → InputsMeet net (λ t k. later_due c (due t k)) inputs_at_zero)

@@ -4,6 +4,7 @@ ghost use Rattle.latest_laws.specs.BackwardEquations.{LatestDatesAreGreatestInTi
 ghost use Rattle.latest_laws.specs.BackwardSolutions.{LatestDatesAreOne, LatestDatesExist, SolutionsAreLatestDates};
 ghost use Rattle.latest_laws.specs.Floats.{InputsMeetByFloats, LatestDatesAreFeasible, LatestDatesAreGreatest};
 ghost use Rattle.latest_laws.specs.JointInputs.{EarlierInputsMeet, InputsMeetUpToLatest, LaterInputsAreInputs, LaterInputsMeet};
+ghost use Rattle.latest_laws.specs.MetByStarts.{ZeroInputsMeetByAllStarts, ZeroInputsMeetByStarts};
 ghost use Rattle.latest_laws.specs.ShiftedDues.{LateDuesAreMet, LaterDuesLaterLatest, ShiftedDuesShiftLatest};
 ghost use Rattle.latest_laws.specs.ShownByWalks.{LateWalksBound, LateWalksRefuse, TightWalksBound};
 
@@ -75,6 +76,18 @@ pub fn latest_dates_are_solutions()
 /// its second firing, on a circuit of hold 1 and one token.
 pub fn inputs_meet_up_to_latest()
     ensures { InputsMeetUpToLatest }
+{}
+
+/// Starts tell whether due dates can be met: in a live net, inputs at 0 meet due dates up to a
+/// number just where no latest date up to there is before the start of its firing, which is 0 or
+/// the ready date of an initial token that it takes (chapter 5). So a table of latest dates shows
+/// by itself whether any inputs meet what is due (`numbered`); of due dates without an end all
+/// latest dates do (`endless`). A firing due at 3 that takes a token which is ready at 5 has the
+/// latest date 3, before its start: no inputs meet that. Liveness is asked for there to be a least
+/// dating.
+pub fn zero_inputs_meet_by_starts()
+    ensures numbered { ZeroInputsMeetByStarts }
+    ensures endless { ZeroInputsMeetByAllStarts }
 {}
 
 /// Latest dates move with the due dates: later due dates have later latest dates, and due dates so

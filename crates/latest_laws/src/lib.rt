@@ -16,4 +16,5 @@ pub use laws::{
     inputs_meet_by_floats, inputs_meet_together, inputs_meet_up_to_latest, late_due_dates_are_met,
     late_walks_refuse, latest_dates_are_feasible, latest_dates_are_solutions,
     latest_dates_move_with_dues, latest_dates_solve_backwards, tight_walks_bound,
+    zero_inputs_meet_by_starts,
 };

@@ -126,4 +126,4 @@ exist net part_of part r ok strong g =
       first_member (p ∷ ps) s t l path all = subst (λ (z : ℕ). IsMember part_of part z) path.1 (all 0 p (omega arith)).from_member
 
 pub just_at : TightJustAtTheRatio
-just_at net part_of part t a b ok strong m some = (λ w. tell_the_ratio net part_of part t a b w.0 ok m some w.1, λ g. exist net part_of part (record { time = a; tokens = b }) ok strong g)
+just_at net part_of part t a b ok live strong m some = (λ w. tell_the_ratio net part_of part t a b w.0 ok live m some w.1, λ g. exist net part_of part (record { time = a; tokens = b }) ok strong g)

@@ -147,6 +147,7 @@ module _ (net : NetLists) (ok : IsNet net) (live : IsLive net) (Within : PlaceId
         record {
           some = some_tokens best o.is.circuit;
           attained = (best, o.is.circuit, o.is.inside, refl);
+          token = some_tokens best o.is.circuit;
           greatest = λ ps c i. o.greatest ps (listed ps c) (record { circuit = c; inside = i });
         },
       ))

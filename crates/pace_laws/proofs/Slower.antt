@@ -1,6 +1,6 @@
--- Circuits of a net and of a slower one are the same lists.
-use Rattle.std.proofs.Common.{ℕ, ◌+◌, ◌*◌, ◌<◌, ◌≤◌, ◌≡◌, List, [], ◌∷◌, get_or, sym, ap, subst, ◌∙◌, arith, ⊎_elim}
-use Rattle.std.specs.Prelude.{All}
+-- Each circuit of a net has one of slower places in a slower net.
+use Rattle.std.proofs.Common.{ℕ, zero, suc, ◌+◌, ◌*◌, ◌<◌, ◌≤◌, ◌≡◌, List, [], ◌∷◌, length, get_or, refl, sym, ap, subst, ◌∙◌, arith, ⊎_elim}
+use Rattle.std.specs.Prelude.{All, ⊤}
 use Rattle.std.proofs.lemmas.Bool.{cases_lt}
 use Rattle.std.proofs.lemmas.List.Sums.{sum_by-cons}
 use Rattle.std.proofs.Math.Nat.{mul-le-mul_right}
@@ -8,9 +8,9 @@ use Rattle.teg_net.specs.declared.entries.PlaceId.{PlaceId}
 use Rattle.teg_net.specs.Nets.{NetLists}
 use Rattle.teg_net.specs.Parts.{IsPlaceOfPart, IsMember}
 use Rattle.teg_net.specs.Ratios.{Fraction}
-use Rattle.teg_net.specs.Circuits.{place_at, from_of, IsPathBetween, IsCircuit, IsLive, time_of, tokens_of}
-use Rattle.teg_net.proofs.PathLaws.{IsPathBetween-in_range}
-use Rattle.pace_laws.specs.SlowerNets.{HasSlowerPlaces, SlowerNetsHaveMore, SlowerPartsHaveMore, LiveBySlower}
+use Rattle.teg_net.specs.Circuits.{place_at, from_of, IsPathBetween, IsCircuit, time_of, tokens_of}
+use Rattle.change_laws.specs.SlowerNets.{IsSlowerPlace, HasSlowerPlaces}
+use Rattle.pace_laws.specs.SlowerNets.{SlowerNetsHaveMore, SlowerPartsHaveMore, LiveBySlower}
 
 -- a factor above 0 of both sides
 pub cancel : (a b k : ℕ) → 0 < k → a * k ≤ b * k → a ≤ b
@@ -18,58 +18,95 @@ cancel a b k p h = ⊎_elim (λ (l : b < a). let m : (b + 1) * k ≤ a * k =
     mul-le-mul_right k (let l : b + 1 ≤ a = omega arith in l) in let e : (b + 1) * k ≡ b * k + k = grind arith in absurd (omega arith))
     (λ (l : a ≤ b). l) (cases_lt b a)
 
-module _ (net slower : NetLists) (h : HasSlowerPlaces net slower) where
-  same_path : (ps : List PlaceId) (a b : ℕ) → IsPathBetween net a ps b → IsPathBetween slower a ps b
-  same_path [] a b l = l
-  same_path (p ∷ ps) a b l =
-      let e = h.each p l.0 in
-      let from : from_of slower p ≡ from_of net p = sym (ap (λ t. t.index) e.same_from) in
-      let to : (place_at net p).to.index ≡ (place_at slower p).to.index = ap (λ t. t.index) e.same_to in
-      let count = h.count in
-      (let m = l.0 in omega arith, from ∙ l.1, subst (λ x. IsPathBetween slower x ps b) to (same_path ps (place_at net p).to.index b l.2))
+module _ (net slower : NetLists) where
+  -- place by place the second list has a slower one
+  abbrev pub AreSlower : List PlaceId → List PlaceId → Type 0
+  AreSlower [] [] = ⊤
+  AreSlower (p ∷ ps) (q ∷ qs) = (q.index < length slower.places) × IsSlowerPlace (place_at net p) (place_at slower q) × AreSlower ps qs
+  AreSlower other more = ⊥
 
-  same_from : (ps : List PlaceId) (a b : ℕ) → IsPathBetween net a ps b → All (λ p. from_of net p ≡ from_of slower p) ps
-  same_from ps a b l i d m = ap (λ t. t.index) (h.each _ (IsPathBetween-in_range net ps a b l i d m)).same_from
+  -- the slower places of a path
+  found : HasSlowerPlaces net slower → (ps : List PlaceId) (a b : ℕ) → IsPathBetween net a ps b → (qs : List PlaceId) × AreSlower ps qs
+  found h [] a b l = ([], tt)
+  found h (p ∷ ps) a b l =
+      let one = h p l.0 in
+      let rest = found h ps (place_at net p).to.index b l.2 in
+      (one.0 ∷ rest.0, (one.1, one.2, rest.1))
 
-  pub same_circuit : (ps : List PlaceId) → IsCircuit net ps → IsCircuit slower ps
-  same_circuit ps c = record {
-    not_empty = c.not_empty;
-    closed = (c.closed.0, same_path ps c.closed.0 c.closed.0 c.closed.1);
-    leaves_once = λ i j d l m e. c.leaves_once i j d l m (same_from ps c.closed.0 c.closed.0 c.closed.1 i d (omega arith) ∙ e ∙ sym (same_from ps c.closed.0 c.closed.0 c.closed.1 j d m));
-  }
+  as_long : (ps qs : List PlaceId) → AreSlower ps qs → length ps ≡ length qs
+  as_long [] [] m = refl
+  as_long (p ∷ ps) (q ∷ qs) m = ap suc (as_long ps qs m.2)
+  as_long [] (q ∷ qs) m = absurd m
+  as_long (p ∷ ps) [] m = absurd m
+
+  -- it is a path between the same transitions
+  same_path : (ps qs : List PlaceId) → AreSlower ps qs → (a b : ℕ) → IsPathBetween net a ps b → IsPathBetween slower a qs b
+  same_path [] [] m a b l = l
+  same_path (p ∷ ps) (q ∷ qs) m a b l =
+      (m.0, sym m.1.same_from ∙ l.1, subst (λ x. IsPathBetween slower x qs b) m.1.same_to (same_path ps qs m.2 (place_at net p).to.index b l.2))
+  same_path [] (q ∷ qs) m a b l = absurd m
+  same_path (p ∷ ps) [] m a b l = absurd m
+
+  -- whose places leave the same transitions
+  same_from : (ps qs : List PlaceId) → AreSlower ps qs → (i : ℕ) (d e : PlaceId) → i < length ps → from_of net (get_or ps i d) ≡ from_of slower (get_or qs i e)
+  same_from [] [] m i d e l = absurd (omega (arith, l))
+  same_from (p ∷ ps) (q ∷ qs) m zero d e l = m.1.same_from
+  same_from (p ∷ ps) (q ∷ qs) m (suc i) d e l = same_from ps qs m.2 i d e (omega (arith, l))
+  same_from [] (q ∷ qs) m i d e l = absurd m
+  same_from (p ∷ ps) [] m i d e l = absurd m
+
+  same_circuit : (ps qs : List PlaceId) → AreSlower ps qs → IsCircuit net ps → IsCircuit slower qs
+  same_circuit ps qs m c =
+      let long = as_long ps qs m in
+      let some = c.not_empty in
+      record {
+        not_empty = omega (arith, long, some);
+        closed = (c.closed.0, same_path ps qs m c.closed.0 c.closed.0 c.closed.1);
+        leaves_once = λ i j d l k e.
+            let k : j < length ps = omega (arith, long, k) in
+            c.leaves_once i j d l k (same_from ps qs m i d d (omega (arith, l, k)) ∙ e ∙ sym (same_from ps qs m j d d k));
+      }
 
   -- its time is no more, and its tokens no less
-  pub more_time : (ps : List PlaceId) (a b : ℕ) → IsPathBetween net a ps b → time_of net ps ≤ time_of slower ps
-  more_time [] a b l = omega arith
-  more_time (p ∷ ps) a b l =
-      let here = (h.each p l.0).holds in
-      let rest = more_time ps (place_at net p).to.index b l.2 in
-      let one = sum_by-cons (λ q. (place_at net q).hold) p ps in
-      let two = sum_by-cons (λ q. (place_at slower q).hold) p ps in
-      omega arith
+  more_time : (ps qs : List PlaceId) → AreSlower ps qs → time_of net ps ≤ time_of slower qs
+  more_time [] [] m = omega arith
+  more_time (p ∷ ps) (q ∷ qs) m =
+      let here = m.1.holds in
+      let rest = more_time ps qs m.2 in
+      let one = sum_by-cons (λ z. (place_at net z).hold) p ps in
+      let two = sum_by-cons (λ z. (place_at slower z).hold) q qs in
+      omega (arith, here, rest, one, two)
+  more_time [] (q ∷ qs) m = absurd m
+  more_time (p ∷ ps) [] m = absurd m
 
-  pub fewer_tokens : (ps : List PlaceId) (a b : ℕ) → IsPathBetween net a ps b → tokens_of slower ps ≤ tokens_of net ps
-  fewer_tokens [] a b l = omega arith
-  fewer_tokens (p ∷ ps) a b l =
-      let here = (h.each p l.0).tokens in
-      let rest = fewer_tokens ps (place_at net p).to.index b l.2 in
-      let one = sum_by-cons (λ q. (place_at net q).tokens) p ps in
-      let two = sum_by-cons (λ q. (place_at slower q).tokens) p ps in
-      omega arith
+  fewer_tokens : (ps qs : List PlaceId) → AreSlower ps qs → tokens_of slower qs ≤ tokens_of net ps
+  fewer_tokens [] [] m = omega arith
+  fewer_tokens (p ∷ ps) (q ∷ qs) m =
+      let here = m.1.tokens in
+      let rest = fewer_tokens ps qs m.2 in
+      let one = sum_by-cons (λ z. (place_at net z).tokens) p ps in
+      let two = sum_by-cons (λ z. (place_at slower z).tokens) q qs in
+      omega (arith, here, rest, one, two)
+  fewer_tokens [] (q ∷ qs) m = absurd m
+  fewer_tokens (p ∷ ps) [] m = absurd m
 
   -- and in the same part
-  pub same_part : (part_of : List ℕ) (part : ℕ) (ps : List PlaceId) → All (IsPlaceOfPart net part_of part) ps → All (IsPlaceOfPart slower part_of part) ps
-  same_part part_of part ps inside i d l =
-      let p : PlaceId = get_or ps i d in
-      let k = inside i d l in
-      let e = h.each p k.in_range in
-      let count = h.count in
-      let range = k.in_range in
+  same_part : (part_of : List ℕ) (part : ℕ) (ps qs : List PlaceId) → AreSlower ps qs → All (IsPlaceOfPart net part_of part) ps → All (IsPlaceOfPart slower part_of part) qs
+  same_part part_of part [] [] m inside i d l = absurd (omega (arith, l))
+  same_part part_of part (p ∷ ps) (q ∷ qs) m inside zero d l =
+      let k = inside 0 d (omega arith) in
       record {
-        in_range = omega arith;
-        from_member = subst (IsMember part_of part) (ap (λ t. t.index) e.same_from) k.from_member;
-        to_member = subst (IsMember part_of part) (ap (λ t. t.index) e.same_to) k.to_member;
+        in_range = m.0;
+        from_member = subst (IsMember part_of part) m.1.same_from k.from_member;
+        to_member = subst (IsMember part_of part) m.1.same_to k.to_member;
       }
+  same_part part_of part (p ∷ ps) (q ∷ qs) m inside (suc i) d l = same_part part_of part ps qs m.2 (λ j e n. inside (suc j) e (omega (arith, n))) i d (omega (arith, l))
+  same_part part_of part [] (q ∷ qs) m inside i d l = absurd m
+  same_part part_of part (p ∷ ps) [] m inside i d l = absurd m
+
+  -- a circuit of the slower net of such places
+  pub slowed : HasSlowerPlaces net slower → (ps : List PlaceId) → IsCircuit net ps → (qs : List PlaceId) × AreSlower ps qs × IsCircuit slower qs
+  slowed h ps c = let w = found h ps c.closed.0 c.closed.0 c.closed.1 in (w.0, w.1, same_circuit ps w.0 w.1 c)
 
 -- a ratio of time and tokens that a slower one bounds
 pub bounded : (time tokens time2 tokens2 a b c d : ℕ) → 0 < tokens → time ≤ time2 → tokens2 ≤ tokens → time * b ≡ a * tokens → time2 * d ≤ c * tokens2 → a * d ≤ c * b
@@ -89,23 +126,25 @@ bounded time tokens time2 tokens2 a b c d some less more is most =
 
 pub live_by_slower : LiveBySlower
 live_by_slower net slower h live ps c none =
-    let less = fewer_tokens net slower h ps c.closed.0 c.closed.0 c.closed.1 in
-    live ps (same_circuit net slower h ps c) (omega arith)
+    let w = slowed net slower h ps c in
+    let less = fewer_tokens net slower ps w.0 w.1 in
+    live w.0 w.2 (omega (arith, less, none))
 
 -- a circuit with the first net's ratio is bounded by the second's
-by_circuit : (net slower : NetLists) (r s : Fraction) (ps : List PlaceId) → IsLive net → HasSlowerPlaces net slower → IsCircuit net ps
-    → time_of net ps * r.tokens ≡ r.time * tokens_of net ps → time_of slower ps * s.tokens ≤ s.time * tokens_of slower ps → r.time * s.tokens ≤ s.time * r.tokens
-by_circuit net slower r s ps live h c is most =
-    let some : 0 < tokens_of net ps = ⊎_elim (λ (l : 0 < tokens_of net ps). l) (λ (l : tokens_of net ps ≤ 0). absurd (live ps c (omega arith))) (cases_lt 0 (tokens_of net ps)) in
-    let less = more_time net slower h ps c.closed.0 c.closed.0 c.closed.1 in
-    let more = fewer_tokens net slower h ps c.closed.0 c.closed.0 c.closed.1 in
-    bounded (time_of net ps) (tokens_of net ps) (time_of slower ps) (tokens_of slower ps) r.time r.tokens s.time s.tokens some less more is most
+by_circuit : (net slower : NetLists) (r s : Fraction) (ps qs : List PlaceId) → 1 ≤ tokens_of net ps → AreSlower net slower ps qs
+    → time_of net ps * r.tokens ≡ r.time * tokens_of net ps → time_of slower qs * s.tokens ≤ s.time * tokens_of slower qs → r.time * s.tokens ≤ s.time * r.tokens
+by_circuit net slower r s ps qs some m is most =
+    let less = more_time net slower ps qs m in
+    let more = fewer_tokens net slower ps qs m in
+    bounded (time_of net ps) (tokens_of net ps) (time_of slower qs) (tokens_of slower qs) r.time r.tokens s.time s.tokens some less more is most
 
 pub slower_nets : SlowerNetsHaveMore
-slower_nets net slower r s live h g k =
-    by_circuit net slower r s g.attained.0 live h g.attained.1 g.attained.3 (k.greatest g.attained.0 (same_circuit net slower h g.attained.0 g.attained.1) (λ i d l. tt))
+slower_nets net slower r s h g k =
+    let w = slowed net slower h g.attained.0 g.attained.1 in
+    by_circuit net slower r s g.attained.0 w.0 g.token w.1 g.attained.3 (k.greatest w.0 w.2 (λ i d l. tt))
 
 pub slower_parts : SlowerPartsHaveMore
-slower_parts net slower part_of part r s live h g k =
-    by_circuit net slower r s g.attained.0 live h g.attained.1 g.attained.3
-    (k.greatest g.attained.0 (same_circuit net slower h g.attained.0 g.attained.1) (same_part net slower h part_of part g.attained.0 g.attained.2))
+slower_parts net slower part_of part r s h g k =
+    let w = slowed net slower h g.attained.0 g.attained.1 in
+    by_circuit net slower r s g.attained.0 w.0 g.token w.1 g.attained.3
+    (k.greatest w.0 w.2 (same_part net slower part_of part g.attained.0 w.0 w.1 g.attained.2))

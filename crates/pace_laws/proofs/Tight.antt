@@ -7,7 +7,7 @@ use Rattle.std.proofs.lemmas.List.Elements.{All-nil, All-cons, All-tail, All-sam
 use Rattle.teg_net.specs.declared.entries.PlaceId.{PlaceId}
 use Rattle.teg_net.specs.Nets.{NetLists, IsNet, IsPlaceOf}
 use Rattle.teg_net.specs.Ratios.{Fraction}
-use Rattle.teg_net.specs.Circuits.{place_at, no_place, from_of, IsPathBetween, IsCircuit, IsLive, time_of, tokens_of}
+use Rattle.teg_net.specs.Circuits.{place_at, no_place, from_of, IsPathBetween, IsCircuit, time_of, tokens_of}
 use Rattle.teg_net.specs.Parts.{to_of, IsMember, IsPlaceOfPart}
 use Rattle.teg_net.specs.ReducedTimes.{reduced_time, reduced_time_of, IsGreatestPathTime}
 use Rattle.teg_net.specs.GreatestRatios.{IsGreatestRatio}
@@ -227,26 +227,28 @@ critical_are_tight net part_of part a b v none_above c k i d l =
     (λ (least : y ≤ℤ x). record { inside = own; into = refl; tight = omega (arith, ints, up, least) })
 
 pub tell_the_ratio : TightPotentialsTellTheRatio
-tell_the_ratio net part_of part t a b v ok m some h = record {
-  some = some;
-  attained = tight_circuit net part_of part a b v h ok t m;
-  greatest = bound_ratios net part_of part a b v h.none_above;
-}
+tell_the_ratio net part_of part t a b v ok live m some h =
+    let tight = tight_circuit net part_of part a b v h ok t m in
+    record {
+      some = some;
+      attained = tight;
+      token = ⊎_elim (λ (l : 0 < tokens_of net tight.0). l) (λ (l : tokens_of net tight.0 ≤ 0). absurd (live tight.0 tight.1 (omega arith))) (cases_lt 0 (tokens_of net tight.0));
+      greatest = bound_ratios net part_of part a b v h.none_above;
+    }
 
-no_more : (net : NetLists) (part_of : List ℕ) (part : ℕ) (r q : Fraction) → IsLive net
+no_more : (net : NetLists) (part_of : List ℕ) (part : ℕ) (r q : Fraction)
     → IsGreatestRatio net (IsPlaceOfPart net part_of part) r → IsGreatestRatio net (IsPlaceOfPart net part_of part) q → r.time * q.tokens ≤ q.time * r.tokens
-no_more net part_of part r q live g k =
+no_more net part_of part r q g k =
     let ps : List PlaceId = g.attained.0 in
     let c : IsCircuit net ps = g.attained.1 in
-    let some : 0 < tokens_of net ps = ⊎_elim (λ (l : 0 < tokens_of net ps). l) (λ (l : tokens_of net ps ≤ 0). absurd (live ps c (omega arith))) (cases_lt 0 (tokens_of net ps)) in
-    bounded (time_of net ps) (tokens_of net ps) (time_of net ps) (tokens_of net ps) r.time r.tokens q.time q.tokens some (omega arith) (omega arith) g.attained.3 (k.greatest ps c g.attained.2)
+    bounded (time_of net ps) (tokens_of net ps) (time_of net ps) (tokens_of net ps) r.time r.tokens q.time q.tokens g.token (omega arith) (omega arith) g.attained.3 (k.greatest ps c g.attained.2)
 
 pub are_one : TightRatiosAreOne
 are_one net part_of part t a b c d v w ok live m some more h k =
-    let g = tell_the_ratio net part_of part t a b v ok m some h in
-    let j = tell_the_ratio net part_of part t c d w ok m more k in
-    let one = no_more net part_of part (record { time = a; tokens = b }) (record { time = c; tokens = d }) live g j in
-    let two = no_more net part_of part (record { time = c; tokens = d }) (record { time = a; tokens = b }) live j g in
+    let g = tell_the_ratio net part_of part t a b v ok live m some h in
+    let j = tell_the_ratio net part_of part t c d w ok live m more k in
+    let one = no_more net part_of part (record { time = a; tokens = b }) (record { time = c; tokens = d }) g j in
+    let two = no_more net part_of part (record { time = c; tokens = d }) (record { time = a; tokens = b }) j g in
     omega arith
 
 pub are_paced : TightPotentialsArePaced

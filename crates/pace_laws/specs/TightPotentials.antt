@@ -33,10 +33,10 @@ BestPotentialsAreTight =
     (net : NetLists) (part_of : List ℕ) (part : ℕ) (r : Fraction) (c : List PlaceId) (vs : List Potential)
     → IsBestOfPart net part_of part r c vs → AreTightPotentials net part_of part r.time r.tokens (potential_at vs)
 
--- a ratio at which a part with a member has tight potentials is its greatest, and has a circuit
+-- a ratio at which a part of a live net with a member has tight potentials is its greatest, and has a circuit
 abbrev pub TightPotentialsTellTheRatio : Type 0
 TightPotentialsTellTheRatio =
-    (net : NetLists) (part_of : List ℕ) (part t a b : ℕ) (v : ℕ → ℤ) → IsNet net → IsMember part_of part t → 1 ≤ b
+    (net : NetLists) (part_of : List ℕ) (part t a b : ℕ) (v : ℕ → ℤ) → IsNet net → IsLive net → IsMember part_of part t → 1 ≤ b
     → AreTightPotentials net part_of part a b v → IsGreatestRatio net (IsPlaceOfPart net part_of part) (record { time = a; tokens = b })
 
 -- where the numbers are those of strong parts, a part has tight potentials at its greatest ratio
@@ -45,10 +45,10 @@ TightPotentialsExist =
     (net : NetLists) (part_of : List ℕ) (part : ℕ) (r : Fraction) → IsNet net → AreStrong net part_of → IsGreatestRatio net (IsPlaceOfPart net part_of part) r
     → (v : ℕ → ℤ) × AreTightPotentials net part_of part r.time r.tokens v
 
--- and at no other: a ratio is the greatest of a strong part just where the part has tight potentials at it
+-- and at no other: a ratio is the greatest of a strong part of a live net just where the part has tight potentials at it
 abbrev pub TightJustAtTheRatio : Type 0
 TightJustAtTheRatio =
-    (net : NetLists) (part_of : List ℕ) (part t a b : ℕ) → IsNet net → AreStrong net part_of → IsMember part_of part t → 1 ≤ b
+    (net : NetLists) (part_of : List ℕ) (part t a b : ℕ) → IsNet net → IsLive net → AreStrong net part_of → IsMember part_of part t → 1 ≤ b
     → ((v : ℕ → ℤ) × AreTightPotentials net part_of part a b v) ↔ IsGreatestRatio net (IsPlaceOfPart net part_of part) (record { time = a; tokens = b })
 
 -- at no other ratio has the part of a live net tight potentials

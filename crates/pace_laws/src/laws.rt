@@ -15,12 +15,9 @@ pub fn greatest_ratios_exist()
     ensures potentials { StrongPartsHaveAPace }
 {}
 
-/// Where a net has the places of another with the same ends, none of them with a longer holding
-/// time and none with fewer tokens, it is live where the other is; and if it is live, its greatest
+/// A net is live where one with slower places is: for each place one between the same transitions,
+/// with no shorter holding time and no more tokens, and perhaps further places. And its greatest
 /// ratio is at most that of the other, and so is that of each part (chapter 2).
-///
-/// The first net has to be live: a circuit without time and without tokens has every ratio, so a
-/// net that is one such circuit has a greater one than itself.
 pub fn pace_rises_with_the_net()
     ensures nets { SlowerNetsHaveMore }
     ensures parts { SlowerPartsHaveMore }
@@ -29,13 +26,14 @@ pub fn pace_rises_with_the_net()
 
 /// The potentials told of a part are tight at its greatest ratio: that of each member is the
 /// greatest that a place of the part offers it, so they are an eigenvector of the part. Any tight
-/// potentials at a ratio, told or not, tell that it is the greatest of the part, as some circuit
-/// has it, so a part of a live net has them at one ratio only; and the dates that go on from them
+/// potentials of a live net at a ratio, told or not, tell that it is the greatest of the part, as some
+/// circuit has it, so the part has them at one ratio only; and the dates that go on from them
 /// by the ratio keep each place of the part, and for each member just keep one place into it, at
 /// every firing (chapters 2 and 3).
 ///
-/// The part needs a member, as one without has tight potentials at every ratio. For the one ratio
-/// the net has to be live, since a circuit without time and without tokens has every ratio.
+/// The part needs a member, as one without has tight potentials at every ratio. For the ratio the
+/// net has to be live, since those around a circuit without time and without tokens are tight at
+/// every ratio.
 pub fn tight_potentials_tell_the_ratio()
     ensures best { BestPotentialsAreTight }
     ensures tell { TightPotentialsTellTheRatio }
@@ -43,8 +41,8 @@ pub fn tight_potentials_tell_the_ratio()
     ensures paced { TightPotentialsArePaced }
 {}
 
-/// The spectral theorem: a strong part has tight potentials at its greatest ratio, and at no other
-/// ratio (chapter 3).
+/// The spectral theorem: a strong part has tight potentials at its greatest ratio, and if the net is
+/// live at no other ratio (chapter 3).
 ///
 /// The part has to be strong: two transitions with a place from each to itself, of one token, that
 /// hold for 1 and for 2, have the greatest ratio 2, at which the first has no tight potential.

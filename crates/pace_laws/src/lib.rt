@@ -5,9 +5,9 @@
 //! or have more tokens, and it is the one ratio at which a strong part has tight potentials, the
 //! eigenvectors of its max-plus matrix, from which dates go on by the ratio. All of them are told
 //! by those that begin at critical transitions, one for each critical part. Each law is the
-//! contract of a function that does nothing when it runs. The crate stands on `teg_parts` for
-//! strong parts, on `teg_loops` for circuits in paths, and on `teg_net` for nets; no crate of the
-//! program stands on it.
+//! contract of a function that does nothing when it runs. The crate stands on `change_laws` for
+//! slower nets, on `teg_parts` for strong parts, on `teg_loops` for circuits in paths, and on
+//! `teg_net` for nets; no crate of the program stands on it.
 #![tactic(auto)]
 
 mod laws;

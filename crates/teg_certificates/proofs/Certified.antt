@@ -42,6 +42,7 @@ tells net part_of part NoCircuit h = no_place_no_circuit net part_of part h
 tells net part_of part (Best ratio circuit potentials) h = record {
   some = h.terms.some;
   attained = (circuit.places.items, h.circuit, h.inside, h.attains);
+  token = h.token;
   greatest = bounded net part_of part ratio potentials.items h.potentials;
 }
 
@@ -88,6 +89,7 @@ by_best net answer kept h (Some k) best =
       record {
         some = g.some;
         attained = (g.attained.0, g.attained.1, (λ i d m. tt), g.attained.3);
+        token = g.token;
         greatest = λ ps c i.
             let w = in_told net answer kept h ps c in
             let t = told_of net answer.part_of.items w.0 (get_or answer.parts.items w.0 NoCircuit) (tell_of_parts net answer h w.0 w.1) ps c w.2 in

@@ -71,6 +71,7 @@ module _ (net : NetLists) (part_of : List ℕ) (part : ℕ) (r : Fraction) (c : 
     circuit = h.attained.circuit;
     inside = h.attained.inside;
     attains = h.attained.attains;
+    token = h.attained.token;
     members = lists_told vs part_of part h.potentials.members;
     within = h.potentials.within;
     potentials = h.potentials.kept;
@@ -79,7 +80,7 @@ module _ (net : NetLists) (part_of : List ℕ) (part : ℕ) (r : Fraction) (c : 
   pub fits_certificate : IsBestCertificate net part_of part r c vs → FitsBest net part_of part r c vs
   fits_certificate h = record {
     limits = record { time_in = h.time_in; tokens_in = h.tokens_in };
-    attained = record { circuit = h.circuit; inside = h.inside; attains = h.attains };
+    attained = record { circuit = h.circuit; inside = h.inside; attains = h.attains; token = h.token };
     potentials = record { members = told_lists vs part_of part h.members; within = h.within; kept = h.potentials };
   }
 

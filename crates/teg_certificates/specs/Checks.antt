@@ -20,11 +20,12 @@ pub record AreNumbersOf (net : NetLists) (part_of : List ℕ) (count : ℕ) : Ty
   pub below : All (λ k. k < count) part_of
   pub rises : All (λ p. slice_index part_of p.from.index ≤ slice_index part_of p.to.index) net.places
 
--- a circuit in the part that has the ratio
+-- a circuit with a token in the part that has the ratio
 pub record HasRatio (net : NetLists) (part_of : List ℕ) (part : ℕ) (r : Fraction) (c : List PlaceId) : Type 0 where
   pub circuit : IsCircuit net c
   pub inside : All (IsPlaceOfPart net part_of part) c
   pub attains : time_of net c * r.tokens ≡ r.time * tokens_of net c
+  pub token : 1 ≤ tokens_of net c
 
 -- a potential is told of the transition
 abbrev pub HasPotentialTold : List Potential → ℕ → Type 0

@@ -7,7 +7,7 @@ ghost use Rattle.teg_certificates.specs.Checks.{AreNumbersOf, HasRatio, FitsBest
 use crate::first_best::is_first_best;
 use crate::inner_places::{Part, all_inner, has_no_place};
 use crate::potentials::potentials_fit;
-use crate::sums::attains;
+use crate::sums::{attains, has_token};
 use teg_net::{CycleAnswer, Net, PartAnswer, Place, PlaceId, Potential, Ratio, is_circuit};
 
 // The greatest time and the most tokens of a ratio in an answer that is checked.
@@ -56,12 +56,15 @@ pub(crate) fn is_within(ratio: Ratio) -> bool
     ratio.time() <= GREATEST_CHECKED_RATIO && ratio.tokens() <= GREATEST_CHECKED_RATIO
 }
 
-// Whether the places are a circuit in the part that has the ratio.
+// Whether the places are a circuit with a token in the part that has the ratio.
 fn has_ratio(part: &Part, ratio: Ratio, places: &[PlaceId]) -> bool
     ensures { IsTrue result ↔ HasRatio part.now.net.now part.now.part_of.now part.now.number
         ratio places.now }
 {
-    is_circuit(part.net, places) && all_inner(part, places) && attains(part.net, ratio, places)
+    is_circuit(part.net, places)
+        && all_inner(part, places)
+        && attains(part.net, ratio, places)
+        && has_token(part.net, places)
 }
 
 // What is told of a part with a circuit.
@@ -141,8 +144,8 @@ fn lists_fit(net: &Net, part_of: &[u32], answers: &[PartAnswer], best: Option<u3
 /// `best` is the first part of greatest ratio.
 ///
 /// A part that is `NoCircuit` has no place with both ends in it. In any other part the ratio a/b
-/// has time and tokens of at most 10^12, the circuit is one in the part that has the ratio, the
-/// potentials are those of the members in order, each of magnitude at most 10^18, and each place of
+/// has time and tokens of at most 10^12, the circuit is one in the part that has a token and the
+/// ratio, the potentials are those of the members in order, each of magnitude at most 10^18, and each place of
 /// the part with holding time h and m tokens lifts the potential of its start by b h - a m to no
 /// more than the potential of its end.
 ///

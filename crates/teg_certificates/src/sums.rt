@@ -36,6 +36,14 @@ fn is_ratio_of(ratio: Ratio, sums: CircuitSums) -> bool
     sums.time * u128::from(ratio.tokens()) == u128::from(ratio.time()) * sums.tokens
 }
 
+// Whether the circuit has a token.
+pub(crate) fn has_token(net: &Net, circuit: &[PlaceId]) -> bool
+    requires { IsCircuit net.now circuit.now }
+    ensures { IsTrue result ↔ (1 ≤ tokens_of net.now circuit.now) }
+{
+    circuit_sums(net, circuit).tokens >= 1
+}
+
 // Whether the circuit has the ratio.
 pub(crate) fn attains(net: &Net, ratio: Ratio, circuit: &[PlaceId]) -> bool
     requires { IsCircuit net.now circuit.now }

@@ -1,5 +1,5 @@
 -- What a change of one number of a net leaves of its ranks, and a change of tokens taken back.
-use Rattle.std.proofs.Common.{ℕ, ◌<◌, ◌≡◌, List, length, set, sym, ap, ◌∙◌}
+use Rattle.std.proofs.Common.{ℕ, ◌<◌, ◌≤◌, ◌≡◌, List, arith, length, set, sym, ap, ◌∙◌}
 use Rattle.std.specs.Prelude.{slice_index}
 use Rattle.std.proofs.Common.{subst}
 use Rattle.std.proofs.lemmas.List.Elements.{All-set}
@@ -17,6 +17,16 @@ ranking_kept net ranks id hold l h = record {
   small = h.small;
   rises = All-set (λ p. p.tokens ≡ 0 → slice_index ranks p.from.index < slice_index ranks p.to.index) net.places id.index
       (place_with_hold hold (place_at net id)) (h.rises id.index no_place l) h.rises;
+}
+
+-- a place with more tokens asks no more of the ranks
+pub ranking_with_more : (net : NetLists) (ranks : List ℕ) (id : PlaceId) (tokens : ℕ) → id.index < length net.places → (place_at net id).tokens ≤ tokens → IsRanking net ranks
+    → IsRanking (with_tokens net id tokens) ranks
+ranking_with_more net ranks id tokens l more h = record {
+  count = h.count;
+  small = h.small;
+  rises = All-set (λ p. p.tokens ≡ 0 → slice_index ranks p.from.index < slice_index ranks p.to.index) net.places id.index
+      (place_with_tokens tokens (place_at net id)) (λ none. h.rises id.index no_place l (omega (arith, none, more))) h.rises;
 }
 
 -- the place that was changed

@@ -1,9 +1,9 @@
 -- What ranks of a net are. A value stands for a net where its list of ranks is a ranking of it.
-use Rattle.std.specs.Prelude.{ℕ, ◌<◌, ◌≡◌, List, length, All, slice_index}
+use Rattle.std.specs.Prelude.{ℕ, ◌<◌, ◌≤◌, ◌≡◌, List, length, All, slice_index}
 use Rattle.teg_net.specs.declared.entries.PlaceId.{PlaceId}
-use Rattle.teg_net.specs.Changes.{with_hold}
+use Rattle.teg_net.specs.Changes.{with_hold, with_tokens}
 use Rattle.teg_net.specs.Nets.{NetLists}
-use Rattle.teg_net.specs.Circuits.{IsLive}
+use Rattle.teg_net.specs.Circuits.{IsLive, place_at}
 
 -- one rank for each transition, below their number, rising strictly along each place without tokens
 pub record IsRanking (net : NetLists) (ranks : List ℕ) : Type 0 where
@@ -18,3 +18,8 @@ RankedNetsAreLive = (net : NetLists) (ranks : List ℕ) → IsRanking net ranks 
 -- ranks stand for a net with another holding time too
 abbrev pub HoldsKeepRankings : Type 0
 HoldsKeepRankings = (net : NetLists) (ranks : List ℕ) (id : PlaceId) (hold : ℕ) → id.index < length net.places → IsRanking net ranks → IsRanking (with_hold net id hold) ranks
+
+-- and with more tokens in a place
+abbrev pub MoreTokensKeepRankings : Type 0
+MoreTokensKeepRankings = (net : NetLists) (ranks : List ℕ) (id : PlaceId) (tokens : ℕ) → id.index < length net.places → (place_at net id).tokens ≤ tokens
+    → IsRanking net ranks → IsRanking (with_tokens net id tokens) ranks

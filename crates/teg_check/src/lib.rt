@@ -33,6 +33,6 @@ mod live_net;
 mod refusal;
 
 pub use elimination::{check, ranks_of};
-pub use live::{Live, holds_keep_rankings, ranked_nets_are_live};
+pub use live::{Live, holds_keep_rankings, more_tokens_keep_rankings, ranked_nets_are_live};
 pub use live_net::{LiveNet, NotHeld};
 pub use refusal::CheckRefusal;

@@ -1,7 +1,8 @@
 //! Ranks of a live net.
-ghost use Rattle.std.specs.Prelude.{◌≡◌, ◌<◌, length, slice_index};
-ghost use Rattle.teg_check.specs.Ranks.{HoldsKeepRankings, RankedNetsAreLive};
+ghost use Rattle.std.specs.Prelude.{◌≡◌, ◌<◌, IfOk, length, slice_index};
+ghost use Rattle.teg_check.specs.Ranks.{HoldsKeepRankings, MoreTokensKeepRankings, RankedNetsAreLive};
 
+use std::alloc::{AllocError, Global};
 use std::marker::Model;
 use teg_net::TransitionId;
 
@@ -28,6 +29,14 @@ impl Live {
         Live { ranks }
     }
 
+    // The same ranks once more.
+    pub(crate) fn copy(&self, alloc: Global) -> Result<Live, AllocError>
+        ensures { IfOk result (λ copy. copy ≡ self.now) }
+    {
+        let ranks = Vec::from_slice(alloc, &self.ranks)?;
+        Ok(Live { ranks })
+    }
+
     /// The rank of a transition: along each place without tokens it rises strictly. It takes no
     /// memory.
     pub fn rank(&self, transition: TransitionId) -> u32
@@ -47,4 +56,10 @@ pub fn ranked_nets_are_live()
 /// tokens alone (chapter 2). It does nothing when it runs.
 pub fn holds_keep_rankings()
     ensures { HoldsKeepRankings }
+{}
+
+/// The law that ranks of a net stand for it with more tokens in a place too: they look at places
+/// without tokens alone (chapter 2). It does nothing when it runs.
+pub fn more_tokens_keep_rankings()
+    ensures { MoreTokensKeepRankings }
 {}

@@ -1,5 +1,5 @@
 //! A live net with its ranks, as one value.
-ghost use Rattle.std.specs.Prelude.{◌≡◌, ◌<◌, ◌≤◌, length, IfOk, IfErr, OnOk, OnErr};
+ghost use Rattle.std.specs.Prelude.{◌≡◌, ◌<◌, ◌≤◌, ◌+◌, length, IfOk, IfErr, OnOk, OnErr};
 ghost use Rattle.teg_net.specs.Changes.{MayHaveTokens, with_hold, with_tokens};
 ghost use Rattle.teg_net.specs.Circuits.{IsLive, place_at};
 ghost use Rattle.teg_net.specs.Limits.{greatest_hold};
@@ -7,13 +7,13 @@ ghost use Rattle.teg_check.specs.CheckRefusals.{IsRightCheckRefusal};
 ghost use Rattle.teg_check.specs.Ranks.{IsRanking};
 
 use crate::elimination::check;
-use crate::live::{Live, holds_keep_rankings, ranked_nets_are_live};
+use crate::live::{Live, holds_keep_rankings, more_tokens_keep_rankings, ranked_nets_are_live};
 use crate::refusal::CheckRefusal;
 use std::alloc::Global;
 use std::error::Error;
 use std::fmt;
 use std::marker::Model;
-use teg_net::{Net, PlaceId};
+use teg_net::{Net, OutOfMemory, PlaceId};
 
 /// A live net with its ranks, to be held, changed and asked again (chapter 2). Contracts see the
 /// net.
@@ -102,6 +102,30 @@ impl LiveNet {
     {
         holds_keep_rankings();
         self.net.set_hold(place, hold);
+    }
+
+    /// The same net with its ranks once more, to be changed and left behind. `OutOfMemory` comes
+    /// only where no memory is found.
+    pub fn copy(&self, alloc: Global) -> Result<LiveNet, OutOfMemory>
+        ensures { IfOk result (λ copy. copy ≡ self.now) }
+    {
+        let net = self.net.copy(alloc)?;
+        let live = self.live.copy(alloc)?;
+        Ok(LiveNet { net, live })
+    }
+
+    /// Gives the place so many more initial tokens, to at most 1,000, and as many as it has ready
+    /// dates where it has some; all else stays, its ranks too, since the net stays live with more
+    /// tokens. So it is never refused, and needs no [`check`]. It takes no memory.
+    pub fn add_tokens(&mut self, place: PlaceId, more: u32)
+        requires place { place.index < length self.old.places }
+        requires tokens { MayHaveTokens (place_at self.old place)
+            ((place_at self.old place).tokens + more) }
+        ensures { self.new ≡ with_tokens self.old place ((place_at self.old place).tokens + more) }
+    {
+        more_tokens_keep_rankings();
+        let tokens = self.net.place(place).tokens + more;
+        self.net.set_tokens(place, tokens);
     }
 
     /// Gives the place another number of initial tokens, at most 1,000, and as many as it has ready

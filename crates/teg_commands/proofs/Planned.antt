@@ -29,4 +29,4 @@ pub none_meet : (net : NetLists) (rows : List DueRow) (refusal : JitRefusal) →
     → ZeroInputsMeet → LateExcludesMeet → refusal ≢ OutOfMemory → LateIsRight net rows refusal →
     NoInputsMeet net (due_in rows)
 none_meet net rows refusal ok live of zero excludes other late =
-    λ v meets. none_where_late net rows refusal of excludes other late (zero net ok live (due_in rows) v meets)
+    λ v meets. none_where_late net rows refusal of excludes other late (zero net (λ i d l. ((ok.each_place i d l).from_in, (ok.each_place i d l).to_in)) live (due_in rows) v meets)

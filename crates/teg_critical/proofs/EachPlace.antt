@@ -9,10 +9,11 @@ use Rattle.teg_net.specs.declared.answers.CycleAnswer.{CycleAnswer}
 use Rattle.teg_net.specs.declared.answers.PartAnswer.{PartAnswer}
 use Rattle.teg_net.specs.Nets.{NetLists, IsNet}
 use Rattle.teg_net.specs.Ratios.{Fraction}
-use Rattle.teg_net.specs.Circuits.{from_of, IsLive}
+use Rattle.teg_net.specs.Circuits.{from_of, IsLive, tokens_of}
 use Rattle.teg_net.specs.Parts.{to_of}
 use Rattle.teg_net.specs.GreatestRatios.{IsGreatestRatio, IsAnyPlace, HasNoCircuit, IsFirstGreatest, ratio_at}
 use Rattle.teg_net.specs.Certificates.{IsCertificate}
+use Rattle.teg_certificates.proofs.number_laws_proofs.Numbers.{some_of}
 use Rattle.teg_certificates.specs.BestRatios.{named_ratio, best_ratio_of}
 use Rattle.teg_critical.specs.declared.endings.Ending.{Ending}
 use Rattle.teg_critical.specs.declared.losses.Loss.{Loss}
@@ -132,15 +133,15 @@ can_tell net ok answer h live best b losses lost =
       lost = lost;
       live = live;
       rules = ok;
-      greatest = greatest net ok answer h best losses lost told.some told.places told.circuit told.attains;
+      greatest = greatest net ok answer h best losses lost told.some told.places told.circuit (some_of (tokens_of net told.places) (live told.places told.circuit)) told.attains;
       small = told.small;
     }
 
 -- ---- the slacks of the net, for each way to write its ratio
 
-pub each_way : (net : NetLists) → IsLive net → (best : Fraction) → IsGreatestRatio net IsAnyPlace best → (slacks : List Slack) → AreSlacks net best slacks
+pub each_way : (net : NetLists) (best : Fraction) → IsGreatestRatio net IsAnyPlace best → (slacks : List Slack) → AreSlacks net best slacks
     → (r : Fraction) → IsGreatestRatio net IsAnyPlace r → AreSlacks net r slacks
-each_way net live best top slacks h r other = record { each = h.each; told = λ p l. of_the_net net live best r top other p l (slack_at slacks p) (h.told p l) }
+each_way net best top slacks h r other = record { each = h.each; told = λ p l. of_the_net net best r top other p l (slack_at slacks p) (h.told p l) }
 
 pub no_ratio : {P : Type 0} (net : NetLists) (r : Fraction) → IsGreatestRatio net IsAnyPlace r → HasNoCircuit net IsAnyPlace → P
 no_ratio net r top none = absurd (none top.attained.0 top.attained.1 top.attained.2)

@@ -20,13 +20,14 @@ module _ (net : NetLists) (r : Fraction) (p : PlaceId) (d : ℕ) (l : p.index < 
   pub stays : IsGreatestRatio net IsAnyPlace r → MayRise net r p d → IsGreatestRatio (raised net p d) IsAnyPlace r
   stays ratio may =
       let best = ratio.attained in
+      let none : All (λ q. q.index ≢ p.index) best.0 = ⊎_elim
+      (λ (passes : Contains best.0 p). absurd (let low = may.below best.0 best.1 passes in omega (arith, best.3)))
+      (λ (none : All (λ q. q.index ≢ p.index) best.0). none)
+      (passes_or_not p best.0) in
       record {
         some = ratio.some;
-        attained = ⊎_elim
-            (λ (passes : Contains best.0 p). absurd (let low = may.below best.0 best.1 passes in omega (arith, best.3)))
-            (λ (none : All (λ q. q.index ≢ p.index) best.0).
-            (best.0, circuit_up net p d l best.0 best.1, any_places best.0, rw (time_without net p d l best.0 none, tokens_same net p d l best.0) best.3))
-            (passes_or_not p best.0);
+        attained = (best.0, circuit_up net p d l best.0 best.1, any_places best.0, rw (time_without net p d l best.0 none, tokens_same net p d l best.0) best.3);
+        token = rw (tokens_same net p d l best.0) ratio.token;
         greatest = λ ps c all.
             let down : IsCircuit net ps = circuit_down net p d l ps c in
             ⊎_elim

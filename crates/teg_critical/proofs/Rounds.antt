@@ -126,8 +126,8 @@ module _ (net : NetLists) (ok : IsNet net) (answer : CycleAnswer) (h : IsCertifi
       le_of_mul-le-mul_left {m = time_of net (p ∷ ps) * r.tokens} {n = r.time * tokens_of net (p ∷ ps)} {k = (own k).tokens} (omega arith) (omega arith)
 
   -- so a circuit that has the ratio shows that it is the greatest
-  pub greatest : 1 ≤ r.tokens → (ps : List PlaceId) → IsCircuit net ps → time_of net ps * r.tokens ≡ r.time * tokens_of net ps → IsGreatestRatio net IsAnyPlace r
-  greatest some ps c e = record { some = some; attained = (ps, c, any_places ps, e); greatest = λ qs d all. at_most qs d.closed.0 d.not_empty d.closed.1 }
+  pub greatest : 1 ≤ r.tokens → (ps : List PlaceId) → IsCircuit net ps → 1 ≤ tokens_of net ps → time_of net ps * r.tokens ≡ r.time * tokens_of net ps → IsGreatestRatio net IsAnyPlace r
+  greatest some ps c token e = record { some = some; attained = (ps, c, any_places ps, e); token = token; greatest = λ qs d all. at_most qs d.closed.0 d.not_empty d.closed.1 }
 
   -- a path of a part is told losses
   pub is_way : (k : ℕ) (ps : List PlaceId) (s t : ℕ) → All (IsPlaceOfPart net parts k) ps → IsPathBetween net s ps t → IsWay net losses s ps t

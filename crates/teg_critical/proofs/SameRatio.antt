@@ -1,11 +1,10 @@
 -- Slacks do not depend on how the greatest ratio is written, and a place has one.
 use Rattle.std.proofs.Common.{ℕ, ◌*◌, ◌≤◌, ◌≡◌, refl, sym, ap, arith}
 use Rattle.std.proofs.Math.Nat.{mul-le-mul_left, le_of_mul-le-mul_left}
-use Rattle.teg_certificates.proofs.number_laws_proofs.Numbers.{some_of}
 use Rattle.teg_net.specs.declared.entries.PlaceId.{PlaceId}
 use Rattle.teg_net.specs.Nets.{NetLists}
 use Rattle.teg_net.specs.Ratios.{Fraction}
-use Rattle.teg_net.specs.Circuits.{IsLive, time_of, tokens_of}
+use Rattle.teg_net.specs.Circuits.{time_of, tokens_of}
 use Rattle.teg_net.specs.GreatestRatios.{IsGreatestRatio, IsAnyPlace}
 use Rattle.teg_critical.specs.declared.slacks.Slack.{Slack}
 use Rattle.teg_critical.specs.declared.slacks.Slack.TheVariants.{NoCircuit, Critical, Rise}
@@ -26,13 +25,13 @@ below a b s u t k some is l =
     let five : b * (s * k) ≡ k * (s * b) = grind arith in
     le_of_mul-le-mul_left {m = a * u} {n = s * b} {k = k} (omega arith) (omega arith)
 
--- a live net has one greatest ratio
-same_ratio : (net : NetLists) (r q : Fraction) → IsLive net → IsGreatestRatio net IsAnyPlace r → IsGreatestRatio net IsAnyPlace q → IsSame r q
-same_ratio net r q live f g =
+-- a net has one greatest ratio
+same_ratio : (net : NetLists) (r q : Fraction) → IsGreatestRatio net IsAnyPlace r → IsGreatestRatio net IsAnyPlace q → IsSame r q
+same_ratio net r q f g =
     let c = f.attained in
     let e = g.attained in
-    let one = below r.time r.tokens q.time q.tokens (time_of net c.0) (tokens_of net c.0) (some_of (tokens_of net c.0) (live c.0 c.1)) c.3 (g.greatest c.0 c.1 (any_places c.0)) in
-    let two = below q.time q.tokens r.time r.tokens (time_of net e.0) (tokens_of net e.0) (some_of (tokens_of net e.0) (live e.0 e.1)) e.3 (f.greatest e.0 e.1 (any_places e.0)) in
+    let one = below r.time r.tokens q.time q.tokens (time_of net c.0) (tokens_of net c.0) f.token c.3 (g.greatest c.0 c.1 (any_places c.0)) in
+    let two = below q.time q.tokens r.time r.tokens (time_of net e.0) (tokens_of net e.0) g.token e.3 (f.greatest e.0 e.1 (any_places e.0)) in
     omega arith
 
 -- what is at most the one is at most the other
@@ -66,6 +65,7 @@ moved_ratio : (net : NetLists) (r q : Fraction) → 1 ≤ q.tokens → IsSame r 
 moved_ratio net r q some same f = record {
   some = some;
   attained = (let c = f.attained in (c.0, c.1, c.2, moved_eq r q (time_of net c.0) (tokens_of net c.0) f.some same c.3));
+  token = f.token;
   greatest = λ ps c all. moved_le r q (time_of net ps) (tokens_of net ps) f.some same (f.greatest ps c all);
 }
 
@@ -82,7 +82,7 @@ moved_slack net r q p (Rise by) sr sq same h = (
 )
 
 pub of_the_net : SlacksAreOfTheNet
-of_the_net net live r q f g p l s h = moved_slack net r q p s f.some g.some (same_ratio net r q live f g) h
+of_the_net net r q f g p l s h = moved_slack net r q p s f.some g.some (same_ratio net r q f g) h
 
 pub one_slack : SlacksAreOne
 one_slack net r p NoCircuit NoCircuit f g = refl

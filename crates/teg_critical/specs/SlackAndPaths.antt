@@ -3,7 +3,6 @@ use Rattle.std.specs.Prelude.{ℕ, ◌/◌, ◌<◌, ◌≡◌, ◌↔◌, lengt
 use Rattle.teg_net.specs.declared.entries.PlaceId.{PlaceId}
 use Rattle.teg_net.specs.Nets.{NetLists}
 use Rattle.teg_net.specs.Ratios.{Fraction}
-use Rattle.teg_net.specs.Circuits.{IsLive}
 use Rattle.teg_net.specs.GreatestRatios.{IsGreatestRatio, IsAnyPlace}
 use Rattle.teg_critical.specs.declared.slacks.Slack.{Slack}
 use Rattle.teg_critical.specs.Slacks.{IsCritical, IsSlack, IsSlackOf}
@@ -22,7 +21,7 @@ GapsTellSlacks = (net : NetLists) (r : Fraction) (p : PlaceId) (gap : ℕ) → I
 abbrev pub SlacksAreOne : Type 0
 SlacksAreOne = (net : NetLists) (r : Fraction) (p : PlaceId) (s q : Slack) → IsSlackOf net r p s → IsSlackOf net r p q → s ≡ q
 
--- in a live net the slack of a place does not depend on how the greatest ratio is written
+-- the slack of a place does not depend on how the greatest ratio is written
 abbrev pub SlacksAreOfTheNet : Type 0
-SlacksAreOfTheNet = (net : NetLists) → IsLive net → (r q : Fraction) → IsGreatestRatio net IsAnyPlace r → IsGreatestRatio net IsAnyPlace q
+SlacksAreOfTheNet = (net : NetLists) (r q : Fraction) → IsGreatestRatio net IsAnyPlace r → IsGreatestRatio net IsAnyPlace q
     → (p : PlaceId) → p.index < length net.places → (s : Slack) → IsSlackOf net r p s → IsSlackOf net q p s

@@ -14,8 +14,7 @@ pub fn slacks_are_one()
     ensures { SlacksAreOne }
 {}
 
-/// In a live net the slack of a place does not depend on how the greatest ratio is written
-/// (chapters 2 and 3).
+/// The slack of a place does not depend on how the greatest ratio is written (chapters 2 and 3).
 pub fn slacks_are_of_the_net()
     ensures { SlacksAreOfTheNet }
 {}

@@ -72,6 +72,7 @@ answer_certifies net part_of part (Best ratio circuit potentials) h k n = record
   circuit = h.circuit;
   inside = h.inside;
   attains = h.attains;
+  token = h.token;
   members = h.members;
   within = λ i d l. let w = k.2 i d l in let low = w.low in let high = w.high in record { low = omega (arith, ints); high = omega (arith, ints) };
   potentials = sums_are_potentials net part_of part ratio circuit.places.items potentials.items h;

@@ -6,7 +6,7 @@ use Rattle.std.proofs.lemmas.List.{length_push, get_or_push, get_or_append_left,
 use Rattle.std.proofs.lemmas.List.Elements.{All-tail}
 use Rattle.teg_net.specs.declared.entries.PlaceId.{PlaceId}
 use Rattle.teg_net.specs.Nets.{NetLists}
-use Rattle.teg_net.specs.Circuits.{IsPathBetween}
+use Rattle.teg_net.specs.Circuits.{IsLive, IsPathBetween, tokens_of}
 use Rattle.teg_net.specs.declared.rounds.Round.{Round}
 use Rattle.teg_net.specs.Parts.{IsMember, IsPlaceOfPart, Reaches, to_of}
 use Rattle.teg_howard.specs.Policies.{Enters, IsPolicy, Improves, first_id}
@@ -111,30 +111,37 @@ module _ (net : NetLists) (parts : List ℕ) (part : ℕ) where
   pub lowest_outside : (ps : List PlaceId) → AreLowest net parts part ps → (t : ℕ) → (IsMember parts part t → ⊥) → policy_of ps t ≡ first_id
   lowest_outside ps low t o = low.others t (λ p e. o (subst (IsMember parts part) e.ends e.inside.to_member))
 
+-- a number that is not 0
+positive : (n : ℕ) → n ≢ 0 → 1 ≤ n
+positive n some = omega (arith, some)
+
 -- the last round's answer tells the greatest ratio of the part, a circuit that has it, and the greatest sums
 pub last_answers :
     (net : NetLists) (parts : List ℕ) (part : ℕ) (policy : List PlaceId) (st : RoundState) (answer : PartAnswer)
-    → IsRoundState net parts part policy st → IsLastRound net parts part st.round → IsAnswerOf st.round answer
+    → IsLive net → IsRoundState net parts part policy st → IsLastRound net parts part st.round → IsAnswerOf st.round answer
     → IsPartAnswer net parts part answer
-last_answers net parts part policy st NoCircuit h last is = absurd is
-last_answers net parts part policy st (Best ratio circuit told) h last is =
+last_answers net parts part policy st NoCircuit live h last is = absurd is
+last_answers net parts part policy st (Best ratio circuit told) live h last is =
     let r : Fraction = st.round.ratio in
     let a : ℕ = r.time in
     let b : ℕ = r.tokens in
     let c : List PlaceId = st.round.circuit.places.items in
     let v = potentials st.values.items in
     let to : potential st.round ≡ v = same_functions (potential st.round) v h.potential_is in
+    let token : 1 ≤ tokens_of net c = positive (tokens_of net c) (live c h.circuit.circuit) in
     let none = λ (t : ℕ) (p : PlaceId) (i : Improves net parts part a b v t p). last t p (subst (λ x. Improves net parts part a b x t p) (sym to) i) in
     let best : IsBestOfPart net parts part r c (map potential_of st.round.choices.items) = record {
       greatest = record {
         some = h.ratio.terms.some;
         attained = (c, h.circuit.circuit, h.circuit.inside, h.ratio.same);
+        token = token;
         greatest = λ ps k i. let g = greatest_in_part net parts part a b v none ps k i in grind (arith, g);
       };
       terms = h.ratio.terms;
       circuit = h.circuit.circuit;
       inside = h.circuit.inside;
       attains = h.ratio.same;
+      token = token;
       lowest_first = begins_lowest net c h.lowest_first;
       members = subst (ListsMembers parts part) (sym (same_transitions st.round.choices.items)) (lists_members parts part st.round.choices.items h.members);
       sums = told_potentials (IsGreatestPathTime net parts part a b (first_transition_of net c)) st.round parts part h.members

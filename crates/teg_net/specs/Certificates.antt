@@ -1,5 +1,5 @@
 -- What makes an answer on cycle times a certificate: conditions on the answer and the net alone, which a short check
--- decides. In a live net they show that the ratio told is the greatest over all circuits (chapters 2 and 3).
+-- decides. They show that the ratio told is the greatest over all circuits (chapters 2 and 3).
 use Rattle.std.specs.Prelude.{ℕ, ℤ, pos, ◌+ℤ◌, ◌≤ℤ◌, ◌*◌, ◌<◌, ◌≤◌, ◌≡◌, ◌==◌, if◌then◌else◌, List, [], ◌∷◌, length, All, slice_index, slice_index_or}
 use Rattle.teg_net.specs.declared.entries.PlaceId.{PlaceId}
 use Rattle.teg_net.specs.declared.answers.Potential.{Potential}
@@ -25,7 +25,7 @@ abbrev pub ArePotentials : NetLists → List ℕ → ℕ → Fraction → List P
 ArePotentials net part_of part r vs =
     (p : PlaceId) → IsPlaceOfPart net part_of part p → (reduced_time net r.time r.tokens p +ℤ potential_at vs (from_of net p)) ≤ℤ potential_at vs (to_of net p)
 
--- a ratio of a circuit in the part, and potentials of its members that no place exceeds, within limits; each ratio is in
+-- a ratio of a circuit with a token in the part, and potentials of its members that no place exceeds, within limits; each ratio is in
 -- lowest terms
 pub record IsBestCertificate (net : NetLists) (part_of : List ℕ) (part : ℕ) (r : Fraction) (c : List PlaceId) (vs : List Potential) : Type 0 where
   pub time_in : r.time ≤ greatest_checked_ratio
@@ -34,6 +34,7 @@ pub record IsBestCertificate (net : NetLists) (part_of : List ℕ) (part : ℕ) 
   pub circuit : IsCircuit net c
   pub inside : All (IsPlaceOfPart net part_of part) c
   pub attains : time_of net c * r.tokens ≡ r.time * tokens_of net c
+  pub token : 1 ≤ tokens_of net c
   pub members : ListsMembers part_of part (transitions_of vs)
   pub within : All (λ v. IsMagnitudeWithin greatest_checked_potential v.value) vs
   pub potentials : ArePotentials net part_of part r vs

@@ -7,10 +7,11 @@ use Rattle.teg_net.specs.Nets.{NetLists}
 use Rattle.teg_net.specs.Ratios.{Fraction}
 use Rattle.teg_net.specs.Circuits.{IsCircuit, time_of, tokens_of}
 
--- some circuit of such places has this ratio, and none of them has a greater one
+-- some circuit of such places with a token has this ratio, and none of them has a greater one
 pub record IsGreatestRatio (net : NetLists) (Within : PlaceId → Type 0) (r : Fraction) : Type 0 where
   pub some : 1 ≤ r.tokens
   pub attained : (ps : List PlaceId) × IsCircuit net ps × All Within ps × (time_of net ps * r.tokens ≡ r.time * tokens_of net ps)
+  pub token : 1 ≤ tokens_of net attained.0
   pub greatest : (ps : List PlaceId) → IsCircuit net ps → All Within ps → time_of net ps * r.tokens ≤ r.time * tokens_of net ps
 
 -- any place

@@ -7,6 +7,7 @@ use Rattle.teg_model.specs.dioid.Dates.{delayed}
 use Rattle.teg_model.specs.teg_net.declared.walks.Walk.{Walk}
 use Rattle.teg_model.specs.teg_net.Nets.{NetLists, IsNet}
 use Rattle.teg_model.specs.teg_net.Walks.{Walks, EndsAt, IsWalk, walk_time}
+use Rattle.teg_model.proofs.OfNet.{net_ends}
 use Rattle.teg_due.specs.declared.rows.DueRow.{DueRow}
 use Rattle.latest_laws.specs.ShownByWalks.{TightWalksBound}
 use Rattle.witness_check.specs.ShownWalks.{BoundsByRow}
@@ -17,7 +18,7 @@ walk_bounds net ok row w t k date walk from number ends time law due told =
     let taken : ℕ = walk_time net w.steps.items in
     let leads : Walks net t k w.steps.items row.transition.index row.number = rw from at (rw number at ends) in
     let sum : delayed taken (At (pos date)) ≡ At (pos row.date) = ap At (omega (arith, ints, time)) in
-    law net ok due t k (At (pos date)) w (record {
+    law net (net_ends net ok) due t k (At (pos date)) w (record {
       is_walk = walk;
       from = from;
       number = number;

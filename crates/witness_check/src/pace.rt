@@ -31,8 +31,7 @@ fn told(alloc: Global, ratio: Ratio) -> Result<String, AllocError>
 
 /// The ratio that the text of `teg cycle` tells in its first line, where the text is seen to show
 /// that it is the greatest over all circuits of the net (chapter 3). Of the ratios of parts it
-/// tells nothing. The net need not be live; in one that is not, a circuit without time and tokens
-/// has each ratio. `OutOfMemory` comes only where no memory is found.
+/// tells nothing. The net need not be live. `OutOfMemory` comes only where no memory is found.
 pub fn shown_pace(alloc: Global, net: &Net, text: &str) -> Result<Option<Ratio>, OutOfMemory>
     ensures greatest { IfOk result (λ r. IfSome r (IsGreatestRatio net.now IsAnyPlace)) }
     ensures told { IfOk result (λ r. IfSome r (BeginsWithPace text.now)) }

@@ -101,6 +101,22 @@ transition South 15 40 65 step 80
 }
 
 #[test]
+fn only_the_least_are_shown(rt: HostRuntime) {
+    let later = "settled after 5 period 1
+transition m1 0 4 8 12 16 22 step 6
+transition m2 4 10 16 22 28 34 step 6
+transition m3 10 16 22 28 34 40 step 6
+";
+    assert!(rt; shown(rt.alloc(), KANBAN, later).is_none());
+    let longer = "settled after 4 period 2
+transition m1 0 4 8 12 16 22 step 12
+transition m2 4 10 16 22 28 34 step 12
+transition m3 10 16 22 28 34 40 step 12
+";
+    assert!(rt; shown(rt.alloc(), KANBAN, longer).is_none());
+}
+
+#[test]
 fn dates_that_are_never_are_shown(rt: HostRuntime) {
     let told = "settled after 2 period 1
 transition feed 0 3 never step 0

@@ -59,6 +59,26 @@ fn tables_are_shown(rt: HostRuntime) {
 }
 
 #[test]
+fn tables_that_no_inputs_keep_are_not(rt: HostRuntime) {
+    let due = "ship,1,15\n";
+    let from_zero = "latest inputs for 1 firings
+input material 1 0 by feed
+latest saw 1 2 by to_drill
+latest drill 1 7 by to_ship
+latest ship 1 15 due
+";
+    assert!(rt; shown(rt.alloc(), due, from_zero) == Some(1));
+    let sooner = "ship,1,14\n";
+    let below_zero = "latest inputs for 1 firings
+input material 1 -1 by feed
+latest saw 1 1 by to_drill
+latest drill 1 6 by to_ship
+latest ship 1 14 due
+";
+    assert!(rt; shown(rt.alloc(), sooner, below_zero).is_none());
+}
+
+#[test]
 fn other_tables_are_not(rt: HostRuntime) {
     let due = "ship,1,15\n";
     let told = "latest inputs for 1 firings

@@ -6,22 +6,22 @@ use Rattle.std.proofs.lemmas.Int.{ints}
 use Rattle.std.proofs.lemmas.List.{get_or_past, get_or_default}
 use Rattle.std.proofs.lemmas.List.Elements.{All-nil, All-cons}
 use Rattle.std.proofs.Math.Nat.{mul-le-mul_right}
-use Rattle.teg_net.specs.declared.entries.PlaceId.{PlaceId}
-use Rattle.teg_net.specs.declared.entries.Place.{Place}
-use Rattle.teg_net.specs.Limits.{greatest_input_date}
-use Rattle.teg_net.specs.Nets.{NetLists, IsNet, IsPlaceOf}
-use Rattle.teg_net.specs.ReadyDates.{ready_date}
-use Rattle.teg_net.specs.Ratios.{Fraction}
-use Rattle.teg_net.specs.Circuits.{place_at, no_place, from_of, IsCircuit, time_of, tokens_of}
-use Rattle.teg_net.specs.Parts.{to_of}
-use Rattle.teg_net.specs.ReducedTimes.{reduced_time_of}
-use Rattle.teg_net.specs.GreatestRatios.{IsGreatestRatio, IsAnyPlace}
+use Rattle.teg_model.specs.teg_net.declared.entries.PlaceId.{PlaceId}
+use Rattle.teg_model.specs.teg_net.declared.entries.Place.{Place}
+use Rattle.teg_model.specs.teg_net.Nets.{NetLists}
+use Rattle.teg_model.specs.teg_net.ReadyDates.{ready_date}
+use Rattle.teg_model.specs.teg_net.Ratios.{Fraction}
+use Rattle.teg_model.specs.teg_net.Circuits.{place_at, no_place, from_of, IsCircuit, time_of, tokens_of}
+use Rattle.teg_model.specs.teg_net.Parts.{to_of}
+use Rattle.teg_model.specs.teg_net.ReducedTimes.{reduced_time_of}
+use Rattle.teg_model.specs.teg_net.GreatestRatios.{IsGreatestRatio, IsAnyPlace}
+use Rattle.teg_model.specs.LiveRanks.{HasEndsInRange}
+use Rattle.teg_loops.specs.Loops.{EndsBelow}
 use Rattle.workable_laws.specs.WorkablePeriods.{LeavesCircuitsTime, LeavesPlaceTime, AreWorkableFirsts, WorkableIsByFirsts}
 use Rattle.workable_laws.specs.WorkablePeriods.{TimetablesFromFirstsAreWorkable, PeriodsAreWorkable, PeriodsFromTheRatioAreWorkable}
 use Rattle.pace_laws.proofs.Slower.{cancel}
 use Rattle.pace_laws.proofs.Sums.{weight_is}
 use Rattle.pace_laws.proofs.Longest.{IsBestOfAll, best_of_all}
-use Rattle.pace_laws.proofs.Tight.{ends_below}
 use Rattle.workable_laws.proofs.Workable.{along, ratio_below}
 
 -- a number that is not below 0
@@ -38,14 +38,30 @@ bound m (suc n) =
       λ t l. ⊎_elim (λ (q : t < n). let h = w.1 t q in omega arith) (λ (q : n ≤ t). let e : t ≡ n = omega arith in let f : m t ≡ m n = ap m e in omega arith) (cases_lt t n),
     )
 
--- no initial token of a place of a net is ready past the limit
-ready_soon : (net : NetLists) (p : Place) → IsPlaceOf net p → (k : ℕ) → ready_date p k ≤ greatest_input_date
-ready_soon net p rules k = ⊎_elim
-    (λ (l : k - 1 < length p.ready). rules.ready_in (k - 1) 0 l)
+-- the greatest ready date of the initial tokens of the place of this number
+own_latest : NetLists → ℕ → ℕ
+own_latest net i = (bound (λ k. get_or (get_or net.places i no_place).ready k 0) (length (get_or net.places i no_place).ready)).0
+
+-- and of all places
+latest : NetLists → ℕ
+latest net = (bound (own_latest net) (length net.places)).0
+
+-- no initial token is ready later
+ready_soon : (net : NetLists) (i : ℕ) → i < length net.places → (k : ℕ) → ready_date (get_or net.places i no_place) k ≤ latest net
+unfolding latest own_latest
+ready_soon net i in' k =
+    let p : Place = get_or net.places i no_place in
+    let all : own_latest net i ≤ latest net = (bound (own_latest net) (length net.places)).1 i in' in
+    ⊎_elim
+    (λ (l : k - 1 < length p.ready). let own = (bound (λ j. get_or p.ready j 0) (length p.ready)).1 (k - 1) l in omega arith)
     (λ (g : length p.ready ≤ k - 1). let e : ready_date p k ≡ 0 = get_or_past p.ready (k - 1) 0 g in omega arith)
     (cases_lt (k - 1) (length p.ready))
 
-module _ (net : NetLists) (period : ℕ) (ok : IsNet net) (time : LeavesCircuitsTime net period) where
+-- both ends of each place are transitions of the net
+ends_below : (net : NetLists) → HasEndsInRange net → EndsBelow net (length net.transitions)
+ends_below net ok = record { from_in = λ p l. (ok p.index no_place l).0; to_in = λ p l. (ok p.index no_place l).1 }
+
+module _ (net : NetLists) (period : ℕ) (ok : HasEndsInRange net) (time : LeavesCircuitsTime net period) where
   abbrev n : ℕ
   n = length net.transitions
 
@@ -88,32 +104,35 @@ module _ (net : NetLists) (period : ℕ) (ok : IsNet net) (time : LeavesCircuits
   abbrev most : ℕ
   most = (bound (λ s. (left s).0) n).0
 
+  abbrev late : ℕ
+  late = latest net
+
   abbrev first : ℕ → ℕ
-  first s = most + greatest_input_date - (left s).0
+  first s = most + late - (left s).0
 
   leaves : (p : PlaceId) → Within p → LeavesPlaceTime period first (place_at net p)
   leaves p l =
-      let rules : IsPlaceOf net (place_at net p) = ok.each_place p.index no_place l in
-      let from : IsLeft (from_of net p) (left (from_of net p)).0 = (left (from_of net p)).1 rules.from_in in
-      let to : IsLeft (to_of net p) (left (to_of net p)).0 = (left (to_of net p)).1 rules.to_in in
+      let in' = ok p.index no_place l in
+      let from : IsLeft (from_of net p) (left (from_of net p)).0 = (left (from_of net p)).1 in'.0 in
+      let to : IsLeft (to_of net p) (left (to_of net p)).0 = (left (to_of net p)).1 in'.1 in
       let way = to.own.way in
       let up = from.own.greatest (p ∷ to.own.best) (record { to = way.to; path = (l, refl, way.path); at_end = way.at_end; inside = All-cons Within p to.own.best l way.inside }) in
       let x : ℕ = (left (from_of net p)).0 in
       let y : ℕ = (left (to_of net p)).0 in
-      let low : x ≤ most = (bound (λ s. (left s).0) n).1 (from_of net p) rules.from_in in
-      let high : y ≤ most = (bound (λ s. (left s).0) n).1 (to_of net p) rules.to_in in
+      let low : x ≤ most = (bound (λ s. (left s).0) n).1 (from_of net p) in'.0 in
+      let high : y ≤ most = (bound (λ s. (left s).0) n).1 (to_of net p) in'.1 in
       let x_is : pos x ≡ reduced_time_of net period 1 from.own.best = from.is in
       let y_is : pos y ≡ reduced_time_of net period 1 to.own.best = to.is in
       let step : y + (place_at net p).hold ≤ x + period * (place_at net p).tokens = omega (arith, ints, up, x_is, y_is) in
       record {
-        leaves_time = by_numbers x y most (place_at net p).hold (period * (place_at net p).tokens) low high step;
-        ready = λ k some few. soon (ready_date (place_at net p) k) y most (period * (k - 1)) high (ready_soon net (place_at net p) rules k);
+        leaves_time = by_numbers x y most late (place_at net p).hold (period * (place_at net p).tokens) low high step;
+        ready = λ k some few. soon (ready_date (place_at net p) k) y most late (period * (k - 1)) high (ready_soon net p.index l k);
       } where
-        by_numbers : (x y most hold gain : ℕ) → x ≤ most → y ≤ most → y + hold ≤ x + gain → (most + greatest_input_date - x) + hold ≤ (most + greatest_input_date - y) + gain
-        by_numbers x y most hold gain low high step = omega arith
+        by_numbers : (x y most late hold gain : ℕ) → x ≤ most → y ≤ most → y + hold ≤ x + gain → (most + late - x) + hold ≤ (most + late - y) + gain
+        by_numbers x y most late hold gain low high step = omega arith
 
-        soon : (date y most more : ℕ) → y ≤ most → date ≤ greatest_input_date → date ≤ (most + greatest_input_date - y) + more
-        soon date y most more high l = omega arith
+        soon : (date y most late more : ℕ) → y ≤ most → date ≤ late → date ≤ (most + late - y) + more
+        soon date y most late more high l = omega arith
 
   pub firsts : (f : ℕ → ℕ) × AreWorkableFirsts net period f
   firsts = (first, λ i d l. subst (LeavesPlaceTime period first) (same i d l) (leaves (record { index = i }) l)) where
@@ -129,9 +148,9 @@ by_firsts net period t = (
 pub begun_by : TimetablesFromFirstsAreWorkable
 begun_by net period f t ok h e i d l =
     let w = h i d l in
-    let rules : IsPlaceOf net (get_or net.places i d) = ok.each_place i d l in
-    let from = e (get_or net.places i d).from.index rules.from_in in
-    let to = e (get_or net.places i d).to.index rules.to_in in
+    let in' = ok i d l in
+    let from = e (get_or net.places i d).from.index in'.0 in
+    let to = e (get_or net.places i d).to.index in'.1 in
     let time = w.leaves_time in
     record { leaves_time = omega arith; ready = λ k m n. let r = w.ready k m n in omega arith }
 

@@ -3,12 +3,12 @@ use Rattle.std.proofs.Common.{ℕ, ◌+◌, ◌*◌, ◌<◌, ◌≤◌, ◌≡�
 use Rattle.std.proofs.lemmas.Bool.{cases_lt}
 use Rattle.std.proofs.lemmas.List.Sums.{sum_by-cons}
 use Rattle.std.proofs.Math.Nat.{mul-le-mul_right}
-use Rattle.teg_net.specs.declared.entries.PlaceId.{PlaceId}
-use Rattle.teg_net.specs.Nets.{NetLists}
-use Rattle.teg_net.specs.Ratios.{Fraction}
-use Rattle.teg_net.specs.Parts.{to_of}
-use Rattle.teg_net.specs.Circuits.{place_at, no_place, from_of, IsPathBetween, IsCircuit, IsLive, time_of, tokens_of}
-use Rattle.teg_net.specs.GreatestRatios.{IsGreatestRatio, IsAnyPlace}
+use Rattle.teg_model.specs.teg_net.declared.entries.PlaceId.{PlaceId}
+use Rattle.teg_model.specs.teg_net.Nets.{NetLists}
+use Rattle.teg_model.specs.teg_net.Ratios.{Fraction}
+use Rattle.teg_model.specs.teg_net.Parts.{to_of}
+use Rattle.teg_model.specs.teg_net.Circuits.{place_at, no_place, from_of, IsPathBetween, IsCircuit, IsLive, time_of, tokens_of}
+use Rattle.teg_model.specs.teg_net.GreatestRatios.{IsGreatestRatio, IsAnyPlace}
 use Rattle.delay_laws.specs.PlannedTimetables.{first_planned}
 use Rattle.workable_laws.specs.WorkablePeriods.{LeavesCircuitsTime, WorkablePeriodsLeaveTime, WorkablePeriodsAreAboveRatios}
 use Rattle.pace_laws.proofs.Slower.{cancel}

@@ -1,12 +1,13 @@
 -- Periods at which a net can be kept to a timetable (chapters 2 and 3).
 use Rattle.std.specs.Prelude.{ℕ, ◌+◌, ◌-◌, ◌*◌, ◌<◌, ◌≤◌, ◌≡◌, ◌↔◌, List, length, All}
-use Rattle.teg_net.specs.declared.entries.PlaceId.{PlaceId}
-use Rattle.teg_net.specs.declared.entries.Place.{Place}
-use Rattle.teg_net.specs.Nets.{NetLists, IsNet}
-use Rattle.teg_net.specs.ReadyDates.{ready_date}
-use Rattle.teg_net.specs.Ratios.{Fraction}
-use Rattle.teg_net.specs.Circuits.{IsCircuit, IsLive, time_of, tokens_of}
-use Rattle.teg_net.specs.GreatestRatios.{IsGreatestRatio, IsAnyPlace}
+use Rattle.teg_model.specs.teg_net.declared.entries.PlaceId.{PlaceId}
+use Rattle.teg_model.specs.teg_net.declared.entries.Place.{Place}
+use Rattle.teg_model.specs.teg_net.Nets.{NetLists}
+use Rattle.teg_model.specs.teg_net.ReadyDates.{ready_date}
+use Rattle.teg_model.specs.teg_net.Ratios.{Fraction}
+use Rattle.teg_model.specs.teg_net.Circuits.{IsCircuit, IsLive, time_of, tokens_of}
+use Rattle.teg_model.specs.teg_net.GreatestRatios.{IsGreatestRatio, IsAnyPlace}
+use Rattle.teg_model.specs.LiveRanks.{HasEndsInRange}
 use Rattle.delay_laws.specs.declared.table.Timetable.{Timetable}
 use Rattle.delay_laws.specs.PlannedTimetables.{first_planned, IsWorkable}
 
@@ -39,15 +40,15 @@ WorkableIsByFirsts = (net : NetLists) (period : ℕ) (t : Timetable) → IsWorka
 -- and so where its first departures are equal to such dates
 abbrev pub TimetablesFromFirstsAreWorkable : Type 0
 TimetablesFromFirstsAreWorkable =
-    (net : NetLists) (period : ℕ) (f : ℕ → ℕ) (t : Timetable) → IsNet net → AreWorkableFirsts net period f
+    (net : NetLists) (period : ℕ) (f : ℕ → ℕ) (t : Timetable) → HasEndsInRange net → AreWorkableFirsts net period f
     → ((i : ℕ) → i < length net.transitions → first_planned t i ≡ f i) → IsWorkable net period t
 
 -- a net has such dates of first firings just where the period leaves each circuit its time
 abbrev pub PeriodsAreWorkable : Type 0
-PeriodsAreWorkable = (net : NetLists) (period : ℕ) → IsNet net → ((f : ℕ → ℕ) × AreWorkableFirsts net period f) ↔ LeavesCircuitsTime net period
+PeriodsAreWorkable = (net : NetLists) (period : ℕ) → HasEndsInRange net → ((f : ℕ → ℕ) × AreWorkableFirsts net period f) ↔ LeavesCircuitsTime net period
 
 -- and so, of a live net with a circuit, just where the period is at least the greatest ratio
 abbrev pub PeriodsFromTheRatioAreWorkable : Type 0
 PeriodsFromTheRatioAreWorkable =
-    (net : NetLists) (period : ℕ) (r : Fraction) → IsNet net → IsLive net → IsGreatestRatio net IsAnyPlace r
+    (net : NetLists) (period : ℕ) (r : Fraction) → HasEndsInRange net → IsLive net → IsGreatestRatio net IsAnyPlace r
     → ((f : ℕ → ℕ) × AreWorkableFirsts net period f) ↔ (r.time ≤ period * r.tokens)

@@ -12,12 +12,12 @@ returns c =
     let dates = c.as_slice-dates.result.now in
     let steps = c.as_slice-steps.result.now in
     let same : string_bytes c.in_ok-lines.lines ≡ c.args.text.now = search rules in
-    let sure : IsTrue c.in_ok-check_settled.field-0 = search rules in
-    let settles : IsLive net → SettlesAs net told.after told.period dates steps = λ live. c.in_ok-check_settled.ensures.settled live sure in
+    let sure : IsTrue c.in_ok-check_shortest.field-0 = search rules in
+    let settles : IsLive net → SettlesAs net told.after told.period dates steps = λ live. c.in_ok-check_shortest.ensures.settled live sure in
     let wide = ap length c.transitions.ensures.value in (
       form_by_rows (length net.transitions) dates told.after told.period steps,
       refl,
       refl,
       sym same ∙ (c.in_ok-lines.ensures ∙ ap (λ (n : ℕ). written (lines_of_form net (form_by_rows n dates told.after told.period steps))) wide),
-      λ live. record { stands = (settles live).stands; tells = (settles live).tells },
+      λ live. record { stands = (settles live).stands; tells = (settles live).tells; shortest = c.in_ok-check_shortest.ensures.shortest live sure },
     )

@@ -10,10 +10,10 @@ returns c =
     let dates = c.as_slice-dates.result.now in
     let ways = c.as_slice-ways.result.now in
     let same : string_bytes c.in_ok-lines.lines ≡ c.args.text.now = search rules in
-    let sure : IsTrue c.in_ok-check_latest.field-0 = search rules in
+    let sure : IsTrue c.in_ok-check_plan.field-0 = search rules in
     let wide = ap length c.transitions.ensures.value in (
       dates,
       ways,
       sym same ∙ (c.in_ok-lines.ensures ∙ ap (λ (n : ℕ). written (table_told_lines net n told.numbers dates ways)) wide),
-      λ live due listed. (c.in_ok-check_latest.ensures.latest live due listed).0 sure,
+      λ live due listed. record { rows = (c.in_ok-check_plan.ensures.plan live due listed).0 sure; inputs = c.in_ok-check_plan.ensures.inputs live due listed sure },
     )

@@ -8,7 +8,7 @@ slacks_at-requires-clause-best c = sym c.best_ratio.ensures ∙ c.in-Some.is
 pub returns-in_ok-slacks_at-in-Some-clause-slacks : goal.returns-in_ok-slacks_at-in-Some-clause-slacks
 returns-in_ok-slacks_at-in-Some-clause-slacks c = λ r top.
     rw c.new.ensures
-    (each_way c.args.net.now c.requires.live c.in-Some.best c.in_ok-slacks_at-in-Some.ensures.greatest c.in_ok-slacks_at-in-Some.field-0.items c.in_ok-slacks_at-in-Some.ensures.slacks r top)
+    (each_way c.args.net.now c.in-Some.best c.in_ok-slacks_at-in-Some.ensures.greatest c.in_ok-slacks_at-in-Some.field-0.items c.in_ok-slacks_at-in-Some.ensures.slacks r top)
 
 pub returns-in_ok-no_slacks-in-None-clause-slacks : goal.returns-in_ok-no_slacks-in-None-clause-slacks
 returns-in_ok-no_slacks-in-None-clause-slacks c = λ r top.

@@ -30,7 +30,7 @@ returns c =
     let end : StaysAtLast net parts part at c.advance.new.at = rw c.in_default.is at c.in_ok-_before.ensures.none in
     let is : IsAnswerOf r c.in_ok-answer.answer = rw end.same at c.in_ok-answer.ensures in
     record {
-      best = last_answers net parts part at.policy.items at.state c.in_ok-answer.answer h.standing.standing end.last is;
+      best = last_answers net parts part at.policy.items at.state c.in_ok-answer.answer c.requires.live h.standing.standing end.last is;
       run = (
         h.run.0 ++ r ∷ [],
         run_all net parts part h.run.0 r h.run.1 end.last,

@@ -36,7 +36,7 @@ returns c =
     rw (c.in_ok-push-2.ensures.items, end.same)
     (record {
       run = run_all net parts part before r h.run end.last;
-      best = last_answers net parts part at.policy.items at.state c.in_ok-answer.answer h.standing.standing end.last is;
+      best = last_answers net parts part at.policy.items at.state c.in_ok-answer.answer c.requires.live h.standing.standing end.last is;
       answer = λ d. last_pushed net parts part (λ s. IsAnswerOf s c.in_ok-answer.answer) before r d is;
       limits = last_keeps net parts part at.policy.items at.state c.in_ok-answer.answer h.standing.standing is;
       rises = h.rises;

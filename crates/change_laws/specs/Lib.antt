@@ -1,0 +1,3 @@
+pub mod SlowerNets
+pub mod ChangesAreSlower
+pub mod ChangesBack

@@ -1,0 +1,17 @@
+use Rattle.dioid_laws.specs.SquareMatrices.{square_dioid, square_residuals}
+use Rattle.dioid_laws.proofs.FeedbackFacts.{solved_by_residuals}
+use Rattle.dioid_laws.proofs.Squares.{squares_are_dioid}
+use Rattle.dioid_laws.proofs.SquareStars.{squares_have_residuals}
+use Rattle.dioid_laws.proofs.laws.equations_are_solved_by_residuals.Goals as goal
+
+pub returns-clause-elements : goal.returns-clause-elements
+returns-clause-elements g c = solved_by_residuals g.D.Dioid g.D.Residuated g.met.D.Dioid.closed g.met.D.Dioid.laws g.met.D.Residuated.residual_laws
+
+pub returns-clause-squares : goal.returns-clause-squares
+returns-clause-squares g c n =
+    let d = g.D.Dioid in
+    let closed = g.met.D.Dioid.closed in
+    let laws = g.met.D.Dioid.laws in
+    let squares = squares_are_dioid d n closed laws in
+    solved_by_residuals (square_dioid d n) (square_residuals d g.D.Residuated n) squares.closed squares.laws
+    (squares_have_residuals d n closed laws g.D.Residuated g.met.D.Residuated.residual_laws)

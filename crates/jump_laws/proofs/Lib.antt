@@ -1,0 +1,9 @@
+pub mod Turns
+pub mod Going
+pub mod FirstNumbers
+pub mod InSystems
+pub mod InNets
+pub mod Settling
+pub mod Overtaken
+pub mod InLists
+pub mod Runs

@@ -1,0 +1,10 @@
+pub mod GreatestTimes
+pub mod PeriodsBetween
+pub mod Stability
+pub mod Stock
+pub mod VaryingHolds
+pub mod HeldDatings
+pub mod MovedReleases
+pub mod MovedNumbers
+pub mod LongerJobs
+pub mod Clocks

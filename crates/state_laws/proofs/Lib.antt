@@ -1,0 +1,5 @@
+pub mod LeastGoesOn
+pub mod LeftRanks
+pub mod LeftTokens
+pub mod LegalInTime
+pub mod NetGoesOn

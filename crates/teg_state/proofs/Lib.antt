@@ -1,0 +1,4 @@
+pub mod RunSteps
+pub mod LeftPlaces
+pub mod JoinedLists
+pub mod FoundLists

@@ -1,0 +1,12 @@
+use Rattle.teg_state.proofs.FoundLists.{list_is_of, list_tells, told_of}
+use Rattle.teg_state.proofs.inputs.list_left.Goals as goal
+
+pub dates_left-requires-clause-own : goal.dates_left-requires-clause-own
+dates_left-requires-clause-own c = list_tells c.args.net.now c.args.transition.index c.in-Some.list.now c.rules.ensures c.requires.input c.in-Some.ensures
+
+pub returns-in_ok-dates-in-Some-clause-dates : goal.returns-in_ok-dates-in-Some-clause-dates
+returns-in_ok-dates-in-Some-clause-dates c =
+    rw c.new.ensures
+    (told_of c.args.net.now c.args.run.now c.args.now c.args.transition c.in-Some.list.now c.in_ok-dates-in-Some.dates.items
+    (list_is_of c.args.net.now c.args.transition.index c.in-Some.list.now c.rules.ensures c.requires.input c.in-Some.ensures)
+    c.in_ok-dates-in-Some.ensures.dates)

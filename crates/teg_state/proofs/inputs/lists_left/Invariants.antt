@@ -1,0 +1,5 @@
+use Rattle.teg_state.specs.LeftLists.{AreListsLeft}
+use Rattle.teg_state.proofs.inputs.lists_left.Given as goal
+
+abbrev pub invariant-loop-index : goal.invariant-loop-index
+invariant-loop-index l = AreListsLeft l.net l.run l.fn.now l.index l.lists.items

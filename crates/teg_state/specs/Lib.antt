@@ -1,0 +1,2 @@
+pub mod WhyNotLeft
+pub mod LeftLists

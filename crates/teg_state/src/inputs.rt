@@ -1,0 +1,137 @@
+//! The input lists that a run leaves.
+ghost use Rattle.std.specs.Prelude.{◌≡◌, ◌≤◌, ◌^◌, IfOk, IfErr, option_copied, true, length};
+ghost use Rattle.teg_net.specs.Inputs.{IsInputDates, list_of_input};
+ghost use Rattle.teg_net.specs.Nets.{IsInput};
+ghost use Rattle.teg_state.specs.WhyNotLeft.{IsWhyNotLeft};
+ghost use Rattle.teg_state.specs.LeftLists.{AreListsLeft, IsJoined, IsListOf, left_dates, list_with};
+
+use crate::places::fired_count;
+use crate::refusal::NotLeft;
+use run_laws::Fired;
+use std::alloc::Global;
+use teg_net::{Again, DateList, GREATEST_INPUT_DATE, InputList, Net, TransitionId};
+
+// The dates that one list may hold.
+const MOST_DATES: u64 = 100_000;
+
+// The list of the transition, if it has one.
+fn list_of(net: &Net, transition: TransitionId) -> Option<&InputList>
+    ensures { option_copied result ≡ list_of_input net.now transition.index }
+{
+    net.inputs()
+        .iter()
+        .find(|list| list.transition.index == transition.index)
+}
+
+// Whether so many dates, of which the last ones so many are not before now, tell all that follow.
+fn is_joined(again: Option<Again>, long: u64, next: u64, count: u64, clear: u64) -> bool
+    ensures { result ≡ true → IsJoined again long next count clear }
+{
+    if next < long {
+        return false;
+    }
+    match again {
+        None => true,
+        Some(again) => {
+            let every = u64::from(again.every);
+            every <= count && (again.gap == 0 || every <= clear)
+        }
+    }
+}
+
+// The dates of the input's list from the next firing on, none before now.
+fn dates_left(
+    alloc: Global,
+    net: &Net,
+    list: &InputList,
+    run: &[Fired],
+    now: u64,
+) -> Result<Vec<u64>, NotLeft>
+    requires own { IsListOf net.now list.now }
+    requires few { length run.now ≤ 2 ^ 40 }
+    ensures dates { IfOk result (λ dates. IsInputDates (list_with list.now dates.items)
+        (left_dates net.now run.now now list.now.transition.index)) }
+    ensures refusal { IfErr result (IsWhyNotLeft net.now run.now now) }
+{
+    let fired = fired_count(run, list.transition);
+    let long = list.dates.as_slice().len() as u64;
+    let mut dates = Vec::new(alloc);
+    let mut clear = 0;
+    for count in 0..MOST_DATES + 1 {
+        if is_joined(list.again, long, fired + count, count, clear) {
+            return Ok(dates);
+        }
+        let date = match net.input_date(list.transition, fired + count + 1) {
+            Some(date) => date,
+            None => break,
+        };
+        if u128::from(GREATEST_INPUT_DATE) < date {
+            break;
+        }
+        let date = date as u64;
+        dates.push(now.max(date))?;
+        clear = if now <= date { clear + 1 } else { 0 };
+    }
+    Err(NotLeft::FarInput {
+        transition: list.transition,
+    })
+}
+
+// The list of an input from the next firing on, none of its dates before now.
+fn list_left(
+    alloc: Global,
+    net: &Net,
+    transition: TransitionId,
+    run: &[Fired],
+    now: u64,
+) -> Result<InputList, NotLeft>
+    requires input { IsInput net.now transition.index }
+    requires few { length run.now ≤ 2 ^ 40 }
+    ensures transition { IfOk result (λ l. l.transition ≡ transition) }
+    ensures dates { IfOk result (λ l. IsInputDates l
+        (left_dates net.now run.now now transition.index)) }
+    ensures refusal { IfErr result (IsWhyNotLeft net.now run.now now) }
+{
+    net.rules();
+    match list_of(net, transition) {
+        Some(list) => {
+            let dates = dates_left(alloc, net, list, run, now)?;
+            Ok(InputList {
+                transition,
+                dates: DateList::new(dates),
+                again: list.again,
+            })
+        }
+        None => {
+            let mut dates = Vec::new(alloc);
+            dates.push(now)?;
+            Ok(InputList {
+                transition,
+                dates: DateList::new(dates),
+                again: Some(Again { every: 1, gap: 0 }),
+            })
+        }
+    }
+}
+
+// The lists of all inputs.
+pub(crate) fn lists_left(
+    alloc: Global,
+    net: &Net,
+    run: &[Fired],
+    now: u64,
+) -> Result<Vec<InputList>, NotLeft>
+    requires few { length run.now ≤ 2 ^ 40 }
+    ensures lists { IfOk result (λ lists. AreListsLeft net.now run.now now
+        (length net.now.transitions) lists.items) }
+    ensures refusal { IfErr result (IsWhyNotLeft net.now run.now now) }
+{
+    let mut lists = Vec::new(alloc);
+    for index in 0..net.transition_count() {
+        let transition = TransitionId::new(index);
+        if net.is_input(transition) {
+            lists.push(list_left(alloc, net, transition, run, now)?)?;
+        }
+    }
+    Ok(lists)
+}

@@ -1,0 +1,161 @@
+//! The places that a run leaves, with their tokens.
+ghost use Rattle.std.specs.Prelude.{◌≡◌, ◌<◌, ◌≤◌, ◌+◌, ◌^◌, All, IfOk, IfErr, Some, length, map};
+ghost use Rattle.std.specs.List.{range_with_len};
+ghost use Rattle.teg_net.specs.Circuits.{place_at};
+ghost use Rattle.teg_net.specs.Limits.{most_place_tokens};
+ghost use Rattle.run_laws.specs.Runs.{dates_of_transition};
+ghost use Rattle.state_laws.specs.Rests.{ArePaid};
+ghost use Rattle.state_laws.specs.NetsLeft.{count_in, not_before, place_after};
+ghost use Rattle.teg_state.specs.WhyNotLeft.{IsWhyNotLeft, token_date_by};
+
+use crate::refusal::NotLeft;
+use run_laws::Fired;
+use std::alloc::{AllocError, Global};
+use teg_net::{DateList, Name, Net, OutOfMemory, Place, PlaceId, TransitionId};
+
+// The dates of the firings of the transition, in order.
+pub(crate) fn dates_of(
+    alloc: Global,
+    run: &[Fired],
+    transition: TransitionId,
+) -> Result<Vec<u64>, AllocError>
+    ensures { IfOk result (λ dates. dates.items ≡ dates_of_transition run.now transition.index) }
+{
+    let mut dates = Vec::new(alloc);
+    for fired in run {
+        if fired.transition.index == transition.index {
+            dates.push(fired.date)?;
+        }
+    }
+    Ok(dates)
+}
+
+// How often the transition fired.
+pub(crate) fn fired_count(run: &[Fired], transition: TransitionId) -> u64
+    ensures count { result ≡ count_in run.now transition.index }
+    ensures few { result ≤ length run.now }
+{
+    let mut count = 0;
+    for fired in run {
+        if fired.transition.index == transition.index {
+            count += 1;
+        }
+    }
+    count
+}
+
+// The same name once more.
+pub(crate) fn name_copy(alloc: Global, name: &Name) -> Result<Name, AllocError>
+    ensures { IfOk result (λ copy. copy ≡ name.now) }
+{
+    match Name::new(alloc, name.as_str()) {
+        Ok(copy) => Ok(copy),
+        Err(_) => Err(AllocError),
+    }
+}
+
+// The date from which this token of the place is there, where `from` has the dates of the upstream
+// transition.
+fn token_date(net: &Net, id: PlaceId, from: &[u64], number: u64) -> u64
+    requires place { id.index < length net.now.places }
+    requires first { 1 ≤ number }
+    requires made { number ≤ (place_at net.now id).tokens + length from.now }
+    requires dates { All (λ d. d ≤ 10 ^ 18) from.now }
+    ensures { token_date_by from.now (place_at net.now id) number ≡ Some result }
+{
+    net.rules();
+    let place = net.place(id);
+    let tokens = u64::from(place.tokens);
+    if tokens < number {
+        from[(number - tokens) as usize - 1] + place.hold
+    } else {
+        net.ready(id, number as u32)
+    }
+}
+
+// The ready dates of the tokens that are left in the place, none before now.
+fn ready_dates(
+    alloc: Global,
+    net: &Net,
+    id: PlaceId,
+    from: &[u64],
+    taken: u64,
+    tokens: u64,
+    now: u64,
+) -> Result<Vec<u64>, AllocError>
+    requires place { id.index < length net.now.places }
+    requires dates { All (λ d. d ≤ 10 ^ 18) from.now }
+    requires few { taken ≤ 2 ^ 40 }
+    requires short { tokens ≤ most_place_tokens }
+    requires made { taken + tokens ≡ (place_at net.now id).tokens + length from.now }
+    ensures { IfOk result (λ ready. ready.items
+        ≡ map (λ k. not_before now (token_date_by from.now (place_at net.now id) (taken + k)))
+        (range_with_len 1 tokens)) }
+{
+    let mut ready = Vec::new(alloc);
+    for index in 0..tokens {
+        let date = token_date(net, id, from, taken + index + 1);
+        ready.push(now.max(date))?;
+    }
+    Ok(ready)
+}
+
+// The place as the run leaves it.
+fn place_left(
+    alloc: Global,
+    net: &Net,
+    id: PlaceId,
+    run: &[Fired],
+    now: u64,
+) -> Result<Place, NotLeft>
+    requires place { id.index < length net.now.places }
+    requires dates { All (λ f. f.date ≤ 10 ^ 18) run.now }
+    requires few { length run.now ≤ 2 ^ 40 }
+    ensures place { IfOk result (λ left. left ≡ place_after run.now now (place_at net.now id)) }
+    ensures paid { IfOk result (λ _. count_in run.now (place_at net.now id).to.index
+        ≤ (place_at net.now id).tokens + count_in run.now (place_at net.now id).from.index) }
+    ensures refusal { IfErr result (IsWhyNotLeft net.now run.now now) }
+{
+    let place = net.place(id);
+    let from = dates_of(alloc, run, place.from)?;
+    let taken = fired_count(run, place.to);
+    let made = u64::from(place.tokens) + from.len() as u64;
+    if made < taken {
+        return Err(NotLeft::Unpaid { place: id });
+    }
+    let tokens = made - taken;
+    if 1_000 < tokens {
+        return Err(NotLeft::ManyTokens { place: id });
+    }
+    let ready = ready_dates(alloc, net, id, &from, taken, tokens, now)?;
+    let name = name_copy(alloc, &place.name)?;
+    Ok(Place {
+        name,
+        from: place.from,
+        to: place.to,
+        hold: place.hold,
+        tokens: tokens as u32,
+        ready: DateList::new(ready),
+    })
+}
+
+// All places as the run leaves them.
+pub(crate) fn places_left(
+    alloc: Global,
+    net: &Net,
+    run: &[Fired],
+    now: u64,
+) -> Result<Vec<Place>, NotLeft>
+    requires dates { All (λ f. f.date ≤ 10 ^ 18) run.now }
+    requires few { length run.now ≤ 2 ^ 40 }
+    ensures places { IfOk result (λ places. places.items
+        ≡ map (place_after run.now now) net.now.places) }
+    ensures paid { IfOk result (λ _. ArePaid (count_in run.now) net.now.places) }
+    ensures refusal { IfErr result (IsWhyNotLeft net.now run.now now) }
+{
+    let mut places = Vec::new(alloc);
+    for index in 0..net.place_count() {
+        places.push(place_left(alloc, net, PlaceId::new(index), run, now)?)?;
+    }
+    Ok(places)
+}

@@ -1,0 +1,65 @@
+//! Why a run leaves no net.
+ghost use Rattle.std.specs.Prelude.{◌≡◌};
+ghost use Rattle.teg_state.specs.declared.refusal.NotLeft.TheVariants.{OutOfMemory};
+
+use std::alloc::{AllocError, AllocFailed};
+use std::error::Error;
+use std::fmt;
+use teg_net::{NetFault, PlaceId, TransitionId};
+
+/// Why a run leaves no net.
+#[derive(Clone, Copy, Debug, PartialEq, Eq)]
+pub enum NotLeft {
+    /// In the run this place gave more tokens than it had and got.
+    Unpaid { place: PlaceId },
+    /// More than 1,000 tokens are left in this place.
+    ManyTokens { place: PlaceId },
+    /// The dates of this input from now on are no list of at most 100,000 dates up to 10^12.
+    FarInput { transition: TransitionId },
+    /// What is left breaks this rule of nets: a date is past 10^12.
+    NoNet { fault: NetFault },
+    /// No memory was found.
+    OutOfMemory,
+}
+
+impl fmt::Display for NotLeft {
+    fn fmt<W: fmt::Write>(&self, f: &mut fmt::Formatter<W>) -> fmt::Result {
+        match self {
+            NotLeft::Unpaid { place } => write!(
+                f,
+                "place {} gave tokens that it had not",
+                place.index
+            ),
+            NotLeft::ManyTokens { place } => write!(
+                f,
+                "place {} is left more than 1000 tokens",
+                place.index
+            ),
+            NotLeft::FarInput { transition } => write!(
+                f,
+                "input {} has no short list of dates from now on",
+                transition.index
+            ),
+            NotLeft::NoNet { fault } => fault.fmt(f),
+            NotLeft::OutOfMemory => f.write_str("out of memory"),
+        }
+    }
+}
+
+impl Error for NotLeft {}
+
+impl From<AllocError> for NotLeft {
+    ghost from_gives = { λ _ e. e ≡ OutOfMemory };
+
+    fn from(_error: AllocError) -> NotLeft {
+        NotLeft::OutOfMemory
+    }
+}
+
+impl<T: Drop> From<AllocFailed<T>> for NotLeft {
+    ghost from_gives = { λ _ e. e ≡ OutOfMemory };
+
+    fn from(_error: AllocFailed<T>) -> NotLeft {
+        NotLeft::OutOfMemory
+    }
+}
