@@ -12,9 +12,9 @@ use Rattle.teg_forever.specs.EndlessFiles.{endless_of}
 use Rattle.teg_forever.specs.EndlessTexts.{Answered, Faulty, IsFaultTold, IsRefusalTold, answer_lines}
 use Rattle.teg_net.specs.Nets.{NetLists}
 use Rattle.teg_report.specs.teg_text.Lines.{written}
-use Rattle.teg_commands.specs.declared.outcome.Verdict.{Verdict}
-use Rattle.teg_commands.specs.declared.outcome.Verdict.TheVariants.{Done as VerdictDone, Late as VerdictLate, Schedule as VerdictSchedule, TooLong as VerdictTooLong}
-use Rattle.teg_commands.specs.CommandOutcomes.{TellsWhy}
+use Rattle.teg_outcome.specs.declared.outcome.Verdict.{Verdict}
+use Rattle.teg_outcome.specs.declared.outcome.Verdict.TheVariants.{Done as VerdictDone, Late as VerdictLate, Schedule as VerdictSchedule, TooLong as VerdictTooLong}
+use Rattle.teg_outcome.specs.CommandOutcomes.{TellsWhy}
 
 -- the first fault of the file is said
 abbrev pub SaysBadEndless : NetLists → List ℕ → Verdict → List ℕ → Type 0

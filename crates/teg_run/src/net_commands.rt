@@ -1,23 +1,20 @@
 //! The commands on a net.
 ghost use Rattle.std.specs.Prelude.{◌≡◌, None};
-ghost use Rattle.teg_commands.specs.CommandOutcomes.{Tells, outcome_of};
+ghost use Rattle.teg_outcome.specs.CommandOutcomes.{Tells, outcome_of};
 ghost use Rattle.teg_run.specs.ListCommand.{numbers_asked};
-ghost use Rattle.teg_run.specs.WholeCalls.{WritesOutcome};
+ghost use Rattle.teg_files.specs.Finishing.{WritesOutcome};
 ghost use Rattle.teg_run.specs.Says.{SaysNet};
 
-use crate::ending::closed;
-use crate::listing::write_list;
-use crate::request::NetCommand;
-use crate::status::Status;
-use crate::writing::finish;
 use std::alloc::Global;
 use teg_check::LiveNet;
-use teg_commands::{
-    CommandOutcome, tell_bound, tell_check, tell_cycle, tell_date, tell_dates, tell_form,
-    tell_migrate, tell_rounds, tell_size, tell_slack, tell_transfer,
-};
+use teg_date_commands::{tell_date, tell_dates, tell_transfer};
+use teg_files::{Status, closed, finish, write_list};
 use teg_net::OutOfMemory;
+use teg_net_commands::{tell_check, tell_form, tell_migrate};
+use teg_outcome::CommandOutcome;
 use teg_outside::Sink;
+use teg_pace_commands::{tell_bound, tell_cycle, tell_rounds, tell_size, tell_slack};
+use teg_request::NetCommand;
 
 // What the command comes to on a live net, but for a list of dates.
 fn of_net(alloc: Global, command: NetCommand, net: &LiveNet) -> Result<CommandOutcome, OutOfMemory>

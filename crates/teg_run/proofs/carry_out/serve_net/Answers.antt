@@ -1,8 +1,8 @@
 use Rattle.std.proofs.Common.{[]}
 use Rattle.teg_net.specs.Nets.{NetLists}
 use Rattle.teg_report.specs.declared.answer.Which.TheVariants.{Net as NetFile}
-use Rattle.teg_run.specs.Endings.{Whole, Lost, ending_of}
-use Rattle.teg_run.specs.Openings.{OpensNet}
+use Rattle.teg_files.specs.Endings.{Whole, Lost, ending_of}
+use Rattle.teg_files.specs.Openings.{OpensNet}
 use Rattle.teg_run.specs.Says.{SaysNet, SaysOutcome}
 use Rattle.teg_run.proofs.Answering.{lost_at, after_net, refused_at, accepted_at, came_to}
 use Rattle.teg_run.proofs.carry_out.serve_net.Goals as goal

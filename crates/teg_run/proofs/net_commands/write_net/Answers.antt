@@ -1,4 +1,4 @@
-use Rattle.teg_commands.specs.CommandOutcomes.{outcome_of}
+use Rattle.teg_outcome.specs.CommandOutcomes.{outcome_of}
 use Rattle.teg_run.proofs.net_commands.write_net.Goals as goal
 
 pub returns-in_default : goal.returns-in_default
