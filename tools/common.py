@@ -15,7 +15,7 @@ def crates_in(top):
 
 
 class Status(IntEnum):
-    """How a call of the program ends, as `Status::code` of `teg_run` has it (tools/test_pages.py compares the two)."""
+    """How a call of the program ends, as `Status::code` of `teg_files` has it (tools/test_pages.py compares the two)."""
 
     DONE = 0
     WORDS = 2

@@ -243,7 +243,7 @@ def costs():
     """What docstrings say of time and memory, crate by crate."""
     rows = ["| Crate | Call | What it takes |", "|---|---|---|"]
     # (a command takes what its answer takes)
-    for crate in (it for it in crates() if it != "teg_commands"):
+    for crate in (it for it in crates() if not it.endswith("_commands")):
         for call in calls_of(crate):
             told = " ".join(it for it in re.split(r"(?<=\.) +(?=[A-Z`])", call.doc) if TIME.search(it))
             if told:

@@ -288,7 +288,7 @@ class Guide(unittest.TestCase):
 
 class Shared(unittest.TestCase):
     def test_statuses_are_those_of_the_program(self):
-        text = (common.TOP / "crates/teg_run/src/status.rt").read_text()
+        text = (common.TOP / "crates/teg_files/src/status.rt").read_text()
         codes = {re.sub(r"(?<=[a-z])(?=[A-Z])", "_", name).upper(): int(code) for name, code in re.findall(r"Status::(\w+) => (\d+),", text)}
         self.assertEqual(codes, {status.name: status.value for status in common.Status})
 

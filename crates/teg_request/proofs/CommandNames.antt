@@ -8,7 +8,7 @@ use Rattle.teg_report.specs.UsageLines.{commands}
 use Rattle.teg_words.specs.CommandLineWords.{Given}
 use Rattle.teg_request.specs.declared.request.Request.{Request}
 use Rattle.teg_request.specs.CommandNames.{IsAsked, IsInUsage, CommandsAreThoseOfTheUsage}
-use Rattle.teg_request.specs.Requests.{asked_for, file_asked, further_asked, limited_asked, plain_asked}
+use Rattle.teg_request.specs.Requests.{asked_for, limited_asked, plain_asked}
 
 -- ---- each name is accepted
 
@@ -53,21 +53,6 @@ named k command word one others request within there further e =
     (λ (q : bytes_eq word command.0 ≡ false). further (rw q at e))
     (cases_Bool (bytes_eq word command.0))
 
-further_named : (word : List ℕ) (rest : List (List ℕ)) (request : Request) → further_asked word rest ≡ Some request → IsInUsage word
-further_named word rest request =
-    named 1 (codes "list", codes "NET K") word _ _ request (omega arith) refl
-    (named 14 (codes "size", codes "NET PLACE A/B") word _ _ request (omega arith) refl
-    (named 7 (codes "calc", codes "EXPR") word _ _ request (omega arith) refl
-    (named 11 (codes "trial", codes "N") word _ _ request (omega arith) refl
-    (λ (none : None ≡ Some request). cc))))
-
-file_named : (word : List ℕ) (rest : List (List ℕ)) (request : Request) → file_asked word rest ≡ Some request → IsInUsage word
-file_named word rest request =
-    named 6 (codes "jit", codes "NET DUE") word _ _ request (omega arith) refl
-    (named 8 (codes "replay", codes "NET LOG") word _ _ request (omega arith) refl
-    (named 13 (codes "forever", codes "NET DUE") word _ _ request (omega arith) refl
-    (further_named word rest request)))
-
 plain_named : (word : List ℕ) (rest : List (List ℕ)) (request : Request) → plain_asked word rest ≡ Some request → IsInUsage word
 plain_named word rest request =
     named 0 (codes "check", codes "NET") word _ _ request (omega arith) refl
@@ -75,7 +60,14 @@ plain_named word rest request =
     (named 9 (codes "slack", codes "NET") word _ _ request (omega arith) refl
     (named 12 (codes "migrate", codes "NET") word _ _ request (omega arith) refl
     (named 16 (codes "bound", codes "NET") word _ _ request (omega arith) refl
-    (file_named word rest request)))))
+    (named 6 (codes "jit", codes "NET DUE") word _ _ request (omega arith) refl
+    (named 8 (codes "replay", codes "NET LOG") word _ _ request (omega arith) refl
+    (named 13 (codes "forever", codes "NET DUE") word _ _ request (omega arith) refl
+    (named 1 (codes "list", codes "NET K") word _ _ request (omega arith) refl
+    (named 14 (codes "size", codes "NET PLACE A/B") word _ _ request (omega arith) refl
+    (named 7 (codes "calc", codes "EXPR") word _ _ request (omega arith) refl
+    (named 11 (codes "trial", codes "N") word _ _ request (omega arith) refl
+    (λ (none : None ≡ Some request). cc))))))))))))
 
 unlimited_named : (word : List ℕ) (rest : List (List ℕ)) (limit : Option (List ℕ)) (request : Request) →
     (if is_some limit then None else plain_asked word rest) ≡ Some request → IsInUsage word

@@ -9,10 +9,10 @@ use Rattle.teg_timetable.specs.Spreads.{greatest_period}
 use Rattle.teg_words.specs.NumberWords.{number_of_word}
 use Rattle.teg_words.specs.CommandLineWords.{Given, given_of}
 use Rattle.teg_outcome.specs.CommandLimits.{most_expression, most_machines}
-use Rattle.teg_request.specs.declared.request.NetCommand.{NetCommand}
-use Rattle.teg_request.specs.declared.request.NetCommand.TheVariants.{Check as CheckNet, List as ListNet, Form as FormNet, Cycle as CycleNet}
-use Rattle.teg_request.specs.declared.request.NetCommand.TheVariants.{Slack as SlackNet, Dates as DatesNet, Date as DateNet, Transfer as TransferNet}
-use Rattle.teg_request.specs.declared.request.NetCommand.TheVariants.{Migrate as MigrateNet, Size as SizeNet, Bound as BoundNet}
+use Rattle.teg_request.specs.declared.request.NetCommand.TheVariants.{List as ListNet, Asks}
+use Rattle.teg_request.specs.declared.request.Question.{Question}
+use Rattle.teg_request.specs.declared.request.Question.TheVariants.{Check as CheckNet, Form as FormNet, Cycle as CycleNet, Slack as SlackNet, Dates as DatesNet}
+use Rattle.teg_request.specs.declared.request.Question.TheVariants.{Date as DateNet, Transfer as TransferNet, Migrate as MigrateNet, Size as SizeNet, Bound as BoundNet}
 use Rattle.teg_request.specs.declared.request.FileCommand.{FileCommand}
 use Rattle.teg_request.specs.declared.request.FileCommand.TheVariants.{Jit as JitNet, Replay as ReplayNet, Forever as ForeverNet, Timetable as TimetableNet}
 use Rattle.teg_request.specs.declared.request.Request.{Request}
@@ -21,10 +21,10 @@ use Rattle.teg_request.specs.UsualLimits.{usual_limit}
 use Rattle.teg_report.specs.declared.answer.Which.{Which}
 use Rattle.teg_report.specs.declared.answer.Which.TheVariants.{Net as NetFile, Due as DueFile, Log as LogFile, Timetable as TimetableFile}
 
--- this command on the net of the one word that is given: as `check NET`
-abbrev pub only_net : NetCommand → List (List ℕ) → Option Request
-only_net command (net ∷ []) = Some (OfNet command net)
-only_net command rest = None
+-- this question on the net of the one word that is given: as `check NET`
+abbrev pub only_net : Question → List (List ℕ) → Option Request
+only_net question (net ∷ []) = Some (OfNet (Asks question) net)
+only_net question rest = None
 
 -- this command on the net and the second file of the two words that are given: as `jit NET DUE`
 abbrev pub net_and_file : FileCommand → List (List ℕ) → Option Request
@@ -48,7 +48,7 @@ limit_asked (Some word) = if bytes_eq word (codes "none") then Some None else op
 
 -- `date NET TRANSITION K`, with K from 1 to 10^18, by this limit
 abbrev pub date_asked : List (List ℕ) → Option ℕ → Option Request
-date_asked (net ∷ word ∷ count ∷ []) most = option_map (λ number. OfNet (DateNet word number most) net) (number_of_word 1 greatest_firing_number count)
+date_asked (net ∷ word ∷ count ∷ []) most = option_map (λ number. OfNet (Asks (DateNet word number most)) net) (number_of_word 1 greatest_firing_number count)
 date_asked rest most = None
 
 -- `timetable NET A FILE`, with A from 1 to 10^6, by this limit
@@ -73,7 +73,7 @@ target_asked word =
 
 -- `size NET PLACE A/B`
 abbrev pub size_asked : List (List ℕ) → Option Request
-size_asked (net ∷ word ∷ target ∷ []) = option_map (λ ratio. OfNet (SizeNet word ratio) net) (target_asked target)
+size_asked (net ∷ word ∷ target ∷ []) = option_map (λ ratio. OfNet (Asks (SizeNet word ratio)) net) (target_asked target)
 size_asked rest = None
 
 -- `calc EXPR`, with an expression of at most 4,096 bytes
@@ -81,24 +81,7 @@ abbrev pub calc_asked : List (List ℕ) → Option Request
 calc_asked (text ∷ []) = if nat_le (length text) most_expression then Some (ValueOf text) else None
 calc_asked rest = None
 
--- the request of `list`, `size`, `calc` or `trial`; nothing for another word
-abbrev pub further_asked : List ℕ → List (List ℕ) → Option Request
-further_asked command rest =
-    if bytes_eq command (codes "list") then list_asked rest
-    else (if bytes_eq command (codes "size") then size_asked rest
-    else (if bytes_eq command (codes "calc") then calc_asked rest
-    else (if bytes_eq command (codes "trial") then trial_asked rest
-    else None)))
-
--- the request of `jit`, `replay` or `forever`, or of one of those
-abbrev pub file_asked : List ℕ → List (List ℕ) → Option Request
-file_asked command rest =
-    if bytes_eq command (codes "jit") then net_and_file JitNet rest
-    else (if bytes_eq command (codes "replay") then net_and_file ReplayNet rest
-    else (if bytes_eq command (codes "forever") then net_and_file ForeverNet rest
-    else further_asked command rest))
-
--- the request of a command on a net and nothing else that takes no option, or of one of those
+-- the request of a command that takes no option; nothing for a word that is no command
 abbrev pub plain_asked : List ℕ → List (List ℕ) → Option Request
 plain_asked command rest =
     if bytes_eq command (codes "check") then only_net CheckNet rest
@@ -106,7 +89,14 @@ plain_asked command rest =
     else (if bytes_eq command (codes "slack") then only_net SlackNet rest
     else (if bytes_eq command (codes "migrate") then only_net MigrateNet rest
     else (if bytes_eq command (codes "bound") then only_net BoundNet rest
-    else file_asked command rest))))
+    else (if bytes_eq command (codes "jit") then net_and_file JitNet rest
+    else (if bytes_eq command (codes "replay") then net_and_file ReplayNet rest
+    else (if bytes_eq command (codes "forever") then net_and_file ForeverNet rest
+    else (if bytes_eq command (codes "list") then list_asked rest
+    else (if bytes_eq command (codes "size") then size_asked rest
+    else (if bytes_eq command (codes "calc") then calc_asked rest
+    else (if bytes_eq command (codes "trial") then trial_asked rest
+    else None)))))))))))
 
 -- the request of a command with `--limit N` or `--limit none`, or without; of one that takes no limit where none is given
 abbrev pub limited_asked : List ℕ → List (List ℕ) → Option (List ℕ) → Option Request

@@ -3,10 +3,11 @@ ghost use Rattle.std.specs.Prelude.{◌≡◌, IfOk, Some, map, string_bytes};
 ghost use Rattle.std.specs.Option.{option_copied};
 ghost use Rattle.teg_words.specs.WordMeanings.{given_by, texts};
 ghost use Rattle.teg_words.specs.NumberWords.{number_of_word};
+ghost use Rattle.teg_request.specs.declared.request.NetCommand.TheVariants.{Asks};
 ghost use Rattle.teg_request.specs.declared.request.Request.TheVariants.{OfFiles, OfNet};
-ghost use Rattle.teg_request.specs.Requests.{asked_for, calc_asked, date_asked, file_asked, further_asked, limit_asked, limited_asked, list_asked, net_and_file, number_limit, only_net, plain_asked, request_of, size_asked, target_asked, timetable_asked, trial_asked};
+ghost use Rattle.teg_request.specs.Requests.{asked_for, calc_asked, date_asked, limit_asked, limited_asked, list_asked, net_and_file, number_limit, only_net, plain_asked, request_of, size_asked, target_asked, timetable_asked, trial_asked};
 
-use crate::request::{FileCommand, NetCommand, Request};
+use crate::request::{FileCommand, NetCommand, Question, Request};
 use std::alloc::Global;
 use teg_net::{Label, OutOfMemory, UpTo};
 use teg_outcome::{
@@ -88,16 +89,23 @@ fn on_files(
     }))
 }
 
-// This command on the net of the one word that is given: as `check NET`.
+// This question on the net of this name.
+fn asks_net(alloc: Global, question: Question, net: &str) -> Result<Option<Request>, OutOfMemory>
+    ensures { IfOk result (λ request. request ≡ Some (OfNet (Asks question) net.now)) }
+{
+    on_net(alloc, NetCommand::Asks(question), net)
+}
+
+// This question on the net of the one word that is given: as `check NET`.
 fn only_net(
     alloc: Global,
-    command: NetCommand,
+    question: Question,
     rest: &[&str],
 ) -> Result<Option<Request>, OutOfMemory>
-    ensures { IfOk result (λ request. request ≡ only_net command (texts rest.now)) }
+    ensures { IfOk result (λ request. request ≡ only_net question (texts rest.now)) }
 {
     match rest {
-        [net] => on_net(alloc, command, net),
+        [net] => asks_net(alloc, question, net),
         _ => Ok(None),
     }
 }
@@ -143,12 +151,12 @@ fn date_asked(
         [net, word, count] => match up_to(count) {
             Some(number) => {
                 let word = Label::new(alloc, word)?;
-                let command = NetCommand::Date {
+                let question = Question::Date {
                     word,
                     number,
                     limit,
                 };
-                on_net(alloc, command, net)
+                asks_net(alloc, question, net)
             }
             None => Ok(None),
         },
@@ -164,7 +172,7 @@ fn size_asked(alloc: Global, rest: &[&str]) -> Result<Option<Request>, OutOfMemo
         [net, word, ratio] => match target(ratio) {
             Some(target) => {
                 let word = Label::new(alloc, word)?;
-                on_net(alloc, NetCommand::Size { word, target }, net)
+                asks_net(alloc, Question::Size { word, target }, net)
             }
             None => Ok(None),
         },
@@ -223,48 +231,24 @@ fn trial_asked(rest: &[&str]) -> Option<Request>
 
 // ---- the commands by their names
 
-// The request of a command with words of its own, or without a file. A word that is no command asks
-// for nothing.
-fn further_asked(
-    alloc: Global,
-    command: &str,
-    rest: &[&str],
-) -> Result<Option<Request>, OutOfMemory>
-    ensures { IfOk result (λ request. request ≡ further_asked command.now (texts rest.now)) }
+// The request of a command that takes no option. A word that is no command asks for nothing.
+fn plain_asked(alloc: Global, command: &str, rest: &[&str]) -> Result<Option<Request>, OutOfMemory>
+    ensures { IfOk result (λ request. request ≡ plain_asked command.now (texts rest.now)) }
 {
     match command {
+        "check" => only_net(alloc, Question::Check, rest),
+        "form" => only_net(alloc, Question::Form, rest),
+        "slack" => only_net(alloc, Question::Slack, rest),
+        "migrate" => only_net(alloc, Question::Migrate, rest),
+        "bound" => only_net(alloc, Question::Bound, rest),
+        "jit" => net_and_file(alloc, FileCommand::Jit, rest),
+        "replay" => net_and_file(alloc, FileCommand::Replay, rest),
+        "forever" => net_and_file(alloc, FileCommand::Forever, rest),
         "list" => list_asked(alloc, rest),
         "size" => size_asked(alloc, rest),
         "calc" => calc_asked(alloc, rest),
         "trial" => Ok(trial_asked(rest)),
         _ => Ok(None),
-    }
-}
-
-// The request of a command on a net and a second file, or of one of those.
-fn file_asked(alloc: Global, command: &str, rest: &[&str]) -> Result<Option<Request>, OutOfMemory>
-    ensures { IfOk result (λ request. request ≡ file_asked command.now (texts rest.now)) }
-{
-    match command {
-        "jit" => net_and_file(alloc, FileCommand::Jit, rest),
-        "replay" => net_and_file(alloc, FileCommand::Replay, rest),
-        "forever" => net_and_file(alloc, FileCommand::Forever, rest),
-        _ => further_asked(alloc, command, rest),
-    }
-}
-
-// The request of a command that takes no option: of one on a net and nothing else, or of one of
-// those.
-fn plain_asked(alloc: Global, command: &str, rest: &[&str]) -> Result<Option<Request>, OutOfMemory>
-    ensures { IfOk result (λ request. request ≡ plain_asked command.now (texts rest.now)) }
-{
-    match command {
-        "check" => only_net(alloc, NetCommand::Check, rest),
-        "form" => only_net(alloc, NetCommand::Form, rest),
-        "slack" => only_net(alloc, NetCommand::Slack, rest),
-        "migrate" => only_net(alloc, NetCommand::Migrate, rest),
-        "bound" => only_net(alloc, NetCommand::Bound, rest),
-        _ => file_asked(alloc, command, rest),
     }
 }
 
@@ -281,7 +265,7 @@ fn limited_asked(
 {
     match command {
         "dates" => match limit_asked(limit) {
-            Some(limit) => only_net(alloc, NetCommand::Dates { limit }, rest),
+            Some(limit) => only_net(alloc, Question::Dates { limit }, rest),
             None => Ok(None),
         },
         "date" => match limit_asked(limit) {
@@ -293,7 +277,7 @@ fn limited_asked(
             None => Ok(None),
         },
         "transfer" => match number_limit(limit) {
-            Some(limit) => only_net(alloc, NetCommand::Transfer { limit }, rest),
+            Some(limit) => only_net(alloc, Question::Transfer { limit }, rest),
             None => Ok(None),
         },
         _ => match limit {
@@ -311,7 +295,7 @@ fn asked_for(alloc: Global, given: &GivenWords<'_>) -> Result<Option<Request>, O
     let rounds = given.rounds;
     if given.command == "cycle" {
         match given.limit {
-            None => only_net(alloc, NetCommand::Cycle { rounds }, rest),
+            None => only_net(alloc, Question::Cycle { rounds }, rest),
             Some(_) => Ok(None),
         }
     } else if rounds {

@@ -13,4 +13,4 @@ mod request;
 
 pub use asked::read_request;
 pub use laws::commands_are_those_of_the_usage;
-pub use request::{FileCommand, NetCommand, Request};
+pub use request::{FileCommand, NetCommand, Question, Request};

@@ -2,15 +2,11 @@
 use teg_net::{FiringNumber, Label};
 use teg_outcome::{Count, Expression, Limit, Machines, Period, Target};
 
-/// A command that reads a net and no other file.
+/// A question about a net, whose answer is one text.
 #[derive(Drop)]
-pub enum NetCommand {
+pub enum Question {
     /// Whether the net is live, and its size.
     Check,
-    /// The dates of the firings of the numbers from 1 to this one.
-    List {
-        count: Count,
-    },
     /// The standard form.
     Form,
     /// The cycle times, with the rounds of policy iteration or without.
@@ -42,6 +38,15 @@ pub enum NetCommand {
     },
     /// How soon the dates become periodic.
     Bound,
+}
+
+/// A command that reads a net and no other file.
+#[derive(Drop)]
+pub enum NetCommand {
+    /// The dates of the firings of the numbers from 1 to this one.
+    List { count: Count },
+    /// A question, whose answer is whole before it is written.
+    Asks(Question),
 }
 
 /// A command that reads a net and a second file.

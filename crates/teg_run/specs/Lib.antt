@@ -1,6 +1,5 @@
 pub mod Calls
 pub mod Headline
-pub mod ListCommand
 pub mod Says
 pub mod ShownFirings
 pub mod WholeCalls

@@ -10,7 +10,7 @@ ghost use Rattle.teg_run.specs.Says.{Says, SaysFile, SaysNet, SaysOutcome, SaysS
 ghost use Rattle.teg_run.specs.ShownFirings.{AnsweredAndShown, ServesAndShows, Shows, ShowsBoth, ShowsSecond};
 
 use crate::file_commands::{of_files, second_of};
-use crate::net_commands::write_net;
+use crate::net_commands::write_answer;
 use std::alloc::Global;
 use teg_check::LiveNet;
 use teg_files::{Ending, Opened, Status, closed, finish, open_bytes, open_net};
@@ -37,7 +37,7 @@ fn serve_net<S: Shelf, W: Sink>(
         result }
 {
     match open_net(alloc, net, shelf) {
-        Opened::Accepted(net) => write_net(alloc, command, &net, out),
+        Opened::Accepted(net) => write_answer(alloc, command, &net, out),
         Opened::Refused(status, text) => finish(out, Ending::Whole { status, text }),
         Opened::Lost => finish(out, Ending::Lost),
     }

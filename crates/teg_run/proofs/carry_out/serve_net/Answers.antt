@@ -13,7 +13,7 @@ returns-in-Refused g c =
 
 pub returns-in-Accepted : goal.returns-in-Accepted
 returns-in-Accepted g c =
-    let told = c.write_net.ensures in (
+    let told = c.write_answer.ensures in (
       ending_of told.0,
       accepted_at OpensNet (λ file. SaysOutcome (SaysNet c.args.command file)) NetFile _ _ [] _ _ _ _
           (λ reply replies opens reads. after_net reply _ replies opens) c.in-Accepted.ensures (came_to _ [] _ told.0 told.1),
