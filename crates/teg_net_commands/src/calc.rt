@@ -1,5 +1,5 @@
 //! The values of expressions.
-ghost use Rattle.std.specs.Prelude.{◌≡◌, ◌≤◌, ◌∷◌, [], IfOk, length};
+ghost use Rattle.std.specs.Prelude.{◌≤◌, ◌∷◌, []};
 ghost use Rattle.teg_calc.specs.ExpressionTrees.{HasShortNumbers, node_count, tree_of_expression};
 ghost use Rattle.teg_outcome.specs.CommandOutcomes.{Tells, TellsWhy, outcome_of};
 ghost use Rattle.teg_report.specs.Series.{IsParseKept, IsSeriesRefusalKept, parse_line, series_refused_line};
