@@ -5,3 +5,6 @@ critical-requires-clause-live c = rw c.net.ensures.net c.net.ensures.live
 
 pub returns-clause-none : goal.returns-clause-none
 returns-clause-none c = rw (← c.net.ensures.net) c.critical.ensures.none
+
+pub returns-clause-slacks : goal.returns-clause-slacks
+returns-clause-slacks c = rw (← c.net.ensures.net) c.critical.ensures.slacks
