@@ -7,7 +7,7 @@ use Rattle.teg_bound.specs.BoundTexts.{ToldBound, AreNumbersIn, bound_lines}
 use Rattle.teg_report.specs.teg_calc.declared.refusals.ParseRefused.{ParseRefused}
 use Rattle.teg_report.specs.teg_critical.declared.slacks.Slack.{Slack as PlaceSlack}
 use Rattle.teg_report.specs.teg_critical.Slacks.{AreSlacks}
-use Rattle.teg_report.specs.teg_dates.DateTables.{TableDates, HasDatesOf, IsDateTable}
+use Rattle.teg_report.specs.date_rows.DateTables.{TableDates, HasDatesOf, IsDateTable}
 use Rattle.teg_report.specs.teg_due.declared.rows.DueRefusal.{DueRefusal}
 use Rattle.teg_report.specs.teg_due.declared.rows.DueRow.{DueRow}
 use Rattle.teg_report.specs.teg_due.declared.rows.LogRefusal.{LogRefusal}

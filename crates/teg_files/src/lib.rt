@@ -4,7 +4,7 @@
 //! `OpensBytes` in `specs/Openings.antt`); [`finish`] writes how the work ended (`Finished` in
 //! `specs/Finishing.antt`), and [`write_list`] the dates of `list` as they are made, of which
 //! `SaysList` stands here. [`Status`] is how a call ends. The crate stands on `teg_outside` for files
-//! and output, on `teg_reader` and `teg_check` for what is accepted, on `teg_dates` for the rows of a
+//! and output, on `teg_reader` and `teg_check` for what is accepted, on `date_rows` for the rows of a
 //! list, on `teg_report` for the texts, and on `teg_outcome` for how a command ends.
 #![tactic(auto)]
 
