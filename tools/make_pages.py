@@ -13,8 +13,9 @@ these lines and ends with the line `<!-- end -->`:
 - `<!-- heads of all others -->`: those of the crates that have no such block, in the order of crates.txt.
 - `<!-- definitions NAME NAME .. -->`: of each of these definitions its name, its crate and file of specs/, and the
   comment above it (docs/DEFINITIONS.md).
-- `<!-- edits -->`: the must-fail edits, each with what its first line says, crate by crate (docs/WRONG_BODIES.md); and
-  `<!-- edits CRATE/NAME CRATE/NAME .. -->` a table of these alone.
+- `<!-- edits -->`: the must-fail edits that the gate tries, each with what its first line says, crate by crate, and
+  `<!-- kept edits -->` those that stand beside them (docs/WRONG_BODIES.md); and `<!-- edits CRATE/NAME CRATE/NAME .. -->`
+  a table of these of the gate alone.
 - `<!-- laws CRATE::NAME CRATE::NAME .. -->`: a table of these laws, each with the first paragraph of its docstring;
   `<!-- laws of CRATE -->` of all of a crate, and `<!-- all other laws -->` of those that no such block before it names
   (docs/LAWS.md).
@@ -39,7 +40,7 @@ from functools import cache
 from itertools import groupby, takewhile
 
 from check_definitions import Specs, Types, definitions_named, exported
-from common import TOP, crates_in
+from common import IN_GATE, KEPT, TOP, crates_in, edits_of, reason_of
 from page_links import leads_nowhere
 
 # What the page says once of all laws.
@@ -49,7 +50,7 @@ EACH_LAW = re.compile(r" ?\bEach law is the contract of a function that does not
 STANDS = re.compile(r" ?\b(The crate|It) stands on (?!`[A-Z]).*?\.(?= |$)| ?\bIts examples stand in .*?\.(?= |$)")
 TIME = re.compile(r"time of (the )?order|time in proportion|time linear|takes (the )?time of")
 KINDS = (
-    r"head of (\w+)|heads of all others|definitions ([\w .]+)|costs|to read ([\w .]+)|edits((?: \w+/\w+)*)"
+    r"head of (\w+)|heads of all others|definitions ([\w .]+)|costs|kept edits|to read ([\w .]+)|edits((?: \w+/\w+)*)"
     r"|laws((?: \w+::\w+)+)|laws of (\w+)|all other laws|code ([\w/.]+)((?: \w+)+)"
 )
 # How a crate is called, at the end of its head, and where that stands as a test.
@@ -104,30 +105,33 @@ def list_of(specs, names):
     return "".join(f"- `{at[2]}` (`{at[0]}` {at[1]}): {words}\n" for at, words in told)
 
 
-def all_edits():
-    """The must-fail edits, crate by crate: what each would do, and which clause refuses it, by its first line."""
-    found = {}
-    for crate in crates():
-        for path in sorted((TOP / f"crates/{crate}/must-fail").glob("*.edit")):
-            first = path.read_text().partition("\n")[0]
-            said = re.fullmatch(r"(?:# )?why: (.*?); refused by: (.*?)\.?", first)
-            found[f"{crate}/{path.stem}"] = (said[1], said[2]) if said else ("", "")
-    return found
+def all_edits(kind):
+    """The must-fail edits of this kind, crate by crate: what each would do, and which clause refuses it, by its first line."""
+    paths = [(crate, path) for crate in crates() for path in edits_of(TOP, crate) if path.suffix == kind]
+    return {f"{crate}/{path.stem}": reason_of(path) for crate, path in paths}
 
 
-def edits(names):
-    """A table of these edits, by name; where none is named a list of all, crate by crate."""
-    found = all_edits()
-    named = [(name, *found.get(name, ("", ""))) for name in names or found]
-    told = [(name, cell(why), clause if "`" in clause or not clause else f"`{clause}`") for name, why, clause in named]
-    if names:
-        head = ["| Edit | What goes wrong | Refused by |", "|---|---|---|"]
-        return "\n".join(head + [f"| `{name}` | {why} | {cell(clause)} |" for name, why, clause in told]) + "\n"
+def told_edits(found):
+    """These edits by name: what goes wrong, and the clause as it is shown."""
+    return [(name, cell(why), clause if "`" in clause or not clause else f"`{clause}`") for name, (why, clause) in found.items()]
+
+
+def table_of_edits(names):
+    """A table of these edits of the gate."""
+    found = all_edits(IN_GATE)
+    told = told_edits({name: found.get(name, ("", "")) for name in names})
+    head = ["| Edit | What goes wrong | Refused by |", "|---|---|---|"]
+    return "\n".join(head + [f"| `{name}` | {why} | {cell(clause)} |" for name, why, clause in told]) + "\n"
+
+
+def edits(kind):
+    """A list of the edits of this kind, crate by crate."""
+    told = told_edits(all_edits(kind))
     blocks = []
     for crate, of_crate in groupby(told, lambda it: it[0].partition("/")[0]):
         lines = [f"- `{name.partition('/')[2]}`: {why} ({clause})" for name, why, clause in of_crate]
         blocks.append(f"`{crate}`:\n\n" + "\n".join(lines) + "\n")
-    return "\n".join([*blocks, f"{len(found)} edits.\n"])
+    return "\n".join([*blocks, f"{len(told)} edits in {len(blocks)} crates.\n"])
 
 
 class Call:
@@ -319,10 +323,12 @@ class Pages:
             body = reading(self.specs, self.is_there(found[4].split()))
         elif found[1] == "costs":
             body = costs()
-        elif found[5] is not None:
+        elif found[1] in ("edits", "kept edits"):
+            body = edits(IN_GATE if found[1] == "edits" else KEPT)
+        elif found[5]:
             names = found[5].split()
-            self.told += [f"{name} is to be tried, and no edit" for name in names if name not in all_edits()]
-            body = edits(names)
+            self.told += [f"{name} is to be tried, and no edit of the gate" for name in names if name not in all_edits(IN_GATE)]
+            body = table_of_edits(names)
         elif found[6]:
             body = self.table_of_laws(found[6].split())
         elif found[7]:

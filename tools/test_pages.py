@@ -1,6 +1,7 @@
 #!/usr/bin/env python3
-"""Tests of check_definitions.py, check_signatures.py, make_pages.py and page_links.py over a small repository that is made
-for them, of what run_guide.py finds in a page, and of common.py against the sources.
+"""Tests of check_definitions.py, check_edits.py, check_signatures.py, make_pages.py, page_links.py and of what try_edits.py
+makes of rt's words, over a small repository that is made for them; of what run_guide.py finds in a page; and of common.py
+against the sources.
 
     tools/test_pages.py
 
@@ -15,11 +16,13 @@ import unittest
 from pathlib import Path
 
 import check_definitions
+import check_edits
 import check_signatures
 import common
 import make_pages
 import page_links
 import run_guide
+import try_edits
 
 FILES = {
     "crates.txt": "low:\nhigh: low\n",
@@ -27,7 +30,7 @@ FILES = {
     "docs/ARCHITECTURE.md": "# How it is built\n\n## Crates\n\n```\nhigh > low\n```\n",
     "docs/PAGE.md": "# Page\n\n## What is there\n\nBy hand, of `low_limit`.\n\n"
     "<!-- head of low -->\n<!-- end -->\n\n<!-- to read IsFew -->\n<!-- end -->\n",
-    "docs/WRONG_BODIES.md": "# Edits\n\n<!-- edits -->\n<!-- end -->\n",
+    "docs/WRONG_BODIES.md": "# Edits\n\n<!-- edits -->\n<!-- end -->\n\n<!-- kept edits -->\n<!-- end -->\n",
     "docs/DEFINITIONS.md": "# Definitions\n\n<!-- definitions IsFew -->\n<!-- end -->\n",
     "crates/low/src/lib.rt": "//! Counts things.\n//!\n//! One call. It stands on std alone. Its examples stand in `high`.\n//!\n//! | A | B |\n//! |---|---|\n//! | 1 | 2 |\npub use crate::count::{count, counts_are_few};\n",
     "crates/low/src/count.rt": """ghost use Rattle.low.specs.Few.{IsFew, CountsAreFew};
@@ -36,7 +39,7 @@ FILES = {
 pub fn count(things: &[u8]) -> usize
     ensures few { IsFew result }
 {
-    0
+    things.len()
 }
 
 /// Counts are few (chapter 2). It does nothing when it runs.
@@ -71,7 +74,8 @@ CountsAreFew = (n : ℕ) → IsFew n
 abbrev pub IsOther : ℕ → Type 0
 IsOther n = n ≡ 0
 """,
-    "crates/low/must-fail/one_more.edit": "# why: one more is told; refused by: count few\nfile: src/count.rt\nold: 0\nnew: 1\n",
+    "crates/low/must-fail/one_more.edit": "# why: one more is told; refused by: count few\nfile: src/count.rt\nold: things.len()\nnew: things.len() + 1\n",
+    "crates/low/must-fail/many.md": "# why: many are told; refused by: `count few`, by which all answer\nfile: src/count.rt\nold: things.len()\nnew: things.len() * 9\n",
     "crates/high/src/main.rt": "//! The program.\nfn main() {}\n",
 }
 
@@ -91,7 +95,7 @@ class Pages(unittest.TestCase):
         self.top = Path(room.name)
         for name, text in FILES.items():
             self.write(name, text)
-        for module in (check_definitions, check_signatures, make_pages):
+        for module in (check_definitions, check_edits, check_signatures, make_pages, try_edits):
             self.addCleanup(setattr, module, "TOP", module.TOP)
             module.TOP = self.top
 
@@ -165,7 +169,9 @@ IsKind k = IsFew k.part
         self.assertIn("By hand, of `low_limit`.\n", page)
         self.assertIn("Counts things.\n\nOne call.\n\n| A | B |\n|---|---|\n| 1 | 2 |\n\nCalls: `count` (`few`).\n\nLaws:\n\n- `counts_are_few`: Counts are few (chapter 2).\n", page)
         edits = (self.top / "docs/WRONG_BODIES.md").read_text()
-        self.assertIn("`low`:\n\n- `one_more`: one more is told (`count few`)\n\n1 edits.\n", edits)
+        in_gate, _, kept = edits.partition("<!-- kept edits -->")
+        self.assertIn("`low`:\n\n- `one_more`: one more is told (`count few`)\n\n1 edits in 1 crates.\n", in_gate)
+        self.assertIn("`low`:\n\n- `many`: many are told (`count few`, by which all answer)\n\n1 edits in 1 crates.\n", kept)
         self.assertIn("| `IsFew` | `low/specs/Few.antt` | 2 | 0 | 4 | 2 minutes |\n", page)
         self.assertIn("- `IsFew` (`low` Few): a number that is few\n", (self.top / "docs/DEFINITIONS.md").read_text())
 
@@ -192,6 +198,55 @@ IsKind k = IsFew k.part
         self.write(path, laws.replace("{count, counts_are_few}", "counts_are_few"))
         printed(make_pages.main, False)
         self.assertIn("Counts things.\n\n[Laws](LAWS.md): `counts_are_few`.\n", (self.top / "docs/PAGE.md").read_text())
+
+    def test_edits_of_both_kinds_are_looked_at(self):
+        counts = "edits, of which the gate tries 1 in 1 crates"
+        self.assertEqual(printed(check_edits.main), (f"2 {counts}; 0 faults\n", 0))
+        path = "crates/low/must-fail/many.md"
+        self.write(path, FILES[path].replace("why", "how").replace("things.len()", "lost()", 1))
+        self.write("crates/low/must-fail/one_more.md", FILES[path])
+        told = [
+            "low/many: its first line is not '# why: ..; refused by: ..'", "low/many: its old text stands 0 times: lost()",
+            "low has two edits one_more", f"3 {counts}; 3 faults",
+        ]
+        text, status = printed(check_edits.main)
+        self.assertEqual((text.splitlines(), status), (told, 1))
+
+    def test_edits_are_counted(self):
+        path = "crates/low/must-fail/many.md"
+        for crate, kind, number in (("low", "md", 7), ("high", "edit", 8)):
+            for at in range(number):
+                self.write(f"crates/{crate}/must-fail/n{at}.{kind}", FILES[path])
+        self.write("crates/high/src/count.rt", FILES["crates/low/src/count.rt"])
+        self.addCleanup(setattr, check_edits, "MOST_IN_GATE", check_edits.MOST_IN_GATE)
+        check_edits.MOST_IN_GATE = 8
+        told = ["low has 9 edits, more than 8", "the gate tries 9 edits in 2 crates, and not at most 8 in 18"]
+        self.assertEqual(printed(check_edits.main)[0].splitlines()[:-1], told)
+
+    def told_of_edits(self, *lines):
+        """What is told of the fixture's edits where rt says these lines, and how many faults there are."""
+        path = f"{self.top}/said"
+        self.write("said", "".join(f"{line}\n" for line in lines))
+        with contextlib.redirect_stderr(io.StringIO()):
+            said = try_edits.told_by(["cat", path], self.top)
+        text, faults = printed(try_edits.tell, {"low": common.edits_of(self.top, "low")}, said)
+        return text.splitlines(), faults
+
+    def test_where_an_edit_was_refused_is_told(self):
+        refused = "rt: must-fail low/{}.edit: refused, as it must be: note: src/count.rt:{}:1: it is not proved"
+        lines, faults = self.told_of_edits("rt: low proved", refused.format("many", 4), refused.format("one_more", 20), "3 passed, 0 failed")
+        self.assertEqual(lines[0], "low/many: refused in count, src/count.rt:4")
+        self.assertEqual(lines[1], "low/one_more: refused in other, src/count.rt:20; its first line says count few")
+        self.assertEqual((lines[2], faults), ("2 edits in 1 crates, 1 of them refused elsewhere than told; 0 faults", 0))
+
+    def test_an_edit_that_was_not_refused_is_a_fault(self):
+        lines, faults = self.told_of_edits(
+            "rt: low is kept", "rt: must-fail low/many.edit: BAD EDIT: it did not reach the prover; the first lines of what it said:", "error[x]: no",
+            "rt: must-fail low/one_more.edit: NOT REFUSED: the crate is still proved with this edit", "rt: FAILED: low/one_more.edit")
+        self.assertEqual(lines[:2], ["low/many: BAD EDIT: it did not reach the prover; the first lines of what it said:", "  error[x]: no"])
+        self.assertEqual(lines[2], "low/one_more: NOT REFUSED: the crate is still proved with this edit")
+        self.assertEqual((lines[3], faults), ("2 edits in 1 crates, 0 of them refused elsewhere than told; 2 faults", 2))
+        self.assertEqual(self.told_of_edits("rt: low NOT PROVED")[0][0], "low/many: NOT TRIED: rt says nothing of it")
 
     def test_signatures_are_compared(self):
         text = "# A remark.\n\n[low]\npub fn count(things: &[u8]) -> usize\n\n[otherwise]\nlow::count | no such call | Counting\n"
@@ -238,12 +293,12 @@ IsKind k = IsFew k.part
 
     def test_what_is_missing_is_told(self):
         self.write("crates.txt", "low:\nhigh: low\nmiddle: low\n")
-        self.write("docs/MORE.md", "<!-- edits low/none -->\n<!-- end -->\n\n<!-- to read IsMany -->\n<!-- end -->\n")
+        self.write("docs/MORE.md", "<!-- edits low/none low/many -->\n<!-- end -->\n\n<!-- to read IsMany -->\n<!-- end -->\n")
         text, status = printed(make_pages.main, False)
         self.assertEqual(status, 1)
         self.assertIn("the table of README.md does not name middle\n", text)
         self.assertIn("the map of docs/ARCHITECTURE.md does not name middle\n", text)
-        self.assertIn("low/none is to be tried, and no edit\n", text)
+        self.assertIn("low/none is to be tried, and no edit of the gate\nlow/many is to be tried, and no edit of the gate\n", text)
         self.assertIn("IsMany is to be shown, and no definition\n", text)
 
     def test_links_and_names_lead_somewhere(self):
