@@ -11,7 +11,7 @@
 //! crate stands on `teg_net`, on `teg_check`, `teg_parts` and `teg_certificates` for nets that are
 //! live, parts and certificates, on `teg_dates` for rows and those that are kept, on `bound_laws`
 //! for the laws of the bound, on `periodic_laws` for that each net settles, on `dioid` for dates,
-//! and on `teg_text` for texts. Its examples stand in `worked_examples`.
+//! and on `teg_text` for texts. Whole calls try it, in `worked_examples`.
 #![tactic(auto)]
 
 mod bound;

@@ -9,7 +9,8 @@
 //! tells, and so do [`FirstRows`], up to number 10,000, in cells of eight bytes, which keep theirs
 //! to themselves. The crate stands on `teg_net`, on `teg_check` for the ranks, on `teg_form` for
 //! the form that a stream can be asked with, on `teg_model` for what a least dating is, on
-//! `circular_buffer`, and on `dioid` for dates. Its examples stand in `library_examples`.
+//! `circular_buffer`, and on `dioid` for dates. Its examples stand in `library_examples`, in
+//! `chapters_plans.rt`, and in `date_examples`, in `own_rows.rt` and `streams.rt`.
 //!
 //! ## Call it
 //!

@@ -10,8 +10,8 @@
 //! settled forms of dates and of walk times, on `teg_lags` for inputs that lead on alike, on
 //! `series_laws`, `series_form`, `series_ops`, `periodic_laws` and `dioid_matrix` for residuals of
 //! series, on `teg_due` and `csv_records` for rows, on `teg_text` for texts, on `teg_model` for
-//! datings, on `teg_net` and `teg_check` for nets, and on `dioid` for dates.
-//! Its examples stand in `worked_examples`.
+//! datings, on `teg_net` and `teg_check` for nets, and on `dioid` for dates. Its examples stand in
+//! `date_examples`, in `kept_delays.rt`.
 //!
 //! A refusal is told by its first cause: the first row that is late; then, of the first input that
 //! is not fine, walk times without a settled form of at most 20,000 numbers, or else the first row

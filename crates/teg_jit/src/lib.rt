@@ -10,8 +10,7 @@
 //! proved by functions that do nothing when they run. The crate stands on `teg_net`, on `teg_check`
 //! for ranks, on `teg_form` for the signature of `latest` alone, on `teg_dates` for the least
 //! dates, on `teg_due` for due lists, and on `due_laws`, `teg_model` and `dioid` for what the
-//! answers mean.
-//! Its examples stand in `worked_examples`.
+//! answers mean. Its examples stand in `library_examples`, in `chapters_plans.rt` and `plans.rt`.
 //!
 //! ## Call it
 //!

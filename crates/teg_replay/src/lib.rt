@@ -7,8 +7,7 @@
 //!
 //! The crate stands on `run_laws` for runs and what holds of them, on `teg_net` for nets, on
 //! `teg_due` for the rows of a log, on `teg_outside` for monitors, and on `teg_model` and `dioid`
-//! for the least dating.
-//! Its examples stand in `worked_examples`.
+//! for the least dating. Its examples stand in `library_examples`, in `chapters_plans.rt`.
 //!
 //! A call of [`Game::fire`] that is refused, for want of memory too, changes nothing.
 //!

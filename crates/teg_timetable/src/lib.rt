@@ -8,8 +8,8 @@
 //! texts. The dates are settled as those of a net in which each departure also waits for an input
 //! of its own. The crate stands on `delay_laws` for what delays are, on `teg_settle` and
 //! `settled_laws` for settled forms, on `teg_due` and `csv_records` for the reader of rows, on
-//! `teg_text` for texts, on `teg_net` and `teg_check` for nets, and on `dioid` for dates.
-//! Its examples stand in `worked_examples`.
+//! `teg_text` for texts, on `teg_net` and `teg_check` for nets, and on `dioid` for dates. Its
+//! examples stand in `date_examples`, in `kept_delays.rt`.
 //!
 //! A refusal of [`spread`] is told by its first cause: a net that is too large, the lowest numbered
 //! place that does not get its time, a form that is longer than the limit.
