@@ -12,6 +12,24 @@
 //! `circular_buffer`, and on `dioid` for dates. Its examples stand in `library_examples`, in
 //! `chapters_plans.rt`, and in `date_examples`, in `own_rows.rt` and `streams.rt`.
 //!
+//! ## How it works
+//!
+//! A law of datings is a law of systems: places, dates of initial tokens, releases. A net with its
+//! ready dates and input lists is one instance. A crate that needs the dates of another system of a
+//! net gives a `Source` (its dates of initial tokens, its releases, and the dates of the tokens of
+//! implicit places: one leads from each transition to itself, with one token and no hold, so that
+//! dates never fall) and makes rows by `Rows::new` and `Rows::with_next`; the invariant of the loop
+//! is `IsRows` and `AreLeastRows`, and the condition on the source is `KeepsBounds`.
+//!
+//! One pass makes one row (`RowPass`, a value whose invariant says that the row can be made),
+//! whatever is kept of the rows before and in whatever cells: it asks for the date of a transition
+//! so many rows back (`Past`), and a cell tells the date that it holds (`DateCell`), so its proof
+//! stands once. `Rows` keeps all rows. A `Stream` keeps the last in a ring, as many as the greatest
+//! number of tokens of a place and at least one, and tells their dates (`Stream::back`).
+//! `FirstRows`, from which `list` is written, goes up to number 10,000 and keeps the last rows in a
+//! window: a column of cells of eight bytes for each transition, of which the last go to the front
+//! when it is full.
+//!
 //! ## Call it
 //!
 //! `NET` is the file of a machine, `work`, that takes 3 units for each part: one comes `in` every 4

@@ -8,6 +8,12 @@
 //! weigh, and on `teg_net` for nets. Whole calls try it, in `worked_examples`.
 //!
 //! From round to round the ratio rises, or the circuit stays and the sum of potentials rises.
+//!
+//! ## How it works
+//!
+//! The greatest ratio of a part is found by policy iteration, whose rounds are stated as a relation
+//! between neighbouring rounds, apart from the loop. What an answer tells is stated a second time,
+//! of circuits and paths alone, and a third time as a certificate (`teg_certificates`).
 #![tactic(auto)]
 
 mod circuit_starts;

@@ -11,6 +11,15 @@
 //!
 //! A call of [`Game::fire`] that is refused, for want of memory too, changes nothing.
 //!
+//! ## How it works
+//!
+//! A run is a list of firings, and what may follow it is said of the list alone (`run_laws`). A
+//! `Game` keeps such a list and beside it what makes a firing cheap: of each transition the dates
+//! of its firings, the places into it, how many places leave it, and where its input list stands;
+//! and the number of tokens in all places. Its contracts say of these only that they are those of
+//! the list and the net (`IsGameOf`). All memory that a firing needs is found before anything
+//! changes.
+//!
 //! ## Call it
 //!
 //! `NET` is the file of a machine, `work`, that takes 3 units for each part: one comes `in` every 4

@@ -11,6 +11,16 @@
 //! `teg_check` for nets that are live, on `teg_loops` for the laws of paths and circuits, and on
 //! `teg_text` for texts. Its examples stand in `library_examples`, in `calls.rt`.
 //!
+//! ## How it works
+//!
+//! The search goes by the value of a path against the target: the target's tokens times the path's
+//! time, less the target's time times the path's tokens. Rounds over the places give the greatest
+//! values of paths of at most so many places. They stop at one that tells no more than that before
+//! it, since those after it would tell no more either. One such search, from everywhere and without
+//! the place, finds a circuit above the target that avoids the place, or shows that there is none;
+//! another, from the end of the place, finds the best path back to its start, and with it the best
+//! circuit that passes the place.
+//!
 //! ## Call it
 //!
 //! `LOOP` is the file of two transitions: `b` fires 3 units after `a` by the place `ab`, and `a`
