@@ -13,10 +13,45 @@ IN_GATE, KEPT = ".edit", ".md"
 REASON = re.compile(r"(?:# )?why: (\S.*?); refused by: (\S.*?)\.?")
 
 
+class Block:
+    """A block of crates.txt: its title, what it says behind that, and its crates, each with those of its line."""
+
+    def __init__(self, comment):
+        self.title, _, self.says = comment.partition(": ")
+        self.crates = {}
+
+
+def lines_in(text):
+    """The crates of these lines, each with those that it stands on."""
+    told = (line.partition(":") for line in text.splitlines() if line.strip() and not line.startswith("#"))
+    return {crate.strip(): others.split() for crate, _, others in told}
+
+
+def own_in(top):
+    """The crates of one's own, each with those that it stands on."""
+    return lines_in((top / "crates.txt").read_text().partition(OWN)[2].partition("\n")[2])
+
+
+def blocks_in(top):
+    """The blocks of crates.txt, in its order, but for crates of one's own. A block begins with the comment above its first
+    crate; a comment with an empty line behind it is none."""
+    blocks, comment = [Block("")], []
+    for line in (top / "crates.txt").read_text().partition(OWN)[0].splitlines():
+        if line.startswith("#"):
+            comment.append(line.lstrip("# "))
+        elif not line.strip():
+            comment = []
+        else:
+            if comment:
+                blocks.append(Block(" ".join(comment)))
+            blocks[-1].crates.update(lines_in(line))
+            comment = []
+    return [it for it in blocks if it.crates]
+
+
 def crates_in(top):
     """The crates of crates.txt, in its order, but for those of one's own."""
-    lines = (top / "crates.txt").read_text().partition(OWN)[0].splitlines()
-    return [line.partition(":")[0].strip() for line in lines if line.strip() and not line.startswith("#")]
+    return [crate for block in blocks_in(top) for crate in block.crates]
 
 
 def edits_of(top, crate):

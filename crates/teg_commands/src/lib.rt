@@ -1,13 +1,12 @@
 //! What each command comes to on accepted files: how it ends, and its text.
 //!
 //! Each command but `list` is one function (`cycle` has a second one for its rounds) over values
-//! that are accepted already, as a live net, with one definition of what it says of them:
-//! `Tells (SaysX ..) (outcome_of result)`. Words, files, faults and writing are none of its
-//! business; `teg_run` puts them before it and behind it. Of `list`, which `teg_run` writes as its
-//! rows are made, the definition stands here. The crate stands on the crates that answer, on
-//! `teg_report` for the texts, on `teg_reader` for nets in the newer form, and on `teg_outside` for
-//! monitors.
-//! Its examples stand in `worked_examples`.
+//! that are accepted already, as a live net, with one definition of what it says of them: `Tells
+//! (SaysX ..) (outcome_of result)`. Words, files, faults and writing are none of its business;
+//! `teg_run` puts them before it and behind it. Of `list`, which `teg_run` writes as its rows are
+//! made, the definition stands here. The crate stands on the crates that answer, on `teg_report`
+//! for the texts, on `teg_reader` for nets in the newer form, and on `teg_outside` for monitors.
+//! Whole calls try it, in `worked_examples`.
 //!
 //! Each command takes the allocator first, and answers `OutOfMemory` only where no memory is found.
 //! Dates and holding times are whole numbers in the user's unit, firings are numbered from 1.

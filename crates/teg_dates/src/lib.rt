@@ -9,7 +9,26 @@
 //! tells, and so do [`FirstRows`], up to number 10,000, in cells of eight bytes, which keep theirs
 //! to themselves. The crate stands on `teg_net`, on `teg_check` for the ranks, on `teg_form` for
 //! the form that a stream can be asked with, on `teg_model` for what a least dating is, on
-//! `circular_buffer`, and on `dioid` for dates. Its examples stand in `library_examples`.
+//! `circular_buffer`, and on `dioid` for dates. Its examples stand in `library_examples`, in
+//! `chapters_plans.rt`, and in `date_examples`, in `own_rows.rt` and `streams.rt`.
+//!
+//! ## How it works
+//!
+//! A law of datings is a law of systems: places, dates of initial tokens, releases. A net with its
+//! ready dates and input lists is one instance. A crate that needs the dates of another system of a
+//! net gives a `Source` (its dates of initial tokens, its releases, and the dates of the tokens of
+//! implicit places: one leads from each transition to itself, with one token and no hold, so that
+//! dates never fall) and makes rows by `Rows::new` and `Rows::with_next`; the invariant of the loop
+//! is `IsRows` and `AreLeastRows`, and the condition on the source is `KeepsBounds`.
+//!
+//! One pass makes one row (`RowPass`, a value whose invariant says that the row can be made),
+//! whatever is kept of the rows before and in whatever cells: it asks for the date of a transition
+//! so many rows back (`Past`), and a cell tells the date that it holds (`DateCell`), so its proof
+//! stands once. `Rows` keeps all rows. A `Stream` keeps the last in a ring, as many as the greatest
+//! number of tokens of a place and at least one, and tells their dates (`Stream::back`).
+//! `FirstRows`, from which `list` is written, goes up to number 10,000 and keeps the last rows in a
+//! window: a column of cells of eight bytes for each transition, of which the last go to the front
+//! when it is full.
 //!
 //! ## Call it
 //!
