@@ -32,7 +32,7 @@ pub struct SettledNumbers {
 }
 
 // The last number of rows that come again first after this period, all moved by this step.
-#[derive(Clone, Copy, Debug, Drop)]
+#[derive(Clone, Copy, Drop)]
 pub(crate) struct Returned {
     last: u64,
     period: u64,

@@ -26,7 +26,7 @@ fn shortened(date: Date) -> Option<i64>
 
 // Dates one after another: in eight bytes each, and from the first that does not fit on as they
 // are. Contracts see the list of them.
-#[derive(Debug, Drop)]
+#[derive(Drop)]
 pub(crate) struct PackedDates {
     short: Vec<i64>,
     rest: Vec<Date>,

@@ -10,7 +10,7 @@ use teg_net::{Net, OutOfMemory, Place, PlaceId, TransitionId};
 
 // What a pass reads of a place, and when the place has its turn. A pass goes over thousands of
 // these for each number, so they are small.
-#[derive(Clone, Copy, Debug, Drop)]
+#[derive(Clone, Copy, Drop)]
 pub(crate) struct OrderedPlace {
     pub(crate) turn: u32,
     pub(crate) place: PlaceId,

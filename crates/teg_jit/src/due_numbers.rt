@@ -15,7 +15,7 @@ use teg_due::DueRow;
 use teg_net::{Net, OutOfMemory};
 
 // The number of the firing that a row names, and the index of the row.
-#[derive(Clone, Copy, Debug, Drop)]
+#[derive(Clone, Copy, Drop)]
 pub(crate) struct Numbered {
     pub(crate) number: u32,
     pub(crate) index: usize,

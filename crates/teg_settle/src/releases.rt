@@ -15,7 +15,7 @@ use teg_dates::Source;
 use teg_net::{Net, PlaceId, Role, TransitionId};
 
 // What the firings of a transition wait for beside tokens.
-#[derive(Clone, Copy, Debug, Drop)]
+#[derive(Clone, Copy, Drop)]
 pub(crate) enum Wait {
     // For nothing.
     Nothing,
@@ -24,7 +24,7 @@ pub(crate) enum Wait {
 }
 
 // Whether there are initial tokens.
-#[derive(Clone, Copy, Debug, Drop)]
+#[derive(Clone, Copy, Drop)]
 pub(crate) enum Tokens {
     // Each is there from its ready date on.
     Ready,

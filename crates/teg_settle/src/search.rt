@@ -17,14 +17,14 @@ use teg_net::OutOfMemory;
 pub(crate) const MOST_ROWS: u64 = 20_000_000_000_000;
 
 // Rows of dates, and past which of their numbers they go on in each period.
-#[derive(Debug, Drop)]
+#[derive(Drop)]
 pub(crate) struct Found {
     pub(crate) rows: Rows,
     pub(crate) form: Repetition,
 }
 
 // Rows of dates, and past which of their numbers they go on in each period, if they show it.
-#[derive(Debug, Drop)]
+#[derive(Drop)]
 pub(crate) struct Searched {
     pub(crate) rows: Rows,
     pub(crate) form: Option<Repetition>,
