@@ -16,7 +16,7 @@ use Rattle.teg_report.specs.dioid.declared.dates.Date.TheVariants.{Early, Never,
 use Rattle.teg_net.specs.Limits.{greatest_firing_number}
 use Rattle.teg_net.specs.Circuits.{IsLive}
 use Rattle.teg_net.specs.Nets.{NetLists, IsNet}
-use Rattle.teg_dates.specs.DateTables.{TableDates, HasDatesOf, IsDateTable, date_at, most_numbers}
+use Rattle.date_rows.specs.DateTables.{TableDates, HasDatesOf, IsDateTable, date_at, most_numbers}
 use Rattle.teg_jit.specs.declared.answers.LatestDate.{LatestDate}
 use Rattle.teg_jit.specs.declared.answers.LatestDate.TheVariants.{Free, At}
 use Rattle.teg_jit.specs.declared.answers.Onward.TheVariants.{Due, Next, By}

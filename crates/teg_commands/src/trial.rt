@@ -17,7 +17,7 @@ use crate::slack::{best_ratio, slacks_by};
 use std::alloc::Global;
 use teg_check::LiveNet;
 use teg_critical::{Slack, Slacks};
-use teg_dates::first_dates;
+use date_rows::first_dates;
 use teg_net::{CycleAnswer, Net, OutOfMemory, PlaceId, Ratio, TransitionId};
 use teg_parts::split;
 use teg_report::{Answer, report};

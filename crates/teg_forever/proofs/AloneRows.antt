@@ -8,7 +8,7 @@ use Rattle.teg_net.specs.Nets.{NetLists, IsNet, without_inputs}
 use Rattle.teg_net.specs.Circuits.{IsLive}
 use Rattle.forever_laws.specs.teg_model.Datings.{IsLeastUnder}
 use Rattle.forever_laws.specs.due_laws.MeetingDueDates.{inputs_at_zero}
-use Rattle.teg_dates.specs.Streams.{IsLeastRow}
+use Rattle.date_rows.specs.Streams.{IsLeastRow}
 use Rattle.forever_laws.specs.declared.rows.EndlessRow.{EndlessRow}
 use Rattle.forever_laws.specs.EndlessRows.{row_due, IsEndlessRow}
 use Rattle.forever_laws.specs.Late.{IsLeastLate, NoneLate, NoneLateTo}

@@ -4,7 +4,7 @@ ghost use Rattle.std.specs.Prelude.{◌≡◌, ◌<◌, ◌≤◌, ◌+◌, All,
 ghost use Rattle.dioid.specs.declared.dates.Date.TheVariants.{At};
 ghost use Rattle.teg_net.specs.Limits.{greatest_firing_number, most_place_tokens};
 ghost use Rattle.teg_net.specs.Nets.{without_inputs};
-ghost use Rattle.teg_dates.specs.Streams.{IsStreamOf, rows_given};
+ghost use Rattle.date_rows.specs.Streams.{IsStreamOf, rows_given};
 ghost use Rattle.forever_laws.specs.Late.{IsLeastLate, NoneLateTo};
 ghost use Rattle.forever_laws.specs.PacedRows.{paced_bound};
 ghost use Rattle.teg_forever.specs.LateFirings.{InLeastAtZero, IsTold};

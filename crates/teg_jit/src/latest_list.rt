@@ -44,7 +44,7 @@ fn step_of(number: u64) -> Onward
 }
 
 // Latest dates one after another, in eight bytes each. Contracts see the list of them.
-#[derive(Drop)]
+#[derive(Debug, Drop)]
 pub(crate) struct LatestList {
     cells: Vec<u64>,
 }

@@ -33,7 +33,7 @@ fn transpose_number(
 
 // Latest dates that are read transition by transition. Contracts see the list of them number by
 // number.
-#[derive(Drop)]
+#[derive(Debug, Drop)]
 pub(crate) struct TransposedList {
     width: usize,
     numbers: usize,

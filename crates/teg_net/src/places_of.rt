@@ -16,7 +16,7 @@ pub enum PlaceEnd {
 }
 
 // The places of one transition, in order of number.
-#[derive(Drop)]
+#[derive(Debug, Drop)]
 struct PlaceList {
     places: Vec<PlaceId>,
 }

@@ -10,7 +10,7 @@ use std::marker::Model;
 use teg_net::TransitionId;
 
 // A run over a number of transitions. Contracts see that number and the run.
-#[derive(Drop)]
+#[derive(Debug, Drop)]
 pub(crate) struct History {
     run: Vec<Fired>,
     columns: Vec<Column>,

@@ -8,7 +8,7 @@ use crate::lists::head;
 use dioid::Date;
 use itoa::{Buffer, write_digits};
 use std::alloc::Global;
-use teg_dates::DateCell;
+use date_rows::DateCell;
 use teg_net::{Net, OutOfMemory};
 
 /// The room that a row of so many dates needs in a block, in bytes: at most 41 for each date, 20

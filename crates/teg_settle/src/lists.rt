@@ -11,7 +11,7 @@ use std::alloc::{AllocError, Global};
 use teg_net::{Net, TransitionId};
 
 // Past a number the dates go on evenly: in each so many numbers by a gap.
-#[derive(Clone, Copy, Drop)]
+#[derive(Clone, Copy, Debug, Drop)]
 pub(crate) struct Span {
     pub(crate) after: u64,
     pub(crate) every: u64,

@@ -11,11 +11,11 @@ ghost use Rattle.teg_settle.specs.Steps.{AreOwnReleases};
 use crate::lists::{Span, date_of_list, list_number, spans_of};
 use dioid::Date;
 use std::alloc::{AllocError, Global};
-use teg_dates::Source;
+use date_rows::Source;
 use teg_net::{Net, PlaceId, Role, TransitionId};
 
 // What the firings of a transition wait for beside tokens.
-#[derive(Clone, Copy, Drop)]
+#[derive(Clone, Copy, Debug, Drop)]
 pub(crate) enum Wait {
     // For nothing.
     Nothing,
@@ -24,7 +24,7 @@ pub(crate) enum Wait {
 }
 
 // Whether there are initial tokens.
-#[derive(Clone, Copy, Drop)]
+#[derive(Clone, Copy, Debug, Drop)]
 pub(crate) enum Tokens {
     // Each is there from its ready date on.
     Ready,

@@ -1,6 +1,6 @@
 //! The growing search for the shortest form: rows are made until they show one.
 ghost use Rattle.std.specs.Prelude.{◌≡◌, ◌+◌, ◌-◌, ◌<◌, ◌≤◌, IfOk, MatchOption, MatchResult, ℕ};
-ghost use Rattle.teg_dates.specs.PlaceOrder.{OrdersPlaces};
+ghost use Rattle.date_rows.specs.PlaceOrder.{OrdersPlaces};
 ghost use Rattle.teg_settle.specs.Asked.{IsAsked};
 ghost use Rattle.teg_settle.specs.ShortestForms.{IsSearched};
 ghost use Rattle.teg_settle.specs.ComparedRows.{AreRowsOf, IsReady, IsRefuted, IsSeen, IsSeenFrom, IsTrial, most_window};
@@ -9,7 +9,7 @@ use crate::asked::Asked;
 use crate::releases::Repetition;
 use crate::witness::{PeriodTest, Witnesses};
 use std::alloc::Global;
-use teg_dates::{PlaceOrder, Rows};
+use date_rows::{PlaceOrder, Rows};
 use teg_net::OutOfMemory;
 
 // Where more rows than this show no form, no further ones are made: the dates of so many fill more

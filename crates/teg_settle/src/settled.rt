@@ -18,7 +18,7 @@ use crate::window::steps_of;
 use dioid::Date;
 use std::alloc::{AllocError, Global};
 use std::marker::Model;
-use teg_dates::Rows;
+use date_rows::Rows;
 use teg_net::{Net, TransitionId};
 
 /// A settled form (chapter 3): a number, a period of at least 1, and for each transition of a net

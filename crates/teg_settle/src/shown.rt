@@ -13,7 +13,7 @@ use crate::window::steps_of;
 use dioid::Date;
 use std::alloc::{AllocError, Global};
 use std::marker::Model;
-use teg_dates::Rows;
+use date_rows::Rows;
 use teg_net::{Net, TransitionId};
 
 /// A settled form (chapter 3), for callers that ask for some of its dates: the rows of the search

@@ -7,7 +7,7 @@ ghost use Rattle.teg_settle.specs.ComparedRows.{AreComparedRows, read_step};
 
 use dioid::Date;
 use std::alloc::{AllocError, Global};
-use teg_dates::Rows;
+use date_rows::Rows;
 use teg_net::{Net, TransitionId};
 
 // Whether the step leads from one date to the other.

@@ -9,7 +9,7 @@ use crate::releases::Releases;
 use crate::window::{is_step, step_in};
 use dioid::Date;
 use std::marker::Model;
-use teg_dates::Rows;
+use date_rows::Rows;
 use teg_net::{Net, Place, TransitionId};
 
 // Why a period was refuted.

@@ -5,7 +5,7 @@ use run_laws::Fired;
 use std::alloc::Global;
 use std::test::Fail;
 use teg_check::LiveNet;
-use teg_dates::first_dates;
+use date_rows::first_dates;
 use teg_due::read_due;
 use teg_jit::{LatestDate, latest_inputs};
 use teg_net::{Net, PlaceId, TransitionId};

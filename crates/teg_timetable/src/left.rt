@@ -12,7 +12,7 @@ use teg_settle::SettledDates;
 
 // A plan, by its first departures and its period, and a settled form whose first rows are the
 // delayed dates of its transitions. No call takes memory.
-#[derive(Drop)]
+#[derive(Debug, Drop)]
 pub(crate) struct Left {
     firsts: Vec<u64>,
     every: u64,
