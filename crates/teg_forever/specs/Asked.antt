@@ -10,8 +10,8 @@ use Rattle.forever_laws.specs.settled_laws.SettledForms.{SettledForm, settled_le
 use Rattle.teg_lags.specs.Lags.{AreLeaving}
 use Rattle.teg_settle.specs.Transfers.{IsTransferOf}
 use Rattle.forever_laws.specs.due_laws.MeetingDueDates.{InputsMeet, inputs_at_zero}
-use Rattle.forever_laws.specs.declared.rows.EndlessRow.{EndlessRow}
-use Rattle.forever_laws.specs.EndlessRows.{IsEndlessOf, IsEndlessRow, due_on}
+use Rattle.endless_due.specs.declared.row.EndlessRow.{EndlessRow}
+use Rattle.endless_due.specs.EndlessRows.{IsEndlessOf, IsEndlessRow, due_on}
 use Rattle.teg_forever.specs.LatestReleases.{longest_form}
 
 -- a live net with its ranks, and endless due dates

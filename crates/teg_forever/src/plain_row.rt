@@ -4,10 +4,10 @@ ghost use Rattle.std.specs.Prelude.{◌≡◌};
 ghost use Rattle.teg_net.specs.Circuits.{IsLive};
 ghost use Rattle.teg_net.specs.Nets.{without_inputs};
 ghost use Rattle.teg_form.specs.StandardForms.{IsStandardFormOf};
-ghost use Rattle.forever_laws.specs.EndlessRows.{IsEndlessRow};
+ghost use Rattle.endless_due.specs.EndlessRows.{IsEndlessRow};
 ghost use Rattle.teg_forever.specs.Asked.{IsPlainRow, IsRowOfLive, row_of_net};
 
-use forever_laws::EndlessRow;
+use endless_due::EndlessRow;
 use std::marker::Model;
 use teg_form::Form;
 use teg_net::Net;

@@ -1,9 +1,9 @@
 use Rattle.std.proofs.Common.{◌≡◌, Ok}
 use Rattle.std.proofs.lemmas.Result.{IfOk-weaker}
-use Rattle.forever_laws.specs.EndlessRows.{IsEndlessOf}
-use Rattle.teg_forever.specs.EndlessFiles.{endless_of}
-use Rattle.teg_forever.proofs.RowRules.{endless_rules}
-use Rattle.teg_forever.proofs.reading.read_endless.Goals as goal
+use Rattle.endless_due.specs.EndlessRows.{IsEndlessOf}
+use Rattle.endless_due.specs.EndlessFiles.{endless_of}
+use Rattle.endless_due.proofs.RowRules.{endless_rules}
+use Rattle.endless_due.proofs.reading.read_endless.Goals as goal
 
 pub returns-clause-rules : goal.returns-clause-rules
 returns-clause-rules c =

@@ -4,8 +4,8 @@ use Rattle.std.specs.List.{list_all}
 use Rattle.std.specs.Str.Parse.{digits_value}
 use Rattle.teg_due.specs.csv.Records.{fields_of}
 use Rattle.teg_net.specs.Limits.{greatest_input_date}
-use Rattle.teg_forever.specs.EndlessFiles.{dates_of_fields}
-use Rattle.teg_forever.proofs.numbers.dates_of.Given as goal
+use Rattle.endless_due.specs.EndlessFiles.{dates_of_fields}
+use Rattle.endless_due.proofs.numbers.dates_of.Given as goal
 
 abbrev pub invariant-loop-index : goal.invariant-loop-index
 invariant-loop-index l = record {

@@ -1,7 +1,7 @@
 use Rattle.std.proofs.Common.{◌≡◌, get_or, false, true, sym, ap}
-use Rattle.forever_laws.specs.declared.rows.EndlessRow.{EndlessRow}
+use Rattle.endless_due.specs.declared.row.EndlessRow.{EndlessRow}
 use Rattle.teg_net.proofs.Distinct.{rest_twice, apart_more, not_both}
-use Rattle.teg_forever.proofs.rules.are_apart.Goals as goal
+use Rattle.endless_due.proofs.rules.are_apart.Goals as goal
 
 pub returns-then-any_row_of : goal.returns-then-any_row_of
 returns-then-any_row_of c =

@@ -15,9 +15,9 @@ use Rattle.teg_net.specs.Limits.{greatest_input_date, greatest_every}
 use Rattle.teg_net.specs.Nets.{NetLists}
 use Rattle.teg_due.specs.RowNames.{number_named, is_input}
 use Rattle.teg_due.proofs.DueRules.{named_in, no_input}
-use Rattle.forever_laws.specs.declared.rows.EndlessRow.{EndlessRow}
-use Rattle.forever_laws.specs.EndlessRows.{IsEndlessRow, IsEndlessOf, most_endless_dates}
-use Rattle.teg_forever.specs.EndlessFiles.{has_row, in_endless_limits, rises_from, goes_on, endless_numbered, endless_of, endless_placed, endless_row, is_endless_header}
+use Rattle.endless_due.specs.declared.row.EndlessRow.{EndlessRow}
+use Rattle.endless_due.specs.EndlessRows.{IsEndlessRow, IsEndlessOf, most_endless_dates}
+use Rattle.endless_due.specs.EndlessFiles.{has_row, in_endless_limits, rises_from, goes_on, endless_numbered, endless_of, endless_placed, endless_row, is_endless_header}
 
 -- ---- dates
 

@@ -3,10 +3,10 @@ ghost use Rattle.std.specs.Prelude.{◌≡◌, ◌≢◌, ◌↔◌, ◌≤◌, 
 ghost use Rattle.std.specs.List.Sorted.{IsNonDecreasing};
 ghost use Rattle.teg_net.specs.Limits.{greatest_input_date};
 ghost use Rattle.teg_net.specs.Nets.{ListGoesOn};
-ghost use Rattle.forever_laws.specs.EndlessRows.{IsEndlessOf, IsEndlessRow, again_of_row};
+ghost use Rattle.endless_due.specs.EndlessRows.{IsEndlessOf, IsEndlessRow, again_of_row};
 
 use crate::numbers::{MOST_DATES, MOST_EVERY};
-use forever_laws::EndlessRow;
+use crate::row::EndlessRow;
 use teg_net::{GREATEST_INPUT_DATE, Net, TransitionId};
 
 // Whether each date keeps the limit of dates.

@@ -1,6 +1,6 @@
 use Rattle.std.proofs.lemmas.List.Sorted.{non_decreasing_from_is_sorted}
 use Rattle.teg_net.proofs.Distinct.{falls_told}
-use Rattle.teg_forever.proofs.rules.never_fall.Goals as goal
+use Rattle.endless_due.proofs.rules.never_fall.Goals as goal
 
 pub returns : goal.returns
 returns c =

@@ -4,7 +4,7 @@ ghost use Rattle.std.specs.List.{list_all};
 ghost use Rattle.teg_due.specs.csv.Records.{fields_of};
 ghost use Rattle.csv_records.specs.NumberFields.{is_number};
 ghost use Rattle.teg_net.specs.Limits.{greatest_input_date};
-ghost use Rattle.teg_forever.specs.EndlessFiles.{has_numbers, IsLimited, AreDatesOfFields, goes_on, rises_from};
+ghost use Rattle.endless_due.specs.EndlessFiles.{has_numbers, IsLimited, AreDatesOfFields, goes_on, rises_from};
 
 use csv_records::{ByteRecord, is_number, number_up_to};
 use std::alloc::Global;

@@ -5,7 +5,7 @@ use Rattle.teg_net.specs.declared.entries.Again.{Again}
 use Rattle.teg_net.specs.Limits.{greatest_input_date}
 use Rattle.teg_net.specs.Nets.{NetLists, IsInput, ListGoesOn}
 use Rattle.teg_net.specs.Inputs.{list_date}
-use Rattle.forever_laws.specs.declared.rows.EndlessRow.{EndlessRow}
+use Rattle.endless_due.specs.declared.row.EndlessRow.{EndlessRow}
 
 -- dates that a row lists, at most
 abbrev pub most_endless_dates : ℕ

@@ -2,13 +2,13 @@
 ghost use Rattle.std.specs.Prelude.{◌≡◌, ◌≢◌, ◌≤◌, Ok, Err, true, false, length, IfOk, IfErr};
 ghost use Rattle.teg_due.specs.csv.Records.{fields_of};
 ghost use Rattle.csv_records.specs.Records.{most_file_bytes};
-ghost use Rattle.forever_laws.specs.EndlessRows.{IsEndlessOf};
-ghost use Rattle.teg_forever.specs.EndlessFiles.{dates_of_fields, endless_numbered, endless_of, every_in, gap_in, has_numbers, has_row};
+ghost use Rattle.endless_due.specs.EndlessRows.{IsEndlessOf};
+ghost use Rattle.endless_due.specs.EndlessFiles.{dates_of_fields, endless_numbered, endless_of, every_in, gap_in, has_numbers, has_row};
 
 use crate::numbers::{field_at, goes_on, has_numbers, limited_numbers};
-use crate::rows::EndlessRefusal;
+use crate::refusal::EndlessRefusal;
 use csv_records::{ByteRecord, RowFile, read_rows};
-use forever_laws::EndlessRow;
+use crate::row::EndlessRow;
 use std::alloc::Global;
 use teg_due::{is_input, transition_named};
 use teg_net::{DateList, NameOrder, Net, TransitionId};
@@ -65,8 +65,8 @@ fn numbered_row(
 
 impl RowFile for EndlessFile<'_> {
     ghost use Rattle.std.specs.Prelude.{◌≡◌};
-    ghost use Rattle.teg_forever.specs.declared.rows.EndlessRefusal.TheVariants.{OutOfMemory};
-    ghost use Rattle.teg_forever.specs.EndlessFiles.{endless_row, is_endless_header};
+    ghost use Rattle.endless_due.specs.declared.refusal.EndlessRefusal.TheVariants.{OutOfMemory};
+    ghost use Rattle.endless_due.specs.EndlessFiles.{endless_row, is_endless_header};
 
     type Row = EndlessRow;
 

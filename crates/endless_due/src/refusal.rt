@@ -1,6 +1,6 @@
 //! The faults of a file of due dates without end.
 ghost use Rattle.std.specs.Prelude.{◌≡◌};
-ghost use Rattle.teg_forever.specs.declared.rows.EndlessRefusal.TheVariants.{OutOfMemory};
+ghost use Rattle.endless_due.specs.declared.refusal.EndlessRefusal.TheVariants.{OutOfMemory};
 
 use std::error::Error;
 use std::fmt;

@@ -9,11 +9,11 @@ use Rattle.csv_records.specs.RowsOfRecords.{rows_of}
 use Rattle.teg_net.specs.Limits.{greatest_input_date, greatest_every}
 use Rattle.teg_net.specs.Nets.{NetLists}
 use Rattle.teg_due.specs.RowNames.{number_named, is_input}
-use Rattle.forever_laws.specs.declared.rows.EndlessRow.{EndlessRow}
-use Rattle.forever_laws.specs.EndlessRows.{most_endless_dates}
-use Rattle.teg_forever.specs.declared.numbers.Limited.{Limited}
-use Rattle.teg_forever.specs.declared.rows.EndlessRefusal.{EndlessRefusal}
-use Rattle.teg_forever.specs.declared.rows.EndlessRefusal.TheVariants.{BadRow, UnknownTransition, NotDue, RepeatedDue, OutOfRange, Falls}
+use Rattle.endless_due.specs.declared.row.EndlessRow.{EndlessRow}
+use Rattle.endless_due.specs.EndlessRows.{most_endless_dates}
+use Rattle.endless_due.specs.declared.numbers.Limited.{Limited}
+use Rattle.endless_due.specs.declared.refusal.EndlessRefusal.{EndlessRefusal}
+use Rattle.endless_due.specs.declared.refusal.EndlessRefusal.TheVariants.{BadRow, UnknownTransition, NotDue, RepeatedDue, OutOfRange, Falls}
 
 -- the fields of a header
 abbrev pub is_endless_header : List (List ℕ) → Bool
