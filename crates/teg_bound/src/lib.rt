@@ -9,7 +9,7 @@
 //! and two streams as far apart as that period tell from where on. [`bound_text`] and
 //! [`no_bound_text`] are the texts of an answer, and different answers have different texts. The
 //! crate stands on `teg_net`, on `teg_check`, `teg_parts` and `teg_certificates` for nets that are
-//! live, parts and certificates, on `teg_dates` for rows and those that are kept, on `bound_laws`
+//! live, parts and certificates, on `date_rows` for rows and those that are kept, on `bound_laws`
 //! for the laws of the bound, on `periodic_laws` for that each net settles, on `dioid` for dates,
 //! and on `teg_text` for texts. Whole calls try it, in `worked_examples`.
 //!

@@ -2,8 +2,8 @@
 use Rattle.std.proofs.Common.{◌<◌, ℕ, List, length, subst}
 use Rattle.std.proofs.lemmas.List.Elements.{All-get_or}
 use Rattle.std.proofs.lemmas.Option.{get_or_from_slice_get, slice_get_within}
-use Rattle.teg_forever.specs.forever_laws.declared.rows.EndlessRow.{EndlessRow}
-use Rattle.teg_forever.specs.forever_laws.EndlessRows.{IsEndlessOf, IsEndlessRow}
+use Rattle.endless_due.specs.declared.row.EndlessRow.{EndlessRow}
+use Rattle.endless_due.specs.EndlessRows.{IsEndlessOf, IsEndlessRow}
 use Rattle.teg_forever.specs.declared.releases.ForeverRefusal.{ForeverRefusal}
 use Rattle.teg_forever.specs.declared.releases.ForeverRefusal.TheVariants.{Late, TooLong, TooWide, OutOfMemory}
 use Rattle.teg_forever.specs.LatestReleases.{ForeverRefused}

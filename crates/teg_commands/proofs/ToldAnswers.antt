@@ -16,7 +16,7 @@ use Rattle.teg_report.specs.dioid.declared.dates.Date.TheVariants.{Early, Never,
 use Rattle.teg_net.specs.Limits.{greatest_firing_number}
 use Rattle.teg_net.specs.Circuits.{IsLive}
 use Rattle.teg_net.specs.Nets.{NetLists, IsNet}
-use Rattle.teg_dates.specs.DateTables.{TableDates, HasDatesOf, IsDateTable, date_at, most_numbers}
+use Rattle.date_rows.specs.DateTables.{TableDates, HasDatesOf, IsDateTable, date_at, most_numbers}
 use Rattle.teg_jit.specs.declared.answers.LatestDate.{LatestDate}
 use Rattle.teg_jit.specs.declared.answers.LatestDate.TheVariants.{Free, At}
 use Rattle.teg_jit.specs.declared.answers.Onward.TheVariants.{Due, Next, By}
@@ -36,9 +36,9 @@ use Rattle.teg_bound.specs.BoundTexts.{ToldBound, BoundTold, AreNumbersIn, IsCau
 use Rattle.teg_cycle.proofs.Gathering.{certified}
 use Rattle.teg_cycle.proofs.Telling.{answer_certifies}
 use Rattle.teg_cycle.proofs.teg_certificates_proofs.Inside.{circuit_in_part}
-use Rattle.teg_forever.specs.forever_laws.declared.rows.EndlessRow.{EndlessRow}
-use Rattle.teg_forever.specs.forever_laws.EndlessRows.{IsEndlessOf}
-use Rattle.teg_forever.specs.EndlessFiles.{endless_of}
+use Rattle.endless_due.specs.declared.row.EndlessRow.{EndlessRow}
+use Rattle.endless_due.specs.EndlessRows.{IsEndlessOf}
+use Rattle.endless_due.specs.EndlessFiles.{endless_of}
 use Rattle.teg_forever.specs.declared.releases.Release.{Release}
 use Rattle.teg_forever.specs.declared.releases.Release.TheVariants.{Free as FreeRelease, Latest}
 use Rattle.teg_forever.specs.EndlessTexts.{EndlessAnswer, Answered, Faulty, IsEndlessTold, IsReleaseTold, answer_lines}

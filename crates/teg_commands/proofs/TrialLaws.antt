@@ -7,7 +7,7 @@ use Rattle.teg_check.specs.Ranks.{IsRanking}
 use Rattle.teg_check.proofs.Liveness.{ranking_is_live}
 use Rattle.teg_critical.specs.declared.slacks.Slack.{Slack}
 use Rattle.teg_critical.specs.Slacks.{AreSlacks}
-use Rattle.teg_dates.specs.DateTables.{TableDates, HasLeastDates, date_at}
+use Rattle.date_rows.specs.DateTables.{TableDates, HasLeastDates, date_at}
 use Rattle.teg_net.specs.declared.entries.Place.{Place}
 use Rattle.teg_net.specs.declared.entries.PlaceId.{PlaceId}
 use Rattle.teg_net.specs.Circuits.{IsCircuit, IsLive}

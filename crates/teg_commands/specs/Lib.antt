@@ -27,7 +27,7 @@ pub use Rattle.teg_net.specs as teg_net
 pub use Rattle.teg_report.specs.teg_text as teg_text
 pub use Rattle.teg_reader.specs as teg_reader
 pub use Rattle.teg_report.specs.teg_model as teg_model
-pub use Rattle.teg_dates.specs as teg_dates
+pub use Rattle.date_rows.specs as date_rows
 pub use Rattle.teg_settle.specs as teg_settle
 pub use Rattle.teg_timetable.specs as teg_timetable
 pub use Rattle.teg_report.specs as teg_report

@@ -7,7 +7,7 @@ use Rattle.teg_bound.specs.BoundTexts.{ToldBound, AreNumbersIn, bound_lines}
 use Rattle.teg_calc.specs.declared.refusals.ParseRefused.{ParseRefused}
 use Rattle.teg_critical.specs.declared.slacks.Slack.{Slack as PlaceSlack}
 use Rattle.teg_critical.specs.Slacks.{AreSlacks}
-use Rattle.teg_dates.specs.DateTables.{TableDates, HasDatesOf, IsDateTable}
+use Rattle.date_rows.specs.DateTables.{TableDates, HasDatesOf, IsDateTable}
 use Rattle.teg_due.specs.declared.rows.DueRefusal.{DueRefusal}
 use Rattle.teg_due.specs.declared.rows.DueRow.{DueRow}
 use Rattle.teg_due.specs.declared.rows.LogRefusal.{LogRefusal}

@@ -1,7 +1,7 @@
 //! The latest inputs of a live net by which due dates without end are met.
 ghost use Rattle.std.specs.Prelude.{◌≡◌, ◌≤◌, IfNone, IfSome, length};
 ghost use Rattle.teg_report.specs.csv_records.Records.{most_file_bytes};
-ghost use Rattle.teg_forever.specs.forever_laws.EndlessRows.{IsEndlessOf};
+ghost use Rattle.endless_due.specs.EndlessRows.{IsEndlessOf};
 ghost use Rattle.teg_commands.specs.Forever.{EndsUnreleased, SaysEndless, SaysForever, SaysUnreleased};
 ghost use Rattle.teg_commands.specs.CommandOutcomes.{Tells, TellsWhy, outcome_of};
 ghost use Rattle.teg_forever.specs.EndlessTexts.{Faulty, IsFaultTold, answer_lines};

@@ -8,7 +8,7 @@
 //! same call for a caller that has the standard form, which it does not read. What latest dates and
 //! latest inputs are stands in `due_laws`, over walks and datings; what plans keep beside it is
 //! proved by functions that do nothing when they run. The crate stands on `teg_net`, on `teg_check`
-//! for ranks, on `teg_form` for the signature of `latest` alone, on `teg_dates` for the least
+//! for ranks, on `teg_form` for the signature of `latest` alone, on `date_rows` for the least
 //! dates, on `teg_due` for due lists, and on `due_laws`, `teg_model` and `dioid` for what the
 //! answers mean. Its examples stand in `library_examples`, in `chapters_plans.rt` and `plans.rt`.
 //!

@@ -10,7 +10,7 @@ use Rattle.teg_commands.specs.dioid.declared.dates.Date.{Date}
 use Rattle.teg_commands.specs.declared.outcome.Verdict.TheVariants.{Done as VerdictDone}
 use Rattle.teg_commands.specs.List.{SaysList}
 use Rattle.teg_commands.specs.CommandTexts.{list_text}
-use Rattle.teg_dates.specs.Passes.{IsRowOf}
+use Rattle.date_rows.specs.Passes.{IsRowOf}
 use Rattle.teg_commands.specs.teg_model.Datings.{IsLeastDating}
 use Rattle.teg_net.specs.Nets.{NetLists}
 use Rattle.teg_outside.specs.Causes.{Rose}

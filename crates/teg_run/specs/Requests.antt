@@ -2,7 +2,7 @@
 use Rattle.std.specs.Prelude.{ℕ, Bool, List, [], ◌∷◌, Option, Some, None, codes, bytes_eq, nat_le, length, if◌then◌else◌, is_some, option_and_then, ◌==◌}
 use Rattle.std.specs.Option.{option_map}
 use Rattle.std.specs.List.{before_first, after_first}
-use Rattle.teg_dates.specs.DateTables.{most_numbers}
+use Rattle.date_rows.specs.DateTables.{most_numbers}
 use Rattle.teg_net.specs.Limits.{greatest_firing_number, greatest_target_time, most_target_tokens}
 use Rattle.teg_commands.specs.teg_settle.LimitRefusals.{greatest_limit}
 use Rattle.teg_commands.specs.teg_timetable.Spreads.{greatest_period}

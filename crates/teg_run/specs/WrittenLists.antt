@@ -2,7 +2,7 @@
 use Rattle.std.specs.Prelude.{ℕ, ◌≡◌, ◌+◌, ◌*◌, ◌≤◌, ◌<◌, ◌++◌, List, [], length, take, Result, Ok, Err}
 use Rattle.std.specs.List.{flat_map, range_with_len}
 use Rattle.teg_commands.specs.dioid.declared.dates.Date.{Date}
-use Rattle.teg_dates.specs.Streams.{AreFirstRowsOf, HasLeast, first_rows_given}
+use Rattle.date_rows.specs.Streams.{AreFirstRowsOf, HasLeast, first_rows_given}
 use Rattle.teg_net.specs.Nets.{NetLists}
 use Rattle.teg_outside.specs.declared.sink.SinkFault.{SinkFault}
 use Rattle.teg_outside.specs.declared.sink.SinkFault.TheVariants.{Failed}

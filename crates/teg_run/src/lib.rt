@@ -9,7 +9,7 @@
 //! the same of monitors that are lent to it, and says what they are shown: by the replies of the
 //! shelf (`ShowsJust` in `specs/ShownFirings.antt`), and by the files, where they are told
 //! (`ShowsTold`). It stands on `teg_commands` for what each command comes to, on `teg_words`,
-//! `teg_reader` and `teg_check` for what is accepted, on `teg_net` and `teg_dates` for the rows of
+//! `teg_reader` and `teg_check` for what is accepted, on `teg_net` and `date_rows` for the rows of
 //! a list, on `teg_report` for the texts, on `teg_outside` for files and output, and on `trial_net`
 //! for the line of `trial`. Its examples stand in `worked_examples`.
 #![tactic(auto)]

@@ -2,9 +2,9 @@
 ghost use Rattle.std.specs.Prelude.{ℕ, ◌≡◌, ◌+◌, ◌<◌, ◌≤◌, length, map, IfOk};
 ghost use Rattle.teg_commands.specs.dioid.declared.dates.Date.{Date};
 ghost use Rattle.teg_commands.specs.teg_model.Datings.{IsLeastDating};
-ghost use Rattle.teg_dates.specs.DateCells.{date_of_cell};
-ghost use Rattle.teg_dates.specs.Streams.{AreFirstRowsOf, IsLeastRow, first_rows_given};
-ghost use Rattle.teg_dates.specs.DateTables.{most_numbers};
+ghost use Rattle.date_rows.specs.DateCells.{date_of_cell};
+ghost use Rattle.date_rows.specs.Streams.{AreFirstRowsOf, IsLeastRow, first_rows_given};
+ghost use Rattle.date_rows.specs.DateTables.{most_numbers};
 ghost use Rattle.teg_commands.specs.List.{SaysList};
 ghost use Rattle.teg_commands.specs.CommandTexts.{list_text};
 ghost use Rattle.teg_report.specs.DateLists.{head_text};
@@ -15,9 +15,9 @@ ghost use Rattle.teg_run.specs.Writing.{WritesText};
 
 use crate::status::Status;
 use crate::writing::write_all;
+use date_rows::FirstRows;
 use std::alloc::Global;
 use teg_check::LiveNet;
-use teg_dates::FirstRows;
 use teg_net::{Net, OutOfMemory};
 use teg_outside::{Sink, SinkFault};
 use teg_report::{list_head, put_row, room_of_row};

@@ -1,6 +1,6 @@
 use Rattle.std.proofs.Common.{◌≡◌, ◌+◌, ℕ, List, length, map, ap, ◌∙◌, arith}
 use Rattle.std.proofs.lemmas.Result.{err_from_is_err_and}
-use Rattle.teg_dates.specs.DateCells.{date_of_cell}
+use Rattle.date_rows.specs.DateCells.{date_of_cell}
 use Rattle.teg_run.specs.WrittenLists.{lines_text}
 use Rattle.teg_run.proofs.WrittenLists.{cut_up, gathered_none, gathered_more, gathered_cut, gathered_last}
 use Rattle.teg_run.proofs.listing.write_rows.Goals as goal

@@ -1,6 +1,6 @@
 use Rattle.std.proofs.Common.{◌≡◌, ◌<◌, ◌+◌, ◌*◌, ℕ, length}
 use Rattle.teg_commands.specs.dioid.declared.dates.Date.{Date}
-use Rattle.teg_dates.specs.Streams.{AreFirstRowsOf, first_rows_given}
+use Rattle.date_rows.specs.Streams.{AreFirstRowsOf, first_rows_given}
 use Rattle.teg_commands.specs.teg_model.Datings.{IsLeastDating}
 use Rattle.teg_run.specs.WrittenLists.{piece}
 use Rattle.teg_run.proofs.WrittenLists.{HasGathered}
