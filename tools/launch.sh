@@ -74,7 +74,7 @@ is_built_of() {
 
 # Whether the program stands there as built of these sources; looks, and builds nothing.
 stands() {
-  is_as_told || { [ -n "$rt" ] && is_built_of "$(checksum)"; }
+  is_as_told || { [ -n "$rt" ] && [ -x "$program" ] && is_built_of "$(checksum)"; }
 }
 
 # Copies what the program is proved from into an empty folder, as a repository of its own: no edits that must fail.
