@@ -5,8 +5,8 @@
 
 PROGRAM is the built teg; where none is named it is the one that `rt ci` leaves. The commands of README.md, of
 docs/GUIDE*.md, of tools/recipe_rows.md, which has what these commands make of other files, and of the other files of
-docs/ are run by bash, file after file in this order, in a folder that has the program as ./teg and the nets as
-examples/:
+docs/ are run by bash, file after file in this order, in a folder that has the program as ./teg, and as ./try too, which
+answers alike, and the nets as examples/:
 
 - In a fenced block, a line that begins with `$ ` is a command. The lines below it, up to the next
   command or the end of the block, are what it prints.
@@ -35,7 +35,7 @@ from common import TOP, Status
 
 
 # What asks for an answer that a checker reads, and how such answers begin.
-ASKS = re.compile(r"\./teg (?:check|cycle|dates|size|jit|timetable)(?: [\w./]+)+")
+ASKS = re.compile(r"\./(?:teg|try) (?:check|cycle|dates|size|jit|timetable)(?: [\w./]+)+")
 TABLE = "latest inputs for "
 SETTLED = "settled after "
 KEPT = re.compile(r"settled after .*\nkept\n")
@@ -169,14 +169,20 @@ def documents():
     return {str(path.relative_to(TOP)): path.read_text(encoding="utf-8") for path in paths}
 
 
+def furnish(folder, program):
+    """Puts into the folder what the commands of the documents find there: the program, and the nets."""
+    for name in ("teg", "try"):
+        os.symlink(os.path.abspath(program), f"{folder}/{name}")
+    os.symlink(f"{TOP}/examples", f"{folder}/examples")
+
+
 def main(program, witnesses):
     if not is_there(program) or witnesses is not None and not is_there(WITNESS):
         return summed_up(0, 1)
     texts = documents()
     guides = {name: text for name, text in texts.items() if name.startswith("docs/GUIDE")}
     with tempfile.TemporaryDirectory(prefix="teg-guide-") as folder:
-        os.symlink(os.path.abspath(program), f"{folder}/teg")
-        os.symlink(f"{TOP}/examples", f"{folder}/examples")
+        furnish(folder, program)
         seen = {name: witnesses if name in guides else None for name in texts}
         shown = [well for name, text in texts.items() for well in run_blocks(name, text, folder, seen[name])]
         nets = list(run_nets(guides.values(), folder))
