@@ -6,11 +6,11 @@
 PROGRAM is the built teg; where none is named it is the one that `rt ci` leaves. The commands of README.md, of
 docs/GUIDE*.md, of tools/recipe_rows.md, which has what these commands make of other files, and of the other files of
 docs/ are run by bash, file after file in this order, in a folder that has the program as ./teg, and as ./try too, which
-answers alike, and the nets as examples/:
+answers alike, and examples/ and docs/:
 
 - In a fenced block, a line that begins with `$ ` is a command. The lines below it, up to the next
   command or the end of the block, are what it prints.
-- A fenced block of toml, sed or awk whose first line is `# NAME` with that ending is a file of that name for the
+- A fenced block of toml, sed, awk or py whose first line is `# NAME` with that ending is a file of that name for the
   commands below.
 - A command that calls python3's reader of TOML is left out where this python3 has none (before version 3.11).
 
@@ -120,7 +120,7 @@ def run_blocks(name, text, folder, witnesses=None):
     """Runs the commands of a document, and tells for each whether it prints what the document shows. Where a list of
     witnesses is given, whether each answer is shown is added to it."""
     for block in blocks_of(text):
-        named = re.fullmatch(r"# (\w+)\.(toml|sed|awk)", block[2][0]) if block[2] else None
+        named = re.fullmatch(r"# (\w+)\.(toml|sed|awk|py)", block[2][0]) if block[2] else None
         if named and named[2] == block[1]:
             with open(f"{folder}/{named[1]}.{named[2]}", "w", encoding="utf-8") as file:
                 file.write("".join(f"{line}\n" for line in block[2]))
@@ -149,12 +149,19 @@ def odd_commands(commands, net, folder):
     return odd
 
 
+def files_below(folder):
+    """The files of a folder and of those below it, each by its path from there, but for what python3 keeps of modules."""
+    for path, folders, names in os.walk(folder):
+        folders[:] = [name for name in folders if name != "__pycache__"]
+        yield from (os.path.relpath(os.path.join(path, name), folder) for name in names)
+
+
 def run_nets(guides, folder):
     """Runs the commands that take a net alone on each net of examples/."""
     usage = run(["./teg"], folder)[1]
     of_net = re.findall(r"^(?:usage:| {6}) teg (\w+) NET(?: \[.*)?$", usage, re.M)
     shown = "\n".join(command for guide in guides for block in blocks_of(guide) for _, command, _ in commands_of(block))
-    for name in sorted(os.listdir(f"{folder}/examples")):
+    for name in sorted(files_below(f"{folder}/examples")):
         odd = odd_commands(of_net, name, folder) if name.endswith(".toml") else []
         if f"examples/{name}" not in shown:
             print(f"examples/{name}: no command of the guide names it")
@@ -170,10 +177,11 @@ def documents():
 
 
 def furnish(folder, program):
-    """Puts into the folder what the commands of the documents find there: the program, and the nets."""
+    """Puts into the folder what the commands of the documents find there: the program, the nets and the pages."""
     for name in ("teg", "try"):
         os.symlink(os.path.abspath(program), f"{folder}/{name}")
-    os.symlink(f"{TOP}/examples", f"{folder}/examples")
+    for name in ("examples", "docs"):
+        os.symlink(f"{TOP}/{name}", f"{folder}/{name}")
 
 
 def main(program, witnesses):
