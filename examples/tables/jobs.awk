@@ -14,7 +14,8 @@
     route[product] = job; last[machine] = job
 }
 END {
-    for (i = 1; i <= many; i++) { m = machines[i]; add_place(m, last[m], first[m], time[last[m]], 1) }
-    for (i = 1; i <= kinds; i++) { p = products[i]; add_place("to", route[p], p "_done", time[route[p]], 0) }
+    if (!many) refuse(0, "there is no row")
+    for (i = 1; i <= many; i++) { m = machines[i]; add_place("turn", last[m], first[m], time[last[m]], 1) }
+    for (i = 1; i <= kinds; i++) { p = products[i]; if (p "_done" in time) refuse(0, "job " p "_done has the name of the end of " p); add_place("to", route[p], p "_done", time[route[p]], 0) }
     print_net()
 }

@@ -54,4 +54,7 @@ cell[1] == "cards" { take_cards(); next }
 cell[1] == "input" { take_input(); next }
 cell[1] == "output" && cells == 2 { set_role(name_of(2, "name"), "output"); next }
 { refuse(FNR, "'" cell[1] "' begins none of the rows ring, wait, cards, input and output NAME") }
-END { print_net() }
+END {
+    if (!transitions) refuse(0, "there is no row")
+    print_net()
+}

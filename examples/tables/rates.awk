@@ -57,7 +57,12 @@ END {
     for (e = 1; e <= m; e++) if (!(start[e] in time) || !(end[e] in time)) refuse(row[e], "an actor of this rate has no row")
     for (s = 1; s <= n; s++) if (!(actor[s] in turns)) set_turns(actor[s])
     for (e = 1; e <= m; e++) if (turns[start[e]] * brought[e] != turns[end[e]] * taken[e]) refuse(row[e], "what is brought in a round is not what is taken")
+    if (!n) refuse(0, "there is no actor")
     if (jobs > 400) refuse(0, "a round has " jobs " jobs, and a net at most 400 transitions")
+    for (s = 1; s <= n; s++) for (i = 1; i <= turns[actor[s]]; i++) {
+        if (job(actor[s], i) in is_transition) refuse(0, "a job of " actor[s] " has the name of another: " job(actor[s], i))
+        add_transition(job(actor[s], i))
+    }
     for (s = 1; s <= n; s++) for (i = 1; i <= turns[actor[s]]; i++) add_place("turn", job(actor[s], i), job(actor[s], i % turns[actor[s]] + 1), time[actor[s]], i == turns[actor[s]])
     for (e = 1; e <= m; e++) add_rate(e)
     print_net()
