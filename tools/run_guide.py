@@ -14,8 +14,9 @@ answers alike, and examples/ and docs/:
   commands below.
 - A command that calls python3's reader of TOML is left out where this python3 has none (before version 3.11).
 
-Each file of examples/ is named by a command of the guide, and each command that takes a net alone, by the
-usage, answers for each net there: with status 0, or, where the net is refused, as `check` does.
+Each file of examples/ is named by a command of the guide, a script of examples/tables by what runs it; and each command
+that takes a net alone, by the usage, answers for each net there: with status 0, or, where the net is refused, as `check`
+does.
 
 With --witnesses each answer of `check`, `cycle`, `dates`, `size` and `jit` that a command of the guide asks for, and of
 `timetable` each whose delays are kept, is handed to the program witness_runner that `rt ci` leaves, which has to tell it as
@@ -156,6 +157,12 @@ def files_below(folder):
         yield from (os.path.relpath(os.path.join(path, name), folder) for name in names)
 
 
+def named_as(name):
+    """How a command names a file of examples/: a script of examples/tables by what runs it, and a module by its folder."""
+    name = re.sub(r"^(tables/run) common$", r"\1", re.sub(r"^tables/(\w+)\.awk$", r"tables/run \1", name))
+    return "examples/" + re.sub(r"^python/\w+\.py$", "python", name)
+
+
 def run_nets(guides, folder):
     """Runs the commands that take a net alone on each net of examples/."""
     usage = run(["./teg"], folder)[1]
@@ -163,9 +170,9 @@ def run_nets(guides, folder):
     shown = "\n".join(command for guide in guides for block in blocks_of(guide) for _, command, _ in commands_of(block))
     for name in sorted(files_below(f"{folder}/examples")):
         odd = odd_commands(of_net, name, folder) if name.endswith(".toml") else []
-        if f"examples/{name}" not in shown:
+        if named_as(name) not in shown:
             print(f"examples/{name}: no command of the guide names it")
-        yield not odd and f"examples/{name}" in shown
+        yield not odd and named_as(name) in shown
 
 
 def documents():
