@@ -1,10 +1,11 @@
 //! Delays that stay and the circuit that shows it, tests of timetables and of due dates without end
 //! that a program makes itself, and the lines of their refusals.
+use endless_due::{EndlessRow, is_endless_of, read_endless};
 use example_nets::says;
 use std::alloc::{AllocError, Global};
 use std::test::Fail;
 use teg_check::check;
-use teg_forever::{EndlessRow, forever, is_endless_of, read_endless};
+use teg_forever::forever;
 use teg_net::{DateList, Net, PlaceId, TransitionId};
 use teg_reader::read_net;
 use teg_timetable::{

@@ -2,7 +2,7 @@
 ghost use Rattle.std.specs.Prelude.{◌≡◌, ◌+◌, ◌<◌, length};
 ghost use Rattle.teg_net.specs.Limits.{greatest_firing_number};
 ghost use Rattle.teg_form.specs.StandardForms.{IsStandardFormOf};
-ghost use Rattle.teg_dates.specs.Streams.{IsStreamOf, rows_given};
+ghost use Rattle.date_rows.specs.Streams.{IsStreamOf, rows_given};
 
 use dioid::Date;
 use example_nets::LOOP;

@@ -6,7 +6,7 @@ use Rattle.std.proofs.lemmas.List.Elements.{All-push, All-nil, Contains-append_l
 use Rattle.dioid.specs.declared.dates.Date.{Date}
 use Rattle.dioid.specs.Dates.{IsAtMostDate, later_of}
 use Rattle.dioid.proofs.DateOrder.{later_left, later_is_right}
-use Rattle.teg_dates.specs.DateTables.{TableDates}
+use Rattle.date_rows.specs.DateTables.{TableDates}
 use Rattle.teg_due.specs.declared.rows.DueRow.{DueRow}
 use Rattle.dispatch.specs.Outlooks.{IsMissed, AreMissed}
 

@@ -3,7 +3,7 @@ use Rattle.std.specs.Prelude.{pos, ◌≤◌, ◌^◌, List, Contains, All}
 use Rattle.dioid.specs.declared.dates.Date.TheVariants.{At}
 use Rattle.dioid.specs.Dates.{IsAtMostDate}
 use Rattle.teg_net.specs.Nets.{NetLists}
-use Rattle.teg_dates.specs.DateTables.{TableDates, date_at}
+use Rattle.date_rows.specs.DateTables.{TableDates, date_at}
 use Rattle.teg_due.specs.declared.rows.DueRow.{DueRow}
 use Rattle.run_laws.specs.declared.fired.Fired.{Fired}
 use Rattle.teg_replay.specs.Games.{GameState, IsGameOf}

@@ -2,16 +2,16 @@
 ghost use Rattle.std.specs.Prelude.{◌≡◌, ◌≤◌, ◌^◌, ◌++◌, ◌∷◌, [], IfErr, IfOk, length};
 ghost use Rattle.run_laws.specs.Runs.{IsLegalAfter};
 ghost use Rattle.teg_net.specs.Limits.{most_rows};
-ghost use Rattle.teg_dates.specs.KeptRows.{AreLeastRows};
+ghost use Rattle.date_rows.specs.KeptRows.{AreLeastRows};
 ghost use Rattle.teg_due.specs.RowRules.{IsDueOf};
 ghost use Rattle.state_laws.specs.NetsLeft.{system_after};
 ghost use Rattle.dispatch.specs.Outlooks.{AreMissed};
 
+use date_rows::Rows;
 use run_laws::Fired;
 use std::alloc::{AllocError, Global};
 use std::marker::Model;
 use teg_check::LiveNet;
-use teg_dates::Rows;
 use teg_due::{Due, DueRow, LogRow};
 use teg_net::{OutOfMemory, TransitionId};
 use teg_outside::Firing;

@@ -1,17 +1,17 @@
 //! The earliest dates from here on, and what they miss.
 ghost use Rattle.std.specs.Prelude.{◌≡◌, ◌<◌, ◌≤◌, ◌^◌, All, Decides, IfOk, length};
 ghost use Rattle.teg_net.specs.Limits.{most_rows};
-ghost use Rattle.teg_dates.specs.KeptRows.{AreLeastRows};
+ghost use Rattle.date_rows.specs.KeptRows.{AreLeastRows};
 ghost use Rattle.teg_due.specs.RowRules.{IsDueOf};
 ghost use Rattle.state_laws.specs.NetsLeft.{system_after};
 ghost use Rattle.dispatch.specs.Outlooks.{AreMissed, IsMissed};
 
 use crate::happened::Happened;
+use date_rows::{PlaceOrder, Rows};
 use dioid::Date;
 use run_laws::Fired;
 use std::alloc::{AllocError, Global};
 use teg_check::LiveNet;
-use teg_dates::{PlaceOrder, Rows};
 use teg_due::{Due, DueRow};
 use teg_net::OutOfMemory;
 

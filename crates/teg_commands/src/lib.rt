@@ -9,7 +9,7 @@
 //! `teg_files`. The last of them stands here, `forever`, and what holds of all: the law that their
 //! answers are told. The crate stands on those, on `teg_forever`, and on the crates whose texts the
 //! law is about.
-//! Its examples stand in `worked_examples`.
+//! Whole calls try it, in `worked_examples`.
 //!
 //! Each command takes the allocator first, and answers `OutOfMemory` only where no memory is found.
 //! Dates and holding times are whole numbers in the user's unit, firings are numbered from 1. A

@@ -15,9 +15,9 @@ ghost use Rattle.teg_files.specs.Writing.{WritesText};
 
 use crate::status::Status;
 use crate::writing::write_all;
+use date_rows::FirstRows;
 use std::alloc::Global;
 use teg_check::LiveNet;
-use date_rows::FirstRows;
 use teg_net::{Net, OutOfMemory};
 use teg_outside::{Sink, SinkFault};
 use teg_report::{list_head, put_row, room_of_row};

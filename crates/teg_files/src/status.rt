@@ -33,7 +33,8 @@ pub enum Status {
     ReadFault,
     /// The answer could not be written.
     WriteFault,
-    /// No memory was found.
+    /// No memory was found; or `bound` made 10^17 rows, or a search for a settled form 2 x 10^13,
+    /// which no machine does.
     NoMemory,
 }
 

@@ -12,10 +12,10 @@ ghost use Rattle.teg_net.specs.Limits.{most_places};
 
 use crate::cycle::cycle_times;
 use crate::slack::{best_ratio, slacks_by};
+use date_rows::first_dates;
 use std::alloc::Global;
 use teg_check::LiveNet;
 use teg_critical::{Slack, Slacks};
-use date_rows::first_dates;
 use teg_net::{CycleAnswer, Net, OutOfMemory, PlaceId, Ratio, TransitionId};
 use teg_outcome::{CommandOutcome, Machines, Verdict};
 use teg_parts::split;

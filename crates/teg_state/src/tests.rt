@@ -1,11 +1,11 @@
 //! A machine with parts that come in, asked again in the middle of its work.
 use crate::{NotLeft, live_net_after, net_after};
+use date_rows::first_dates;
 use dioid::Date;
 use run_laws::Fired;
 use std::alloc::Global;
 use std::test::Fail;
 use teg_check::LiveNet;
-use teg_dates::first_dates;
 use teg_due::read_due;
 use teg_jit::{LatestDate, latest_inputs};
 use teg_net::{Net, PlaceId, TransitionId};
