@@ -1,12 +1,12 @@
 //! Delays that stay and the circuit that shows it, tests of timetables and of due dates without end
 //! that a program makes itself, and the lines of their refusals.
-use endless_due::{EndlessRefusal, EndlessRow, is_endless_of};
+use endless_due::{EndlessRefusal, EndlessRow, is_endless_of, read_endless};
 use example_nets::says;
 use std::alloc::{AllocError, Global};
 use std::fmt::Display;
 use std::test::Fail;
 use teg_check::check;
-use teg_forever::ForeverRefusal;
+use teg_forever::{ForeverRefusal, forever};
 use teg_net::{DateList, Net, PlaceId, TransitionId};
 use teg_reader::read_net;
 use teg_timetable::{
@@ -122,6 +122,13 @@ fn row_of(alloc: Global, index: u32, dates: &[u64]) -> Result<EndlessRow, AllocE
     })
 }
 
+// How many inputs have latest releases for parts from the saw every 4.
+fn releases_of(alloc: Global, net: &Net) -> Result<usize, Fail> {
+    let live = check(alloc, net)?;
+    let rows = read_endless(alloc, net, b"saw,1,4,10\n")?;
+    Ok(forever(alloc, net, &live, &rows)?.len())
+}
+
 #[test]
 fn endless_dues_are_tested(rt: HostRuntime) -> Result<(), Fail> {
     let net = read_net(rt.alloc(), FEED)?;
@@ -143,6 +150,7 @@ fn endless_dues_are_tested(rt: HostRuntime) -> Result<(), Fail> {
         row_of(rt.alloc(), 1, &[10, 12])?,
     ];
     assert!(rt; !is_endless_of(&net, &twice));
+    assert!(rt; releases_of(rt.alloc(), &net)? == 1);
     Ok(())
 }
 
