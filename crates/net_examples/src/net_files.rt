@@ -47,9 +47,13 @@ const WRITTEN: [&str; 2] = [
     "transition = [{name = \"\u{e9}\", role = \"input\"}, {name = \"v\", role = \"input\"}, {name = \"y\", role = \"output\"}]\nplace = [{name = \"#=[]\", from = \"v\", to = \"y\", tokens = 2, ready = [9, 1000000000000]}]\ninput = [{transition = \"v\", dates = []}, {transition = \"\u{e9}\", dates = [0, 4], every = 2, gap = 9}]\n",
 ];
 
-// What is written for the net of the file.
+// What is written for the net of the file, of which a copy without input lists has all places.
 fn written(alloc: Global, file: &[u8]) -> Option<Vec<u8>> {
     let net = read_net(alloc, file).ok()?;
+    let copy = net.without_inputs(alloc).ok()?;
+    if copy.places().len() != net.places().len() {
+        return None;
+    }
     write_net(alloc, &net).ok()
 }
 
@@ -64,13 +68,6 @@ fn is_written(alloc: Global, file: &str, bytes: usize) -> bool {
     }
 }
 
-// The number of places of the net without its input lists.
-fn places_without_inputs(alloc: Global, file: &str) -> Result<usize, Fail> {
-    let net = read_net(alloc, file.as_bytes())?;
-    let copy = net.without_inputs(alloc)?;
-    Ok(copy.places().len())
-}
-
 #[test]
 fn nets_at_their_limits_are_written_and_copied(rt: HostRuntime) -> Result<(), Fail> {
     let alloc = rt.alloc();
@@ -83,6 +80,5 @@ fn nets_at_their_limits_are_written_and_copied(rt: HostRuntime) -> Result<(), Fa
     ] {
         assert!(rt; is_written(alloc, file, bytes));
     }
-    assert!(rt; places_without_inputs(alloc, wide.as_str())? == 4_000);
     Ok(())
 }
