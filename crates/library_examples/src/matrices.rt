@@ -110,6 +110,12 @@ fn matrices_of_the_greatest_sizes(rt: HostRuntime) -> Result<(), Fail> {
     assert!(rt; is_full(row.times(alloc, &column), 1));
     assert!(rt; is_full(column.times(alloc, &row), 4096));
     assert!(rt; is_full(column.left_residual(alloc, &column), 1));
+    Ok(())
+}
+
+#[test]
+fn stars_of_long_rows(rt: HostRuntime) -> Result<(), Fail> {
+    let alloc = rt.alloc();
     let (square, right) = (full(alloc, 100, 100)?, full(alloc, 100, 1)?);
     assert!(rt; is_full(square.star(alloc), 100));
     assert!(rt; is_full(square.solve_least(alloc, &right), 100));
