@@ -1,5 +1,4 @@
 //! A machine with parts that come in, asked again in the middle of its work.
-use crate::{NotLeft, live_net_after, net_after};
 use date_rows::first_dates;
 use dioid::Date;
 use run_laws::Fired;
@@ -10,6 +9,7 @@ use teg_due::read_due;
 use teg_jit::{LatestDate, latest_inputs};
 use teg_net::{Net, PlaceId, TransitionId};
 use teg_reader::read_net;
+use teg_state::{NotLeft, live_net_after, net_after};
 
 const NET: &[u8] = b"transition = [{name = 'in', role = 'input'}, {name = 'work'}]
 place = [
@@ -43,33 +43,6 @@ fn shop_at_8(alloc: Global) -> Result<LiveNet, Fail> {
     Ok(live_net_after(alloc, &shop, &run, 8)?)
 }
 
-#[test]
-fn dates_go_on(rt: HostRuntime) -> Result<(), Fail> {
-    let alloc = rt.alloc();
-    let rest = shop_at_8(alloc)?;
-    let table = first_dates(alloc, rest.net(), rest.live(), 3)?;
-    let input = rest.net().find("in").ok_or("no such transition")?;
-    let work = rest.net().find("work").ok_or("no such transition")?;
-    assert!(rt; table.date(input, 1) == Date::At(8));
-    assert!(rt; table.date(work, 1) == Date::At(9));
-    assert!(rt; table.date(work, 2) == Date::At(12));
-    assert!(rt; table.date(work, 3) == Date::At(15));
-    Ok(())
-}
-
-#[test]
-fn a_plan_from_now_on(rt: HostRuntime) -> Result<(), Fail> {
-    let alloc = rt.alloc();
-    let rest = shop_at_8(alloc)?;
-    let due = read_due(alloc, rest.net(), b"work,2,20\nwork,3,23\n")?;
-    let plan = latest_inputs(alloc, rest.net(), rest.live(), &due)?;
-    let input = rest.net().find("in").ok_or("no such transition")?;
-    assert!(rt; plan.numbers() == 3);
-    assert!(rt; matches!(plan.latest(input, 1), LatestDate::At { date: 18, .. }));
-    assert!(rt; matches!(plan.latest(input, 2), LatestDate::At { date: 21, .. }));
-    Ok(())
-}
-
 // What a run leaves of the shop in which a part was worked at that had not come in.
 fn unpaid(alloc: Global, net: &Net) -> Result<Net, NotLeft> {
     let run = [Fired {
@@ -80,15 +53,23 @@ fn unpaid(alloc: Global, net: &Net) -> Result<Net, NotLeft> {
 }
 
 #[test]
-fn no_tokens_from_nowhere(rt: HostRuntime) -> Result<(), Fail> {
+fn dates_and_plans_go_on(rt: HostRuntime) -> Result<(), Fail> {
     let alloc = rt.alloc();
-    let net = read_net(alloc, NET)?;
-    let refused = unpaid(alloc, &net).err();
-    assert!(rt;
-        refused
-            == Some(NotLeft::Unpaid {
-                place: PlaceId { index: 0 }
-            })
-    );
+    let rest = shop_at_8(alloc)?;
+    let input = rest.net().find("in").ok_or("no such transition")?;
+    let work = rest.net().find("work").ok_or("no such transition")?;
+    let table = first_dates(alloc, rest.net(), rest.live(), 3)?;
+    assert!(rt; table.date(input, 1) == Date::At(8));
+    assert!(rt; table.date(work, 1) == Date::At(9));
+    assert!(rt; table.date(work, 2) == Date::At(12));
+    assert!(rt; table.date(work, 3) == Date::At(15));
+    let due = read_due(alloc, rest.net(), b"work,2,20\nwork,3,23\n")?;
+    let plan = latest_inputs(alloc, rest.net(), rest.live(), &due)?;
+    assert!(rt; plan.numbers() == 3);
+    assert!(rt; matches!(plan.latest(input, 1), LatestDate::At { date: 18, .. }));
+    assert!(rt; matches!(plan.latest(input, 2), LatestDate::At { date: 21, .. }));
+    let refused = unpaid(alloc, &read_net(alloc, NET)?).err();
+    let place = PlaceId { index: 0 };
+    assert!(rt; refused == Some(NotLeft::Unpaid { place }));
     Ok(())
 }
