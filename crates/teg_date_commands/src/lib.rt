@@ -3,8 +3,8 @@
 //!
 //! Each command is one function with one definition of what it says: `Tells (SaysX ..) (outcome_of
 //! result)`. The crate stands on the crates that answer, `teg_settle`, `teg_transfer` and
-//! `teg_timetable`, on `teg_report` for the texts, and on `teg_outcome` for how a command ends. What
-//! holds of all commands is told by `teg_commands`.
+//! `teg_timetable`, on `teg_report` for the texts, and on `teg_outcome` for how a command ends.
+//! What holds of all commands is told by `teg_commands`. Whole calls try it, in `worked_examples`.
 #![tactic(auto)]
 
 mod dates;

@@ -1,11 +1,12 @@
 //! The files of a call and its output: what a read opens, and how an answer is written.
 //!
-//! [`open_net`] and [`open_bytes`] read a file once and open it, or tell its refusal (`OpensNet` and
-//! `OpensBytes` in `specs/Openings.antt`); [`finish`] writes how the work ended (`Finished` in
+//! [`open_net`] and [`open_bytes`] read a file once and open it, or tell its refusal (`OpensNet`
+//! and `OpensBytes` in `specs/Openings.antt`); [`finish`] writes how the work ended (`Finished` in
 //! `specs/Finishing.antt`), and [`write_list`] the dates of `list` as they are made, of which
-//! `SaysList` stands here. [`Status`] is how a call ends. The crate stands on `teg_outside` for files
-//! and output, on `teg_reader` and `teg_check` for what is accepted, on `date_rows` for the rows of a
-//! list, on `teg_report` for the texts, and on `teg_outcome` for how a command ends.
+//! `SaysList` stands here. [`Status`] is how a call ends. The crate stands on `teg_outside` for
+//! files and output, on `teg_reader` and `teg_check` for what is accepted, on `date_rows` for the
+//! rows of a list, on `teg_report` for the texts, and on `teg_outcome` for how a command ends.
+//! Whole calls try it, in `worked_examples`.
 #![tactic(auto)]
 
 mod ending;

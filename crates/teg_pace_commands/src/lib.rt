@@ -2,10 +2,11 @@
 //! tokens that a place lacks for a target, how soon its dates repeat, and the line of machines.
 //!
 //! Each command is one function (`cycle` has a second one for its rounds) with one definition of
-//! what it says: `Tells (SaysX ..) (outcome_of result)`. All of them but `size` begin with the cycle
-//! times. The crate stands on the crates that answer, `teg_cycle`, `teg_critical`, `teg_sizing`,
-//! `teg_bound` and `trial_net`, on `teg_report` for the texts, and on `teg_outcome` for how a command
-//! ends. What holds of all commands is told by `teg_commands`.
+//! what it says: `Tells (SaysX ..) (outcome_of result)`. All of them but `size` begin with the
+//! cycle times. The crate stands on the crates that answer, `teg_cycle`, `teg_critical`,
+//! `teg_sizing`, `teg_bound` and `trial_net`, on `teg_report` for the texts, and on `teg_outcome`
+//! for how a command ends. What holds of all commands is told by `teg_commands`. Whole calls try
+//! it, in `worked_examples`.
 #![tactic(auto)]
 
 mod bound;
