@@ -15,8 +15,15 @@ use teg_check::LiveNet;
 use teg_due::{Due, DueRow};
 use teg_net::OutOfMemory;
 
-/// The dates of the first `count` firings of each transition of a live net: those that happened, as
-/// the run tells them, and the earliest ones of the others from now on (chapter 2).
+/// The dates of the first `count` firings of each transition of a live net, in the user's unit: the
+/// least ones by which each place holds its tokens as long as it has to, no firing of the run comes
+/// before it happened, and no other one before now, nor at an input before its list says (chapter
+/// 2). A firing that happened sooner than the holding times allow is told at the date that they
+/// allow.
+///
+/// The dates of the run and now are at most 10^18. `OutOfMemory` comes only where no memory is
+/// found. A row takes time of order n + p for n transitions and p places, and for each transition a
+/// walk along the run.
 #[tactic(auto, using(crate::proofs::Bounds::keeps_bounds))]
 pub fn outlook(
     alloc: Global,
@@ -55,7 +62,9 @@ fn is_missed(rows: &Rows, row: DueRow) -> bool
     rows.date(row.transition, number).later(due) != due
 }
 
-/// The due rows that are missed by the dates of these rows, as far as they go.
+/// The due rows, in their order, whose firing these rows tell at a later date than it is due; a
+/// firing past their last number is not told (chapter 5). `AllocError` comes only where no memory
+/// is found. It takes a step for each due row.
 pub fn missed(
     alloc: Global,
     held: &LiveNet,
