@@ -1,5 +1,5 @@
 -- What a scheduler is told, in the words of the library (chapters 2 and 5).
-use Rattle.std.specs.Prelude.{ℕ, false, if◌then◌else◌, ◌<◌, ◌≡◌, ◌≢◌, List, Option, Some, None, Ok, Err, All, IsSomeAnd, slice_get, ⊤}
+use Rattle.std.specs.Prelude.{ℕ, false, if◌then◌else◌, ◌<◌, ◌≡◌, ◌≢◌, List, Ok, Err, All, IsSomeAnd, slice_get, ⊤}
 use Rattle.teg_net.specs.declared.entries.PlaceId.{PlaceId}
 use Rattle.teg_net.specs.Changes.{with_hold}
 use Rattle.teg_net.specs.Limits.{greatest_hold}
