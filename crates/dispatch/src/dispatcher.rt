@@ -1,18 +1,20 @@
 //! A live net with what happened in it.
 ghost use Rattle.std.specs.Prelude.{◌≡◌, ◌≤◌, ◌^◌, ◌++◌, ◌∷◌, [], IfErr, IfOk, length};
 ghost use Rattle.run_laws.specs.Runs.{IsLegalAfter};
+ghost use Rattle.std.specs.List.{filter};
 ghost use Rattle.teg_net.specs.Limits.{most_rows};
 ghost use Rattle.date_rows.specs.KeptRows.{AreLeastRows};
 ghost use Rattle.teg_due.specs.RowRules.{IsDueOf};
 ghost use Rattle.state_laws.specs.NetsLeft.{system_after};
-ghost use Rattle.dispatch.specs.Outlooks.{AreMissed};
+ghost use Rattle.teg_replay.specs.Firings.{IsFiringOf};
+ghost use Rattle.dispatch.specs.Outlooks.{IsWhyNotFired, is_missed};
 
 use date_rows::Rows;
 use run_laws::Fired;
 use std::alloc::{AllocError, Global};
 use std::marker::Model;
 use teg_check::LiveNet;
-use teg_due::{Due, DueRow, LogRow};
+use teg_due::{Due, DueRow};
 use teg_net::{OutOfMemory, TransitionId};
 use teg_outside::Firing;
 use teg_replay::{FireRefusal, Game};
@@ -59,8 +61,8 @@ impl Dispatcher {
     }
 
     /// Takes a firing of the transition at this date down, in the user's unit, exactly where it may
-    /// follow what happened (chapter 2). The firing that is told has its number and the tokens that
-    /// it took.
+    /// follow what happened (chapter 2). It tells its number, the date from which it could come, and
+    /// the tokens that then stand in the net.
     ///
     /// `NoTransition` comes where the net has no such transition, `Limit` where the date is past
     /// 10^18 or 2^40 firings are taken down, and else `Refused` with the first way in which the
@@ -79,6 +81,11 @@ impl Dispatcher {
         ensures appended { IfOk result
             (λ _. self.new.run
             ≡ self.old.run ++ (record { transition = transition; date = date }) ∷ []) }
+        ensures told { IfOk result
+            (λ firing. IsFiringOf self.old.net self.old.run
+            (record { transition = transition; date = date }) firing) }
+        ensures refused { IfErr result
+            (λ why. IsWhyNotFired self.old (record { transition = transition; date = date }) why) }
         ensures unchanged { IfErr result (λ _. self.new ≡ self.old) }
     {
         if !self.held.net().contains_transition(transition) {
@@ -91,17 +98,6 @@ impl Dispatcher {
             Ok(firing) => Ok(firing),
             Err(refusal) => Err(NotFired::Refused { refusal }),
         }
-    }
-
-    /// Takes the rows of a log down, one after another, up to the first that is not taken, whose
-    /// refusal is that of [`Dispatcher::fire`].
-    pub fn fire_all(&mut self, alloc: Global, log: &[LogRow]) -> Result<(), NotFired>
-        ensures { self.new.net ≡ self.old.net }
-    {
-        for row in log {
-            self.fire(alloc, row.transition, row.date)?;
-        }
-        Ok(())
     }
 
     /// What happened, in the order in which it was taken down. It takes no memory.
@@ -127,7 +123,8 @@ impl Dispatcher {
     pub fn missed(&self, alloc: Global, rows: &Rows, due: &Due) -> Result<Vec<DueRow>, AllocError>
         requires width { rows.now.width ≡ length self.now.net.transitions }
         requires due { IsDueOf self.now.net due.now.rows.items }
-        ensures { IfOk result (λ missed. AreMissed rows.now due.now.rows.items missed.items) }
+        ensures { IfOk result (λ missed. missed.items
+            ≡ filter (is_missed rows.now) due.now.rows.items) }
     {
         crate::forecast::missed(alloc, &self.held, rows, due)
     }

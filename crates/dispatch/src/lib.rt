@@ -7,7 +7,7 @@
 //! comes before it did, and no other one before now nor before its input's list (`system_after`);
 //! by `legal_runs_go_on` of `state_laws` they are, past what happened, those of the net that the
 //! run leaves, which `net_after` of `teg_state` makes where one wants to ask it more.
-//! [`Dispatcher::missed`] tells just the due rows that these dates miss (`AreMissed`). The crate
+//! [`Dispatcher::missed`] tells just the due rows that these dates miss (`is_missed`). The crate
 //! stands on `teg_replay` for what happened, on `date_rows` for rows, on `state_laws` and
 //! `run_laws` for what comes after a run, on `teg_due` for due rows, on `teg_check` for live nets,
 //! on `teg_net` and `teg_outside`, and on `dioid` for dates. Its example stands in

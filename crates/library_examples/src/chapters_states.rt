@@ -5,7 +5,7 @@ use run_laws::Fired;
 use std::test::Fail;
 use teg_check::LiveNet;
 use teg_dates::first_dates;
-use teg_due::{read_due, read_log};
+use teg_due::read_due;
 use teg_net::Ratio;
 use teg_reader::read_net;
 use teg_state::live_net_after;
@@ -52,11 +52,13 @@ fn a_net_goes_on_from_now(rt: HostRuntime) -> Result<(), Fail> {
 fn a_late_part_is_seen(rt: HostRuntime) -> Result<(), Fail> {
     let alloc = rt.alloc();
     let net = read_net(alloc, NET)?;
-    let log = read_log(alloc, &net, b"in,0\nwork,2\nin,7\n")?;
     let due = read_due(alloc, &net, b"work,1,2\nwork,2,9\nwork,3,11\nwork,4,14\n")?;
+    let entry = net.find("in").ok_or("no such transition")?;
     let work = net.find("work").ok_or("no such transition")?;
     let mut shop = Dispatcher::new(alloc, LiveNet::new(alloc, net)?)?;
-    shop.fire_all(alloc, &log)?;
+    shop.fire(alloc, entry, 0)?;
+    shop.fire(alloc, work, 2)?;
+    shop.fire(alloc, entry, 7)?;
     let rows = shop.outlook(alloc, 8, 4)?;
     assert!(rt; rows.date(work, 1) == Date::At(2));
     assert!(rt; rows.date(work, 2) == Date::At(9));

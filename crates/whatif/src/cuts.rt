@@ -65,7 +65,7 @@ fn better(best: Option<BestCut>, new: BestCut) -> BestCut
     }
 }
 
-/// The cut of the list with which the net is quickest, the first of several, with the pace that it
+/// A cut of the list with which the net is quickest, with the pace that it
 /// then has; none where the list is empty (chapter 2). The net stays as it is. `OutOfMemory` comes
 /// only where no memory is found. It takes the time of [`pace_with_cut`] for each cut.
 pub fn best_of(alloc: Global, held: &LiveNet, cuts: &[Cut]) -> Result<Option<BestCut>, OutOfMemory>
