@@ -9,7 +9,7 @@ use teg_due::read_due;
 use teg_net::Ratio;
 use teg_reader::read_net;
 use teg_state::live_net_after;
-use whatif::{Cut, best_of, pace_with_tokens};
+use whatif::{Cut, best_of, may_add_tokens, pace_with_tokens};
 
 // A part comes in every 4 units, and a machine works 3 units on it.
 const NET: &[u8] = b"transition = [{name = 'in', role = 'input'}, {name = 'work'}]
@@ -84,15 +84,23 @@ place = [
 fn a_change_is_tried(rt: HostRuntime) -> Result<(), Fail> {
     let alloc = rt.alloc();
     let mut held = LiveNet::new(alloc, read_net(alloc, CARDS)?)?;
-    let mut cuts = Vec::new(alloc);
-    for name in ["ab", "bc", "cc"] {
-        let place = held.net().find_place(name).ok_or("no such place")?;
-        cuts.push(Cut { place, less: 1 })?;
-    }
+    let first = held.net().find_place("ab").ok_or("no such place")?;
+    let second = held.net().find_place("bc").ok_or("no such place")?;
+    let cuts = [
+        Cut {
+            place: first,
+            less: 1,
+        },
+        Cut {
+            place: second,
+            less: 1,
+        },
+    ];
     let best = best_of(alloc, &held, &cuts)?.ok_or("no cut")?;
-    assert!(rt; best.cut == cuts[1]);
+    assert!(rt; best.cut.place == second);
     assert!(rt; best.pace == Some(Ratio::of(5, 1)));
     let cards = held.net().find_place("cb").ok_or("no such place")?;
+    assert!(rt; may_add_tokens(&held, cards, 1));
     let with_a_card = pace_with_tokens(alloc, &held, cards, 1)?;
     assert!(rt; with_a_card == Some(Ratio::of(5, 1)));
     let before = held.copy(alloc)?;

@@ -1,5 +1,5 @@
 //! The pace of a net with one number of a place changed.
-ghost use Rattle.std.specs.Prelude.{◌<◌, ◌≤◌, ◌+◌, length, IfOk};
+ghost use Rattle.std.specs.Prelude.{◌<◌, ◌≤◌, ◌+◌, length, Decides, IfOk};
 ghost use Rattle.teg_net.specs.Changes.{MayHaveTokens, with_hold, with_tokens};
 ghost use Rattle.teg_net.specs.Circuits.{place_at};
 ghost use Rattle.teg_net.specs.Limits.{greatest_hold};
@@ -43,6 +43,20 @@ pub fn bottleneck_with_hold(
     let mut trial = held.copy(alloc)?;
     trial.set_hold(place, hold);
     bottleneck(alloc, trial.net(), trial.live())
+}
+
+/// Whether the place may have so many more tokens, as `LiveNet::add_tokens` and
+/// [`pace_with_tokens`] ask: at most 1,000 in all, and as many as it has ready dates where it has
+/// some (chapter 2). It takes no memory.
+pub fn may_add_tokens(held: &LiveNet, place: PlaceId, more: u32) -> bool
+    requires { place.index < length held.now.places }
+    ensures { Decides result (MayHaveTokens (place_at held.now place)
+        ((place_at held.now place).tokens + more)) }
+{
+    let place = held.net().place(place);
+    let tokens = u64::from(place.tokens) + u64::from(more);
+    let ready = place.ready.as_slice().len() as u64;
+    tokens <= 1_000 && (ready == 0 || ready == tokens)
 }
 
 /// The pace of the net with so many more tokens in the place, to at most 1,000, and as many as it
