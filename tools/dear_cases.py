@@ -149,6 +149,18 @@ def hub(inputs, ends, tokens):
     return Net(inputs + ["h"] + ends, places, inputs, ends)
 
 
+def card_lines(cards, machines, back):
+    """A line of machines of hold 1 for each number of cards, which come back from the last machine to the first in `back`
+    units. A round takes longer than the cards of a line take through its first machine, so a line goes on by its cards."""
+    places = []
+    for line, own in enumerate(cards):
+        names = [f"s{line}_{j}" for j in range(machines)]
+        places += [(f"m{name}", name, name, 1, 1) for name in names]
+        places += [(f"f{start}", start, end, 1, 0) for start, end in zip(names, names[1:])]
+        places.append((f"c{line}", names[-1], names[0], back, own))
+    return Net([f"s{line}_{j}" for line in range(len(cards)) for j in range(machines)], places)
+
+
 def braid(count, last):
     """A ring of `count` places of hold 1, the last with one token, and beside each nine of hold 0; so many tokens are
     in those beside the last one."""
@@ -326,6 +338,23 @@ def own_places_text(net, tokens):
     return "".join(lines)
 
 
+def card_date(own, machines, back, machine, number):
+    """A date of a line of `card_lines`: so many cards a round, 1 apart, and each machine 1 behind the one before."""
+    rounds, card = divmod(number - 1, own)
+    return rounds * (machines - 1 + back) + card + machine
+
+
+def card_lines_text(cards, machines, back):
+    """The text of `dates` for such lines: they go on by a number that all numbers of cards divide."""
+    period = math.lcm(*cards)
+    lines = [f"settled after 0 period {period}\n"]
+    for line, own in enumerate(cards):
+        for j in range(machines):
+            dates = row(card_date(own, machines, back, j, k) for k in range(1, period + 1))
+            lines.append(f"transition s{line}_{j} {dates} step {period // own * (machines - 1 + back)}\n")
+    return "".join(lines)
+
+
 def plan_text(count, numbers):
     """The text of `jit` for a line of machines whose last one is due 1,000 apart: each other one waits for the next."""
     last, date = count - 1, 10**10
@@ -450,6 +479,7 @@ def settled_cases():
     yield "dates: own places of 97 and 89 tokens", ["dates", "net"], {"net": short.text()}, DONE, partial(own_places_text, short, [97, 89])
     yield ("date: own places of 97 and 89 tokens", ["date", "net", "s1", str(10**18)], {"net": short.text()}, DONE,
            f"date s1 {10**18} {(10**18 - 1) // 89}\n")
+    yield from card_cases()
     late = overtaken(0, 19_990)
     yield "dates: overtaken after 19,990", ["dates", "net"], {"net": late.text()}, DONE, partial(overtaken_text, late, 19_990)
     yield "date: overtaken after 19,990", ["date", "net", "c", "1000000"], {"net": late.text()}, DONE, "date c 1000000 10999989\n"
@@ -465,6 +495,20 @@ def settled_cases():
     late = two_rates(slow, room, ahead)
     after = (slow + 1) * room - ahead
     yield f"bound: settled after {after:,}", ["bound", "net"], {"net": late.text()}, DONE, bound_text(late, slow + 1, 1, after, 1)
+
+
+def card_cases():
+    """Lines of a few cards each, without a common divisor: many periods hold for some of the lines, and few for all."""
+    few, more, most = (5, 7, 8, 9), (5, 7, 8, 9, 11), (5, 7, 8, 9, 11, 13)
+    back, far = 90, 10**9
+    yield ("dates: 4 lines of 5 to 9 cards", ["dates", "net"], {"net": card_lines(few, 10, back).text()}, DONE,
+           partial(card_lines_text, few, 10, back))
+    yield "dates: 6 lines of 5 to 13 cards", ["dates", "net"], {"net": card_lines(most, 60, back).text()}, TOO_LONG, TOO_LONG_TEXT.format(20_000)
+    yield ("dates: 6 lines of 5 to 13 cards, limit 200000", ["dates", "net", "--limit", "200000"],
+           {"net": card_lines(most, 10, back).text()}, TOO_LONG, TOO_LONG_TEXT.format(200_000))
+    for cards, machines in (more, 10), (most, 1):
+        yield (f"date: {len(cards)} lines of 5 to {cards[-1]} cards, without a limit", ["date", "net", "s0_0", str(far), "--limit", "none"],
+               {"net": card_lines(cards, machines, back).text()}, DONE, f"date s0_0 {far} {card_date(5, machines, back, 0, far)}\n")
 
 
 def late_ring(count, limited=True):

@@ -1,6 +1,6 @@
 #!/usr/bin/env python3
-"""Tests of check_definitions.py, check_edits.py, check_signatures.py, house_order.py, make_pages.py, page_links.py and of
-what try_edits.py makes of rt's words, over a small repository that is made for them; of what run_guide.py finds in a page;
+"""Tests of check_definitions.py, check_edits.py, check_signatures.py, house_order.py, make_pages.py, page_links.py,
+show_call.py and of what try_edits.py makes of rt's words, over a small repository that is made for them; of what run_guide.py finds in a page;
 and of common.py against the sources.
 
     tools/test_pages.py
@@ -23,6 +23,7 @@ import house_order
 import make_pages
 import page_links
 import run_guide
+import show_call
 import try_edits
 
 FILES = {
@@ -98,7 +99,7 @@ class Pages(unittest.TestCase):
         self.top = Path(room.name)
         for name, text in FILES.items():
             self.write(name, text)
-        for module in (check_definitions, check_edits, check_signatures, make_pages, try_edits):
+        for module in (check_definitions, check_edits, check_signatures, make_pages, show_call, try_edits):
             self.addCleanup(setattr, module, "TOP", module.TOP)
             module.TOP = self.top
 
@@ -275,6 +276,44 @@ IsKind k = IsFew k.part
         self.assertEqual(list(check_signatures.faults_of(text, "")), [])
         self.write("crates.txt", FILES["crates.txt"].replace("high: low", "high:"))
         self.assertEqual(list(check_signatures.faults_of(text, "")), ["high hands on no count"])
+
+    def test_a_call_is_shown_with_what_its_clauses_name(self):
+        self.write("crates/high/src/lib.rt", "pub use low::{counts_are_few, count};\n")
+        text, found = printed(show_call.show, "high", None, "count")
+        self.assertTrue(found)
+        call, few, uses = text.split("\n\n")
+        self.assertEqual(call.splitlines()[0], "// crates/low/src/count.rt:4")
+        self.assertEqual(call.splitlines()[2:], ["pub fn count(things: &[u8]) -> usize", "    ensures few { IsFew result }"])
+        self.assertEqual(few, "-- crates/low/specs/Few.antt:9\n-- a number that is few\nabbrev pub IsFew : ℕ → Type 0\nIsFew n = n < low_limit")
+        self.assertEqual(uses, "use high::count;\nghost use Rattle.low.specs.Few.{IsFew};\n")
+
+    def test_a_call_on_a_value_is_shown_with_its_type(self):
+        self.write("crates/low/src/bags.rt", """ghost use Rattle.low.specs.Few.{IsFew};
+
+impl Other {
+    pub fn size(&self) -> u8
+    {
+        0
+    }
+}
+
+impl Bag {
+    /// How many.
+    pub fn size(&self) -> u8
+        ensures { IsFew result }
+    {
+        self.size
+    }
+
+    fn own(&self) {}
+}
+""")
+        text, found = printed(show_call.show, "low", "Bag", "size")
+        self.assertTrue(found)
+        self.assertTrue(text.startswith("// crates/low/src/bags.rt:12\n/// How many.\npub fn size(&self) -> u8\n    ensures { IsFew result }\n\n"))
+        self.assertTrue(text.endswith("\nuse low::Bag;\nghost use Rattle.low.specs.Few.{IsFew};\n"))
+        self.assertEqual(printed(show_call.show, "low", "Bag", "own"), ("", False))
+        self.assertEqual(printed(show_call.show, "low", None, "size"), ("", False))
 
     def test_code_is_shown_as_it_stands(self):
         self.write("docs/MORE.md", "<!-- code low/src/kept.rt FEW kept -->\n<!-- end -->\n")

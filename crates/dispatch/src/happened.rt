@@ -7,10 +7,13 @@ use dioid::Date;
 use run_laws::Fired;
 use teg_net::{Net, PlaceId, TransitionId};
 
-/// The firings so far, and the date that it is now.
+/// The firings so far and the date that it is now, in the user's unit, as a source of the releases
+/// from now on: those of `system_after`.
 #[derive(Clone, Copy, Debug, Drop)]
 pub struct Happened<'a> {
+    /// What happened, in its order.
     pub run: &'a [Fired],
+    /// No firing that has still to come is released before.
     pub now: u64,
 }
 

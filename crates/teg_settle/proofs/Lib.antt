@@ -2,6 +2,7 @@ pub mod Releasing
 pub mod Listing
 pub mod Leasts
 pub mod Tested
+mod Striking
 pub mod Copying
 pub mod Owning
 pub mod Limiting

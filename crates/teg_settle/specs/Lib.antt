@@ -4,6 +4,8 @@ pub mod ShownForms
 pub mod LimitRefusals
 pub mod InitialReleases
 pub mod ComparedRows
+pub mod Prefixes
+pub mod Struck
 pub mod Asked
 pub mod Witnesses
 pub mod ShortestForms

@@ -37,7 +37,7 @@ fn found(alloc: Global, net: &Net, live: &Live, releases: &Releases) -> Result<F
     let mut stage = most + 8;
     'search: loop {
         rows = grow(&asked, &order, rows, stage)?;
-        match seen(&asked, &rows) {
+        match seen(alloc, &asked, &rows)? {
             Some(form) => return Ok(Found { rows, form }),
             None => {}
         }

@@ -60,6 +60,7 @@ mod laws;
 mod limited;
 mod lists;
 mod one_date;
+mod prefixes;
 mod reached;
 mod refusals;
 mod releases;
@@ -67,6 +68,7 @@ mod search;
 mod settled;
 mod shown;
 mod step;
+mod struck;
 mod window;
 mod witness;
 

@@ -53,9 +53,10 @@ fn found_within(alloc: Global, asked: &Asked<'_>, limit: u32) -> Result<Found, S
 /// where the settling length exceeds it. `OutOfMemory` comes only where no memory is found. For a
 /// settling length l, or a limit l below it, it makes rows of order l for all transitions, each in
 /// time of order `n + p` for n transitions and p places, and keeps them, eight bytes a date where
-/// dates are below 2^63 - 1. Of order l periods are tried, and each takes time of at most the order
-/// of all these dates and of those of the input lists: less, where what refuted one before refutes
-/// it.
+/// dates are below 2^63 - 1. Of order l periods are looked at, in five bytes a row: the first
+/// transition whose dates do not go on in one strikes off all in which they do not, at once in time
+/// of order l. What refuted one of those that are left mostly refutes the next, and each other one
+/// takes time of at most the order of all these dates and of those of the input lists.
 pub fn settle_within(
     alloc: Global,
     net: &Net,

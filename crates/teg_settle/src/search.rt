@@ -7,9 +7,10 @@ ghost use Rattle.teg_settle.specs.ComparedRows.{AreRowsOf, IsReady, IsRefuted, I
 
 use crate::asked::Asked;
 use crate::releases::Repetition;
-use crate::witness::{PeriodTest, Witnesses};
+use crate::struck::strike_by;
+use crate::witness::{PeriodTest, Witness, Witnesses};
 use date_rows::{PlaceOrder, Rows};
-use std::alloc::Global;
+use std::alloc::{AllocError, Global};
 use teg_net::OutOfMemory;
 
 // Where more rows than this show no form, no further ones are made: the dates of so many fill more
@@ -30,14 +31,13 @@ pub(crate) struct Searched {
     pub(crate) form: Option<Repetition>,
 }
 
-// The number from which this period is seen, or the witnesses with what refutes it. Those that
-// there are come first, then another firing of their transitions, and then the tests.
+// The number from which this period is seen, or what refutes it, if that is none of the witnesses.
 fn tried(
     asked: &Asked<'_>,
     rows: &Rows,
     period: u64,
     witnesses: Witnesses,
-) -> Result<u64, Witnesses>
+) -> Result<u64, Option<Witness>>
     requires { IsTrial asked.now.net.now asked.now.releases.now rows.now asked.now.most period }
     ensures { MatchResult result (IsSeenFrom asked.now.net.now asked.now.releases.now rows.now
         asked.now.most period) (λ _. IsRefuted asked.now.net.now asked.now.releases.now
@@ -45,19 +45,15 @@ fn tried(
 {
     let latest = rows.count() - asked.most - period - period;
     let test = PeriodTest::new(asked.net, asked.releases, rows, period, latest);
-    match witnesses.against(&test) {
-        Some(more) => return Err(more),
-        None => {}
+    if witnesses.refute(&test) {
+        return Err(None);
     }
-    match test.tested() {
-        Ok(after) => Ok(after),
-        Err(witness) => Err(witnesses.joined(witness)),
-    }
+    test.tested()
 }
 
 // The least number and the least period by which the dates go on, if the rows are enough to see
-// them.
-pub(crate) fn seen(asked: &Asked<'_>, rows: &Rows) -> Option<Repetition>
+// them: the periods are tried one after another, in no memory.
+pub(crate) fn seen_one_by_one(asked: &Asked<'_>, rows: &Rows) -> Option<Repetition>
     requires ready { IsReady asked.now.net.now asked.now.releases.now asked.now.most }
     requires rows { AreRowsOf asked.now.net.now asked.now.releases.now rows.now }
     ensures { MatchOption result ((period : ℕ) → IsRefuted asked.now.net.now asked.now.releases.now
@@ -72,12 +68,48 @@ pub(crate) fn seen(asked: &Asked<'_>, rows: &Rows) -> Option<Repetition>
     for period in 1..(count - asked.most) / 2 + 1 {
         match tried(asked, rows, period, witnesses) {
             Ok(after) => return Some(Repetition { after, period }),
-            Err(more) => {
-                witnesses = more;
+            Err(witness) => {
+                witnesses = witnesses.joined(witness);
             }
         }
     }
     None
+}
+
+// The same, in a flag for each period: the first transition whose dates do not go on in a period
+// strikes off all in which they do not. So few periods are tried, of those in which dates go on.
+pub(crate) fn seen(
+    alloc: Global,
+    asked: &Asked<'_>,
+    rows: &Rows,
+) -> Result<Option<Repetition>, AllocError>
+    requires ready { IsReady asked.now.net.now asked.now.releases.now asked.now.most }
+    requires rows { AreRowsOf asked.now.net.now asked.now.releases.now rows.now }
+    ensures { IfOk result (λ form. MatchOption form ((period : ℕ)
+        → IsRefuted asked.now.net.now asked.now.releases.now asked.now.most rows.now.count period)
+        (IsSeen asked.now.net.now asked.now.releases.now rows.now)) }
+{
+    let count = rows.count();
+    if count < asked.most {
+        return Ok(None);
+    }
+    let periods = (count - asked.most) as usize / 2 + 1;
+    let mut struck = vec![in alloc; false; periods]?;
+    let mut witnesses = Witnesses::nothing();
+    for index in 1..periods {
+        if struck[index] {
+            continue;
+        }
+        let period = index as u64;
+        match tried(asked, rows, period, witnesses) {
+            Ok(after) => return Ok(Some(Repetition { after, period })),
+            Err(witness) => {
+                strike_by(alloc, asked, rows, witness, &mut struck)?;
+                witnesses = witnesses.joined(witness);
+            }
+        }
+    }
+    Ok(None)
 }
 
 // As many rows as asked, from fewer on.
@@ -117,7 +149,7 @@ pub(crate) fn search(alloc: Global, asked: &Asked<'_>, last: u64) -> Result<Sear
     let mut stage = (asked.most + 8).min(last);
     while rows.count() < last {
         rows = grow(asked, &order, rows, stage)?;
-        match seen(asked, &rows) {
+        match seen(alloc, asked, &rows)? {
             Some(form) => {
                 let form = Some(form);
                 return Ok(Searched { rows, form });

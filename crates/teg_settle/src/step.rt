@@ -8,7 +8,7 @@ ghost use Rattle.teg_settle.specs.ComparedRows.{most_window};
 
 use crate::asked::{Asked, ready_tokens};
 use crate::releases::{Releases, Repetition};
-use crate::search::seen;
+use crate::search::seen_one_by_one;
 use date_rows::Rows;
 use periodic_laws::least_datings_repeat;
 use std::alloc::Global;
@@ -28,8 +28,10 @@ pub fn own_releases(alloc: Global, net: &Net) -> Result<Releases, OutOfMemory>
 /// least dating show them: so many rows as two periods past the number and as a place may have
 /// tokens, 1,000, are enough, and the lists of the net tell a number of rows (`showing_rows`) that
 /// always show a form. There are at most 10^14 rows. It is the step of [`settle`](crate::settle),
-/// which makes rows until this finds a form. It takes no memory, and the time that the periods that
-/// are tried take, as in [`settle_within`](crate::settle_within).
+/// which makes rows until this finds a form. It takes no memory, so it strikes off no periods as
+/// [`settle_within`](crate::settle_within) does: for each of order `l` periods of l rows it takes
+/// time of at most the order of all these dates and of those of the input lists, and mostly that of
+/// what refuted one of the last two.
 pub fn shown_form(net: &Net, _live: &Live, releases: &Releases, rows: &Rows) -> Option<Repetition>
     requires stands { IsRanking net.now _live.now }
     requires releases { AreOwnReleases net.now releases.now }
@@ -49,5 +51,5 @@ pub fn shown_form(net: &Net, _live: &Live, releases: &Releases, rows: &Rows) -> 
         releases,
         most,
     };
-    seen(&asked, rows)
+    seen_one_by_one(&asked, rows)
 }

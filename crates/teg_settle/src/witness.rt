@@ -1,6 +1,6 @@
 //! The tests of a period on rows of dates. What refuted the last periods that were tried mostly
-//! refutes the next one too, so it is tested first.
-ghost use Rattle.std.specs.Prelude.{◌≡◌, ◌+◌, ◌<◌, ◌≤◌, All, Decides, IfSome, IsTrue, MatchOption, MatchResult, length};
+//! refutes the next one too, so it is looked at first.
+ghost use Rattle.std.specs.Prelude.{◌≡◌, ◌+◌, ◌<◌, ◌≤◌, All, Decides, IsTrue, MatchOption, MatchResult, length};
 ghost use Rattle.teg_settle.specs.ComparedRows.{AreReleasedAlike, GoesOnBy, IsMovedAt, IsMovedPast, IsRisingPlace};
 ghost use Rattle.teg_settle.specs.InitialReleases.{release_by};
 ghost use Rattle.teg_settle.specs.Witnesses.{IsFailed, IsPassed, IsTestable, tested_period};
@@ -30,14 +30,11 @@ pub(crate) struct Witnesses {
     before: Option<Witness>,
 }
 
-// The pairs of rows that are compared before the input lists are.
+// The pairs of rows that are compared before all else.
 const FIRST_PAIRS: u64 = 16;
 
 // The greatest number of a window.
 const MOST_WINDOW: u64 = 100_000_000_000_000;
-
-// How many numbers of a transition are looked at for another firing that refutes a period.
-const MOST_LOOKS: u64 = 4_096;
 
 // A period that is tested on rows of dates, past a number.
 #[derive(Drop)]
@@ -180,60 +177,17 @@ impl<'a> PeriodTest<'a> {
         }
     }
 
-    // The first number past that of the test, of those that are looked at, whose date does not move
-    // by the transition's step: an early one stays in the rows for the most periods.
-    fn first_number_apart(&self, transition: TransitionId) -> Option<u64> {
-        let end = (self.rows.count() - self.period).min(self.after + MOST_LOOKS);
-        for number in self.after + 1..end + 1 {
-            if self.is_firing_apart(transition, number) {
-                return Some(number);
-            }
-        }
-        None
-    }
-
-    // A number whose date does not move by the transition's step: the one before `number`, which a
-    // period later by one leads to the same date, or the first of those that are looked at.
-    fn number_apart(&self, transition: TransitionId, number: u64) -> Option<u64> {
-        let before = number.saturating_sub(1);
-        if self.is_firing_apart(transition, before) {
-            return Some(before);
-        }
-        self.first_number_apart(transition)
-    }
-
-    // Another firing of the transition that the witness names, if one refutes the period.
-    fn other_number(&self, witness: Option<Witness>) -> Option<Witness> {
-        match witness {
-            Some(Witness::Firing(transition, number)) => {
-                let number = self.number_apart(transition, number)?;
-                Some(Witness::Firing(transition, number))
-            }
-            _ => None,
-        }
-    }
-
-    // The first transition whose date of this number does not move by its step.
-    fn first_apart(&self, number: u64) -> Option<TransitionId> {
+    // The first firing of this number whose date does not move by its transition's step.
+    fn firing_apart(&self, number: u64) -> Option<Witness> {
         for index in 0..self.net.transitions().len() {
             let id = TransitionId {
                 index: index as u32,
             };
             if self.is_firing_apart(id, number) {
-                return Some(id);
+                return Some(Witness::Firing(id, number));
             }
         }
         None
-    }
-
-    // An early firing that is apart, of the first transition that has one of this number.
-    fn firing_apart(&self, number: u64) -> Option<Witness> {
-        let transition = self.first_apart(number)?;
-        let witness = Some(Witness::Firing(transition, number));
-        match self.other_number(witness) {
-            Some(early) => Some(early),
-            None => witness,
-        }
     }
 
     // The first place along which the step falls.
@@ -292,19 +246,19 @@ impl<'a> PeriodTest<'a> {
     }
 
     // The least number past which the dates of the rows move by their steps, where the period passes
-    // all tests; or what refutes it. What fails soonest is tested first: a few pairs of rows, then
-    // the lists, then all other pairs.
+    // all tests; or what refutes it. A few pairs of rows are compared first: where a firing refutes
+    // the period, it tells of most others too. All other pairs are compared last.
     pub(crate) fn tested(&self) -> Result<u64, Option<Witness>>
         ensures { MatchResult result (IsPassed self.now) (λ _. IsFailed self.now) }
     {
-        match self.first_fall() {
-            Some(place) => return Err(Some(Witness::Fall(place))),
-            None => {}
-        }
         let near = self.after.max((self.rows.count() - self.period).saturating_sub(FIRST_PAIRS));
         let first = self.moved_past(near);
         if first > near {
             return Err(self.firing_apart(first));
+        }
+        match self.first_fall() {
+            Some(place) => return Err(Some(Witness::Fall(place))),
+            None => {}
         }
         match self.release_apart() {
             Some(witness) => return Err(Some(witness)),
@@ -338,27 +292,10 @@ impl Witnesses {
         }
     }
 
-    // Another firing of a transition that one of them names, if one refutes the period.
-    fn other(self, test: &PeriodTest<'_>) -> Option<Witness> {
-        match test.other_number(self.last) {
-            Some(witness) => Some(witness),
-            None => test.other_number(self.before),
-        }
-    }
-
-    // These, if one of them refutes this period; or with another firing of a transition that one of
-    // them names, if that does.
-    pub(crate) fn against(self, test: &PeriodTest<'_>) -> Option<Witnesses>
-        ensures { IfSome result (λ _. IsFailed test.now) }
+    // Whether one of them refutes this period.
+    pub(crate) fn refute(self, test: &PeriodTest<'_>) -> bool
+        ensures { IsTrue result → IsFailed test.now }
     {
-        if test.is_refuted_by(self.last) || test.is_refuted_by(self.before) {
-            return Some(self);
-        }
-        let other = self.other(test);
-        if test.is_refuted_by(other) {
-            Some(self.joined(other))
-        } else {
-            None
-        }
+        test.is_refuted_by(self.last) || test.is_refuted_by(self.before)
     }
 }
