@@ -1,4 +1,5 @@
 pub mod Witnesses
 pub mod Liveness
+pub mod ShownCycles
 pub mod ShownSizes
 pub mod ShownWalks

@@ -2,20 +2,21 @@
 //!
 //! | Answer | What is read | Call |
 //! |---|---|---|
-//! | `check`: live | the counts; ranks are searched for | [`shows_live`] |
+//! | each: the net is live | ranks are searched for | [`is_seen_live`] |
+//! | `check`: live | the counts | [`shows_live`] |
 //! | `check`: refused | the circuit | [`shows_deadlock`] |
 //! | `cycle` | the circuits and potentials of the parts | [`shown_pace`] |
 //! | `size` | the circuit; potentials are searched for | [`shown_size`] |
 //! | `jit`: a line | the steps of the lines that it leads to | [`shown_latest`] |
 //! | `jit`: late | the walk | [`shown_late`] |
 //!
-//! Each call reads a text without a promise, lets a checker look at what was read, prints the line
-//! anew and compares. So what it tells rests on the checker, on its law and on the words of the
-//! line, and neither on the parser nor on whatever found the answer. Clauses say what is so where
-//! it says yes or tells something; where it does not, they say nothing. Texts that tell dates for
+//! Each call reads a text without a promise, lets a checker look at what was read, prints the text
+//! anew, of `jit` a line, and compares. So what it tells rests on the checker, on its law and on the
+//! words of the lines, and neither on the parser nor on whatever found the answer. Clauses say what
+//! is so where it says yes or tells something; where it does not, they say nothing. Texts that tell dates for
 //! ever, all latest dates, or delays that stay, are those of `dating_check`.
 //!
-//! The crate stands on `teg_net` for nets and walks, on `teg_text` for words, on `teg_due` for rows
+//! The crate stands on `teg_net` for nets and walks, on `teg_text` and `teg_lines` for texts, on `teg_due` for rows
 //! that are due, on `teg_certificates` for checkers, and on `latest_laws` for what walks show; no
 //! crate of the program's search is below it. Its examples stand in `library_examples`.
 #![tactic(auto)]
@@ -37,7 +38,7 @@ pub use beginnings::begins_with;
 pub use deadlock::shows_deadlock;
 pub use late::{ShownLate, shown_late};
 pub use latest::{ShownLatest, shown_latest};
-pub use live::shows_live;
+pub use live::{is_seen_live, shows_live};
 pub use names::places_named;
 pub use pace::shown_pace;
 pub use sizes::{ShownSize, shown_size};

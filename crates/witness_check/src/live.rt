@@ -42,17 +42,25 @@ fn told(alloc: Global, transitions: usize, places: usize) -> Result<String, Allo
     format!(in alloc; "live\ntransitions {transitions}\nplaces {places}\n")
 }
 
+/// Whether the net is seen to be live (chapter 2): ranks are found that rise along each place
+/// without tokens. A no says nothing. It takes memory for the ranks, and time of the order
+/// transitions times places. `OutOfMemory` comes only where no memory is found.
+pub fn is_seen_live(alloc: Global, net: &Net) -> Result<bool, OutOfMemory>
+    ensures { IfOk result (λ yes. IsTrue yes → IsLive net.now) }
+{
+    rising_ranks_show_live();
+    let ranks = ranks_of(alloc, net)?;
+    Ok(is_ranking(net, &ranks))
+}
+
 /// Whether the text is seen to be that of `teg check` for a live net with so many transitions and
-/// places, and the net to be live (chapter 2): ranks are found that rise along each place without
-/// tokens. A no says nothing. It takes time of the order transitions times places. `OutOfMemory`
-/// comes only where no memory is found.
+/// places, and the net to be live ([`is_seen_live`]; chapter 2). A no says nothing. It takes time of
+/// the order transitions times places. `OutOfMemory` comes only where no memory is found.
 pub fn shows_live(alloc: Global, net: &Net, text: &str) -> Result<bool, OutOfMemory>
     ensures told { IfOk result (λ yes. IsTrue yes → TellsLive net.now text.now) }
     ensures live { IfOk result (λ yes. IsTrue yes → IsLive net.now) }
 {
-    rising_ranks_show_live();
-    let ranks = ranks_of(alloc, net)?;
-    if !is_ranking(net, &ranks) {
+    if !is_seen_live(alloc, net)? {
         return Ok(false);
     }
     let lines = told(alloc, net.transitions().len(), net.places().len())?;

@@ -1,43 +1,53 @@
 //! The witness of `teg cycle`: a circuit and potentials of each part.
-ghost use Rattle.std.specs.Prelude.{◌≡◌, ◌++◌, [], IfOk, IfSome, string_bytes};
-ghost use Rattle.teg_net.specs.GreatestRatios.{IsAnyPlace, IsGreatestRatio};
-ghost use Rattle.teg_text.specs.Lines.{line_then};
-ghost use Rattle.witness_check.specs.Witnesses.{BeginsWithPace, pace_words};
+ghost use Rattle.std.specs.Prelude.{◌≡◌, IfOk, IfSome, IsTrue, Some};
+ghost use Rattle.teg_net.specs.Circuits.{IsLive};
+ghost use Rattle.teg_net.specs.Certificates.{IsCertificate};
+ghost use Rattle.teg_certificates.specs.BestRatios.{best_ratio_of};
+ghost use Rattle.teg_text.specs.Lines.{written};
+ghost use Rattle.teg_lines.specs.CycleLines.{cycle_lines};
+ghost use Rattle.teg_lines.specs.CycleMeanings.{cycle_lists};
+ghost use Rattle.witness_check.specs.ShownCycles.{IsShownPace};
 
-use crate::beginnings::begins_with;
+use crate::live::is_seen_live;
 use crate::reading::answer_in;
-use std::alloc::{AllocError, Global};
+use std::alloc::Global;
 use teg_certificates::{best_ratio, certificates_tell, check_cycle};
-use teg_net::{Net, OutOfMemory, Ratio};
+use teg_lines::{certificates_can_be_told, cycle_text};
+use teg_net::{CycleAnswer, Net, OutOfMemory, Ratio};
 
-// Appends the line of a cycle time.
-fn push_pace(text: &mut String, ratio: Ratio) -> Result<(), AllocError>
-    ensures { IfOk result (λ _. string_bytes text.new ≡
-        string_bytes text.old ++ line_then (pace_words ratio) []) }
+// Whether the whole text is that of these cycle times.
+fn tells_times(
+    alloc: Global,
+    net: &Net,
+    text: &str,
+    answer: &CycleAnswer,
+    ratio: Ratio,
+) -> Result<bool, OutOfMemory>
+    requires certificate { IsCertificate net.now answer.now }
+    requires best { best_ratio_of answer.now ≡ Some ratio }
+    ensures { IfOk result (λ yes. IsTrue yes
+        → text.now ≡ written (cycle_lines net.now (cycle_lists answer.now))) }
 {
-    let time = ratio.time();
-    let tokens = ratio.tokens();
-    write!(text, "cycle time {time}/{tokens}\n")
-}
-
-// The line of a cycle time.
-fn told(alloc: Global, ratio: Ratio) -> Result<String, AllocError>
-    ensures { IfOk result (λ text. string_bytes text ≡ line_then (pace_words ratio) []) }
-{
-    let mut line = String::new(alloc);
-    push_pace(&mut line, ratio)?;
-    Ok(line)
+    certificates_can_be_told();
+    let lines = cycle_text(alloc, net, answer, None)?;
+    Ok(text.as_bytes() == lines.as_slice())
 }
 
 /// The ratio that the text of `teg cycle` tells in its first line, where the text is seen to show
-/// that it is the greatest over all circuits of the net (chapter 3). Of the ratios of parts it
-/// tells nothing. The net need not be live. `OutOfMemory` comes only where no memory is found.
+/// that it is the greatest over all circuits of the net, and the net to be live (chapter 3). The
+/// whole text is looked at: of each part its ratio is the greatest over the circuits in it, its
+/// circuit has it, and no place of the part exceeds its potentials; or no circuit lies in it. That
+/// the parts are the strong parts of the net, and its potentials the greatest sums from the circuit
+/// on, is not shown. It takes time of the order transitions times places and parts. `OutOfMemory`
+/// comes only where no memory is found.
 pub fn shown_pace(alloc: Global, net: &Net, text: &str) -> Result<Option<Ratio>, OutOfMemory>
-    ensures greatest { IfOk result (λ r. IfSome r (IsGreatestRatio net.now IsAnyPlace)) }
-    ensures told { IfOk result (λ r. IfSome r (BeginsWithPace text.now)) }
+    ensures { IfOk result (λ r. IfSome r (IsShownPace net.now text.now)) }
 {
     net.rules();
     certificates_tell();
+    if !is_seen_live(alloc, net)? {
+        return Ok(None);
+    }
     let Some(answer) = answer_in(alloc, net, text)? else {
         return Ok(None);
     };
@@ -47,10 +57,8 @@ pub fn shown_pace(alloc: Global, net: &Net, text: &str) -> Result<Option<Ratio>,
     let Some(ratio) = best_ratio(&answer) else {
         return Ok(None);
     };
-    let line = told(alloc, ratio)?;
-    if begins_with(text, line.as_str()) {
-        Ok(Some(ratio))
-    } else {
-        Ok(None)
+    if !tells_times(alloc, net, text, &answer, ratio)? {
+        return Ok(None);
     }
+    Ok(Some(ratio))
 }

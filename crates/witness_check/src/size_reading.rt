@@ -1,7 +1,10 @@
 //! The answer that a text of `teg size` tells. Nothing rests on it: what is read is checked.
+ghost use Rattle.std.specs.Prelude.{IfOk, IfSome};
+ghost use Rattle.teg_net.specs.Circuits.{AreInRange};
+
 use crate::names::{places_named, ratio_in};
 use std::alloc::{AllocError, Global};
-use teg_net::{Net, PlaceId, Ratio};
+use teg_net::{Circuit, Net, PlaceId, Ratio};
 
 // A place, a target, how many extra tokens are enough, if some number is, and a circuit.
 #[derive(Drop)]
@@ -9,7 +12,7 @@ pub(crate) struct SizeTold {
     pub(crate) place: PlaceId,
     pub(crate) target: Ratio,
     pub(crate) extra: Option<u64>,
-    pub(crate) circuit: Vec<PlaceId>,
+    pub(crate) circuit: Circuit,
 }
 
 // The place, the target and the number of the first line.
@@ -36,24 +39,24 @@ fn first_in(
     Ok(Some((place, target, extra)))
 }
 
-// The answer that the text tells; none where a line is none of its lines.
-pub(crate) fn size_in(
-    alloc: Global,
-    net: &Net,
-    text: &str,
-) -> Result<Option<SizeTold>, AllocError> {
+// The answer that the text tells; none where a line is none of its lines. The places of the circuit
+// are those of the net.
+pub(crate) fn size_in(alloc: Global, net: &Net, text: &str) -> Result<Option<SizeTold>, AllocError>
+    ensures { IfOk result (λ found. IfSome found (λ told. AreInRange net.now
+        told.circuit.places.items)) }
+{
     let (first, rest) = text.split_once('\n').unwrap_or((text, ""));
     let Some((place, target, extra)) = first_in(alloc, net, first)? else {
         return Ok(None);
     };
     let words = rest.strip_prefix("circuit").unwrap_or("");
-    let Some(circuit) = places_named(alloc, net, words)? else {
+    let Some(places) = places_named(alloc, net, words)? else {
         return Ok(None);
     };
     Ok(Some(SizeTold {
         place,
         target,
         extra,
-        circuit,
+        circuit: Circuit { places },
     }))
 }

@@ -3,7 +3,9 @@ use dating_check::{shown_kept, shown_settled, shown_table};
 use std::alloc::Global;
 use teg_due::{Due, DueRow};
 use teg_net::{Net, OutOfMemory};
-use witness_check::{shown_late, shown_latest, shown_pace, shown_size, shows_deadlock, shows_live};
+use witness_check::{
+    is_seen_live, shown_late, shown_latest, shown_pace, shown_size, shows_deadlock, shows_live,
+};
 
 /// A line of an answer, and whether the answer shows it.
 #[derive(Clone, Copy, Debug)]
@@ -75,7 +77,8 @@ fn line_of<'t>(asked: &Asked, text: &'t str) -> &'t str {
     lines.next().unwrap_or("")
 }
 
-/// The claims of an answer on the net that was asked with these rows and this period. Each has one:
+/// The claims of an answer on the net that was asked with these rows and this period. In a net that
+/// is not seen to be live nothing is shown but a circuit without tokens. Each answer has one claim:
 /// in its first line, or of a timetable in its second, that delays are kept. The table of latest
 /// dates has a further one in each line that tells a date: that the firing may come no later.
 pub fn claims_of<'t>(
@@ -86,6 +89,11 @@ pub fn claims_of<'t>(
 ) -> anyhow::Result<Vec<Claim<'t>>> {
     let mut claims = Vec::new(alloc);
     let line = line_of(asked, text);
+    if !is_seen_live(alloc, net)? {
+        let is_shown = shows_deadlock(alloc, net, text)?;
+        claims.push(Claim { line, is_shown })?;
+        return Ok(claims);
+    }
     let is_shown = is_shown(alloc, net, asked, text)?;
     claims.push(Claim { line, is_shown })?;
     if !line.starts_with("latest inputs for ") {

@@ -6,7 +6,8 @@
 //! timetable the second, and of a table of latest dates also each line that tells a date, behind
 //! `shown` or `not shown`; and ends with status 0 where all are shown, with 1 where one is not, or
 //! where a file is not read, and with 2 where the words are others. What is shown is right by the
-//! contracts of `witness_check` and `dating_check`, whatever printed it, in a live net: of `check`
+//! contracts of `witness_check` and `dating_check`, whatever printed it, and whether the
+//! net is live is asked before all else: of `check`
 //! and `size`, what the line tells; of `cycle`, the pace of the net; of `late`, that no inputs meet
 //! what is due; of `dates`, that its form tells all dates; of the first line of latest dates, that
 //! the table has the latest dates, and of each other one, that its firing may come no later; of
