@@ -7,8 +7,9 @@
 Public are the calls, types and traits that a crate's src/lib.rt exports. Their clauses, the ghost members of
 their traits and impls, and the views of their types name definitions of specs/; these name others. Laws that proofs
 alone need are not definitions. Each definition that is reached so has a comment above it, which says what it says; and
-each name of docs/DEFINITIONS.md is that of one of them, and of one alone. What fails is told. The last line tells how
-many there are, and the exit status is 0 where nothing fails.
+each name of docs/DEFINITIONS.md is that of one of them, and of one alone. Comments of specs/ and proofs/ have words with a low line in
+backquotes alone, as names of code. What fails is told. The last line tells how many there are, and the exit status is 0
+where nothing fails.
 
 With --below it tells instead what one definition rests on, itself first, then what it names, and so on: the
 file and line of each, its name, how many lines it has, and the comment above it; then the structs, enums, traits and
@@ -219,6 +220,15 @@ def public_definitions(specs):
     return roots
 
 
+def bare_names():
+    """The comments of specs/ and proofs/ that have a word with a low line outside backquotes."""
+    for path in [*sources("specs/**/*.antt"), *sources("proofs/**/*.antt")]:
+        for number, line in enumerate(path.read_text().splitlines(), 1):
+            said = re.match(r"\s*--(.*)", line)
+            for word in re.findall(r"\w+_\w+", re.sub("`[^`]*`", "", said[1])) if said else ():
+                yield f"{path.relative_to(TOP)}:{number}: {word} stands in a comment without backquotes"
+
+
 def tell_below(name):
     """Prints what the definitions of this name rest on."""
     specs = Specs()
@@ -249,6 +259,7 @@ def main():
         if count != 1:
             told.append(f"docs/DEFINITIONS.md names {name}: {count} definitions of that name that a public contract rests on")
     told += [f"docs/DEFINITIONS.md names {name} twice" for name in sorted(set(names)) if names.count(name) > 1]
+    told += bare_names()
     for line in told:
         print(line)
     print(f"{len(reached)} definitions, {len(names)} of them in docs/DEFINITIONS.md; {len(told)} faults")

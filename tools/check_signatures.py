@@ -5,7 +5,7 @@
 
 The head of the file says how it is read. An item of it begins with `pub` or `impl`. What the file leaves out is left out
 of the sources too. An item stands in a crate where the crate's root file hands it on, be it of the crate itself or of
-another one.
+another one, which its line of crates.txt names. Crates of one's own are passed over.
 
 There is a line for each item that is lacking or that reads otherwise, and for each line of items that were described
 otherwise at first whose item, or whose entry of docs/DECISIONS.md, is lacking; the last line tells how many items and
@@ -14,7 +14,7 @@ faults there are, and the exit status is 0 where there is no fault.
 import re
 import sys
 
-from common import TOP
+from common import TOP, blocks_in
 
 ITEM = re.compile(r"(?:pub (?:fn|struct|enum|trait)|impl) (\w+ for \w+|\w+(?:::\w+)?)")
 SIGNATURE = r"fn (\w+).*?(?=\s(?:requires|ensures)\b|\s*\{|;)"
@@ -64,20 +64,26 @@ class Sources:
 
     def __init__(self):
         self.handed_on, self.items = {}, {}
-        for root in TOP.glob("crates/*/src/lib.rt"):
-            crate = root.parts[-3]
+        self.lines = {crate: others for block in blocks_in(TOP) for crate, others in block.crates.items()}
+        for crate in self.lines:
+            self.read(crate)
+
+    def read(self, crate):
+        """Reads what a crate hands on, and its items."""
+        root = TOP / f"crates/{crate}/src/lib.rt"
+        if root.is_file():
             for origin, many, one in re.findall(r"^pub use ([\w:]+)::(?:\{([^}]*)\}|(\w+));", root.read_text(), re.M):
                 for name in (many or one).split(","):
                     self.handed_on[crate, name.strip()] = origin.partition("::")[0]
-        for path in TOP.glob("crates/*/src/**/*.rt"):
+        for path in sorted((TOP / f"crates/{crate}/src").glob("**/*.rt")):
             for name, text in items_of(bare(path.read_text())):
-                self.items.setdefault((path.relative_to(TOP).parts[1], name), []).append(text)
+                self.items.setdefault((crate, name), []).append(text)
 
     def found(self, crate, name):
         """The items of this name that the crate hands on, of its own or of another crate."""
         shown = re.split("::| for ", name)[-1 if " for " in name else 0]
         origin = self.handed_on.get((crate, shown))
-        while origin and (TOP / "crates" / origin).is_dir():
+        while origin in self.lines and origin in self.lines[crate]:
             crate, origin = origin, self.handed_on.get((origin, shown))
         return self.items.get((crate, name), []) if origin else []
 

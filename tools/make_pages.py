@@ -1,20 +1,21 @@
 #!/usr/bin/env python3
-"""Writes the parts of docs/ that the sources say, so that each is kept in one place.
+"""Writes the parts of README.md and docs/ that the sources say, so that each is kept in one place.
 
     tools/make_pages.py [--check]
 
 A page has paragraphs written by hand, and between them blocks that this script writes. A block begins with one of
 these lines and ends with the line `<!-- end -->`:
 
-- `<!-- head of CRATE -->`: the comment at the head of the crate's root file, but for what it stands on, where its tests
-  are and what the page says of all laws (of a crate of laws alone that docs/LAWS.md tells its first paragraph), then its
-  public calls with the names of their clauses, and its laws, with what they say where docs/LAWS.md does not
-  (docs/PROVED.md).
-- `<!-- heads of all others -->`: those of the crates that have no such block, in the order of crates.txt.
+- `<!-- blocks -->`: a table of the blocks of crates.txt, each with its crates and what crates.txt says of it (README.md).
+- `<!-- heads of TITLE -->`: of each crate of the block of this title, in order, the comment at the head of its root file up
+  to the first heading there, but for what it stands on, where its tests are and what the page says of all laws (of a crate
+  of laws alone that docs/LAWS.md tells its first paragraph), then its public calls with the names of their clauses, and
+  its laws, with what they say where docs/LAWS.md does not (docs/PROVED.md).
 - `<!-- definitions NAME NAME .. -->`: of each of these definitions its name, its crate and file of specs/, and the
   comment above it (docs/DEFINITIONS.md).
-- `<!-- edits -->`: the must-fail edits, each with what its first line says, crate by crate (docs/WRONG_BODIES.md); and
-  `<!-- edits CRATE/NAME CRATE/NAME .. -->` a table of these alone.
+- `<!-- edits -->`: the must-fail edits that the gate tries, each with what its first line says, crate by crate, and
+  `<!-- kept edits -->` those that stand beside them (docs/WRONG_BODIES.md); and `<!-- edits CRATE/NAME CRATE/NAME .. -->`
+  a table of these of the gate alone.
 - `<!-- laws CRATE::NAME CRATE::NAME .. -->`: a table of these laws, each with the first paragraph of its docstring;
   `<!-- laws of CRATE -->` of all of a crate, and `<!-- all other laws -->` of those that no such block before it names
   (docs/LAWS.md).
@@ -27,10 +28,12 @@ these lines and ends with the line `<!-- end -->`:
   others, what it rests on without them, and how much each is with that (docs/TRUST.md).
 
 With --check it writes nothing and tells each page that differs from what it would write. In both cases it tells
-each crate of crates.txt that the map of README.md does not name, and each crate, definition or edit that such a line
-names and that is not there; and each link, and each name of code in a page, that leads nowhere (tools/page_links.py).
-The head of a crate may end with the section `## Call it`: what its names are, the words ``From `CRATE::FILE::TEST`:``
-and a fenced block of code. A block whose lines do not stand so in this test is told too.
+each block, definition or edit that such a line names and that is not there, and each block that no such line names; what
+does not keep the order of the crates (tools/house_order.py); and each link, and each name of code in a page, that leads
+nowhere (tools/page_links.py).
+The head of a crate may end with the section `## How it works` and, behind it, the section `## Call it`: what its names
+are, the words ``From `CRATE::FILE::TEST`:`` and a fenced block of code. A block whose lines do not stand so in this test
+is told too.
 The exit status is 0 where there is nothing to tell.
 """
 import re
@@ -39,17 +42,18 @@ from functools import cache
 from itertools import groupby, takewhile
 
 from check_definitions import Specs, Types, definitions_named, exported
-from common import TOP, crates_in
+from common import IN_GATE, KEPT, TOP, blocks_in, crates_in, edits_of, reason_of
+from house_order import out_of_order
 from page_links import leads_nowhere
 
 # What the page says once of all laws.
 NOTHING = re.compile(r" (It does|They do|which does) nothing when (it|they) runs?\.")
 EACH_LAW = re.compile(r" ?\bEach law is the contract of a function that does nothing when it runs\.")
 # What crates.txt says too, and where tests stand.
-STANDS = re.compile(r" ?\b(The crate|It) stands on (?!`[A-Z]).*?\.(?= |$)| ?\bIts examples stand in .*?\.(?= |$)")
+STANDS = re.compile(r" ?\b(?:The crate|It) stands on (?!`[A-Z]).*?\.(?= |$)| ?\b(?:Its examples stand|Whole calls try it,) in .*?\.(?= |$)")
 TIME = re.compile(r"time of (the )?order|time in proportion|time linear|takes (the )?time of")
 KINDS = (
-    r"head of (\w+)|heads of all others|definitions ([\w .]+)|costs|to read ([\w .]+)|edits((?: \w+/\w+)*)"
+    r"blocks|heads of ([\w ]+)|definitions ([\w .]+)|costs|kept edits|to read ([\w .]+)|edits((?: \w+/\w+)*)"
     r"|laws((?: \w+::\w+)+)|laws of (\w+)|all other laws|code ([\w/.]+)((?: \w+)+)"
 )
 # How a crate is called, at the end of its head, and where that stands as a test.
@@ -81,15 +85,23 @@ def head_lines(crate):
 
 
 def head_of(crate):
-    """The comment at the head of a crate's root file but for how it is called, as paragraphs of one line each but for tables
+    """The comment at the head of a crate's root file up to its first heading, as paragraphs of one line each but for tables
     and lists, and then its public calls; of a crate of laws alone that docs/LAWS.md tells the first paragraph."""
-    lines = [line.strip() for line in takewhile(lambda line: line != CALL, head_lines(crate))]
+    lines = [line.strip() for line in takewhile(lambda line: not line.startswith("## "), head_lines(crate))]
     paragraphs = " ".join("\n" + line if line.startswith(("|", "- ")) else line or "\n\n" for line in lines)
     paragraphs = re.sub(r" +\n", "\n", paragraphs)
     texts = [re.sub(EACH_LAW, "", re.sub(STANDS, "", link_free(it.strip()))).strip() for it in paragraphs.split("\n\n")]
     calls = calls_of(crate)
     is_told = calls and all(call.law and call.name in laws_told() for call in calls)
     return "\n\n".join([it for it in texts if it][: 1 if is_told else None] + told_calls(crate)) + "\n"
+
+
+def table_of_blocks():
+    """A table of the blocks of crates.txt."""
+    rows = ["| Block | Crates | What is proved |", "|---|---|---|"]
+    for block in blocks_in(TOP):
+        rows.append(f"| {block.title} | {', '.join(f'`{crate}`' for crate in block.crates)} | {cell(block.says.rstrip('.'))} |")
+    return "\n".join(rows) + "\n"
 
 
 def number_of(body):
@@ -104,30 +116,33 @@ def list_of(specs, names):
     return "".join(f"- `{at[2]}` (`{at[0]}` {at[1]}): {words}\n" for at, words in told)
 
 
-def all_edits():
-    """The must-fail edits, crate by crate: what each would do, and which clause refuses it, by its first line."""
-    found = {}
-    for crate in crates():
-        for path in sorted((TOP / f"crates/{crate}/must-fail").glob("*.edit")):
-            first = path.read_text().partition("\n")[0]
-            said = re.fullmatch(r"(?:# )?why: (.*?); refused by: (.*?)\.?", first)
-            found[f"{crate}/{path.stem}"] = (said[1], said[2]) if said else ("", "")
-    return found
+def all_edits(kind):
+    """The must-fail edits of this kind, crate by crate: what each would do, and which clause refuses it, by its first line."""
+    paths = [(crate, path) for crate in crates() for path in edits_of(TOP, crate) if path.suffix == kind]
+    return {f"{crate}/{path.stem}": reason_of(path) for crate, path in paths}
 
 
-def edits(names):
-    """A table of these edits, by name; where none is named a list of all, crate by crate."""
-    found = all_edits()
-    named = [(name, *found.get(name, ("", ""))) for name in names or found]
-    told = [(name, cell(why), clause if "`" in clause or not clause else f"`{clause}`") for name, why, clause in named]
-    if names:
-        head = ["| Edit | What goes wrong | Refused by |", "|---|---|---|"]
-        return "\n".join(head + [f"| `{name}` | {why} | {cell(clause)} |" for name, why, clause in told]) + "\n"
+def told_edits(found):
+    """These edits by name: what goes wrong, and the clause as it is shown."""
+    return [(name, cell(why), clause if "`" in clause or not clause else f"`{clause}`") for name, (why, clause) in found.items()]
+
+
+def table_of_edits(names):
+    """A table of these edits of the gate."""
+    found = all_edits(IN_GATE)
+    told = told_edits({name: found.get(name, ("", "")) for name in names})
+    head = ["| Edit | What goes wrong | Refused by |", "|---|---|---|"]
+    return "\n".join(head + [f"| `{name}` | {why} | {cell(clause)} |" for name, why, clause in told]) + "\n"
+
+
+def edits(kind):
+    """A list of the edits of this kind, crate by crate."""
+    told = told_edits(all_edits(kind))
     blocks = []
     for crate, of_crate in groupby(told, lambda it: it[0].partition("/")[0]):
         lines = [f"- `{name.partition('/')[2]}`: {why} ({clause})" for name, why, clause in of_crate]
         blocks.append(f"`{crate}`:\n\n" + "\n".join(lines) + "\n")
-    return "\n".join([*blocks, f"{len(found)} edits.\n"])
+    return "\n".join([*blocks, f"{len(told)} edits in {len(blocks)} crates.\n"])
 
 
 class Call:
@@ -243,7 +258,7 @@ def costs():
     """What docstrings say of time and memory, crate by crate."""
     rows = ["| Crate | Call | What it takes |", "|---|---|---|"]
     # (a command takes what its answer takes)
-    for crate in (it for it in crates() if it != "teg_commands"):
+    for crate in (it for it in crates() if not it.endswith("_commands")):
         for call in calls_of(crate):
             told = " ".join(it for it in re.split(r"(?<=\.) +(?=[A-Z`])", call.doc) if TIME.search(it))
             if told:
@@ -289,7 +304,9 @@ class Pages:
 
     def __init__(self):
         self.specs = Specs()
-        self.heads, self.told, self.laws = set(), [], set()
+        self.told, self.laws, self.blocks = [], set(), {block.title: block for block in blocks_in(TOP)}
+        # (the kinds and titles of blocks that were written)
+        self.written = set()
 
     def is_there(self, names):
         """Tells each of these names that no definition has."""
@@ -309,20 +326,31 @@ class Pages:
         self.told += [f"{name} of {file} is to be shown, and is not there" for name in names if not item_of(text, name)]
         return "```rust\n" + "\n".join(item_of(text, name) for name in names) + "```\n"
 
+    def heads(self, title):
+        """The heads of the crates of a block, in their order."""
+        if title not in self.blocks:
+            self.told.append(f"the heads of {title} are to be told, and it is no block of crates.txt")
+            return ""
+        return "\n".join(f"#### `{crate}`\n\n{head_of(crate)}" for crate in self.blocks[title].crates)
+
     def block(self, found):
+        self.written.add(found[1])
         if found[2]:
-            self.heads.add(found[2])
-            body = head_of(found[2])
+            body = self.heads(found[2])
+        elif found[1] == "blocks":
+            body = table_of_blocks()
         elif found[3]:
             body = list_of(self.specs, self.is_there(found[3].split()))
         elif found[4]:
             body = reading(self.specs, self.is_there(found[4].split()))
         elif found[1] == "costs":
             body = costs()
-        elif found[5] is not None:
+        elif found[1] in ("edits", "kept edits"):
+            body = edits(IN_GATE if found[1] == "edits" else KEPT)
+        elif found[5]:
             names = found[5].split()
-            self.told += [f"{name} is to be tried, and no edit" for name in names if name not in all_edits()]
-            body = edits(names)
+            self.told += [f"{name} is to be tried, and no edit of the gate" for name in names if name not in all_edits(IN_GATE)]
+            body = table_of_edits(names)
         elif found[6]:
             body = self.table_of_laws(found[6].split())
         elif found[7]:
@@ -331,32 +359,24 @@ class Pages:
             body = self.table_of_laws([it for it in all_laws() if it.startswith(f"{found[7]}::")])
         elif found[8]:
             body = self.code(found[8], found[9].split())
-        elif found[1] == "all other laws":
-            body = laws([it for it in all_laws() if it not in self.laws])
         else:
-            others = (crate for crate in crates() if crate not in self.heads)
-            body = "\n".join(f"#### `{crate}`\n\n{head_of(crate)}" for crate in others)
+            body = laws([it for it in all_laws() if it not in self.laws])
         return f"<!-- {found[1]} -->\n{body}<!-- end -->\n"
 
     def write(self, is_check):
-        for path in sorted(TOP.glob("docs/*.md")):
+        for path in [TOP / "README.md", *sorted(TOP.glob("docs/*.md"))]:
             old = path.read_text()
             new = BLOCK.sub(self.block, old)
             if new != old and is_check:
-                self.told.append(f"docs/{path.name} is not what the sources say: run tools/make_pages.py")
+                self.told.append(f"{path.relative_to(TOP)} is not what the sources say: run tools/make_pages.py")
             elif new != old:
                 path.write_text(new)
 
     def look_for_missing(self):
-        table = (TOP / "README.md").read_text().partition("## The house")[2].partition("## Read it")[0]
-        told = set(re.findall(r"`(\w+)`", table))
-        shown = (TOP / "docs/ARCHITECTURE.md").read_text().partition("## Crates")[2].partition("```\n")[2].partition("```")[0]
-        on_map = set(re.findall(r"\w+", shown))
-        self.told += [f"the table of README.md does not name {crate}" for crate in crates() if crate not in told]
-        self.told += [f"the map of docs/ARCHITECTURE.md does not name {crate}" for crate in crates() if crate not in on_map]
-        self.told += [f"docs/ have a block of {crate}, which crates.txt does not name" for crate in sorted(self.heads - set(crates()))]
+        expected = ["blocks", *(f"heads of {title}" for title in self.blocks)]
+        self.told += [f"no page has what <!-- {it} --> writes" for it in expected if it not in self.written]
         self.told += [told for crate in crates() for told in told_calls_of_head(crate)]
-        self.told += leads_nowhere(TOP)
+        self.told += out_of_order(TOP, head_lines) + leads_nowhere(TOP)
 
 
 def main(is_check):

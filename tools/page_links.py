@@ -5,7 +5,7 @@ from pathlib import Path
 # Pages of the program's users, whose names are those of nets, and the page of edits, which is written from them.
 OF_NETS = ("GUIDE", "GLOSSARY", "WRONG_BODIES")
 # Names that stand for any name.
-PLACEHOLDERS = {"tell_x", "x_asked", "CodedX", "_laws"}
+PLACEHOLDERS = {"tell_x", "x_asked", "shown_x", "CodedX", "_laws"}
 
 
 def pages_of(top):

@@ -5,17 +5,18 @@
 
 PROGRAM is the built teg; where none is named it is the one that `rt ci` leaves. The commands of README.md, of
 docs/GUIDE*.md, of tools/recipe_rows.md, which has what these commands make of other files, and of the other files of
-docs/ are run by bash, file after file in this order, in a folder that has the program as ./teg and the nets as
-examples/:
+docs/ are run by bash, file after file in this order, in a folder that has the program as ./teg, and as ./try too, which
+answers alike, and examples/ and docs/:
 
 - In a fenced block, a line that begins with `$ ` is a command. The lines below it, up to the next
   command or the end of the block, are what it prints.
-- A fenced block of toml, sed or awk whose first line is `# NAME` with that ending is a file of that name for the
+- A fenced block of toml, sed, awk or py whose first line is `# NAME` with that ending is a file of that name for the
   commands below.
 - A command that calls python3's reader of TOML is left out where this python3 has none (before version 3.11).
 
-Each file of examples/ is named by a command of the guide, and each command that takes a net alone, by the
-usage, answers for each net there: with status 0, or, where the net is refused, as `check` does.
+Each file of examples/ is named by a command of the guide, a script of examples/tables by what runs it; and each command
+that takes a net alone, by the usage, answers for each net there: with status 0, or, where the net is refused, as `check`
+does.
 
 With --witnesses each answer of `check`, `cycle`, `dates`, `size` and `jit` that a command of the guide asks for, and of
 `timetable` each whose delays are kept, is handed to the program witness_runner that `rt ci` leaves, which has to tell it as
@@ -35,7 +36,7 @@ from common import TOP, Status
 
 
 # What asks for an answer that a checker reads, and how such answers begin.
-ASKS = re.compile(r"\./teg (?:check|cycle|dates|size|jit|timetable)(?: [\w./]+)+")
+ASKS = re.compile(r"\./(?:teg|try) (?:check|cycle|dates|size|jit|timetable)(?: [\w./]+)+")
 TABLE = "latest inputs for "
 SETTLED = "settled after "
 KEPT = re.compile(r"settled after .*\nkept\n")
@@ -120,7 +121,7 @@ def run_blocks(name, text, folder, witnesses=None):
     """Runs the commands of a document, and tells for each whether it prints what the document shows. Where a list of
     witnesses is given, whether each answer is shown is added to it."""
     for block in blocks_of(text):
-        named = re.fullmatch(r"# (\w+)\.(toml|sed|awk)", block[2][0]) if block[2] else None
+        named = re.fullmatch(r"# (\w+)\.(toml|sed|awk|py)", block[2][0]) if block[2] else None
         if named and named[2] == block[1]:
             with open(f"{folder}/{named[1]}.{named[2]}", "w", encoding="utf-8") as file:
                 file.write("".join(f"{line}\n" for line in block[2]))
@@ -149,16 +150,29 @@ def odd_commands(commands, net, folder):
     return odd
 
 
+def files_below(folder):
+    """The files of a folder and of those below it, each by its path from there, but for what python3 keeps of modules."""
+    for path, folders, names in os.walk(folder):
+        folders[:] = [name for name in folders if name != "__pycache__"]
+        yield from (os.path.relpath(os.path.join(path, name), folder) for name in names)
+
+
+def named_as(name):
+    """How a command names a file of examples/: a script of examples/tables by what runs it, and a module by its folder."""
+    name = re.sub(r"^(tables/run) common$", r"\1", re.sub(r"^tables/(\w+)\.awk$", r"tables/run \1", name))
+    return "examples/" + re.sub(r"^python/\w+\.py$", "python", name)
+
+
 def run_nets(guides, folder):
     """Runs the commands that take a net alone on each net of examples/."""
     usage = run(["./teg"], folder)[1]
     of_net = re.findall(r"^(?:usage:| {6}) teg (\w+) NET(?: \[.*)?$", usage, re.M)
     shown = "\n".join(command for guide in guides for block in blocks_of(guide) for _, command, _ in commands_of(block))
-    for name in sorted(os.listdir(f"{folder}/examples")):
+    for name in sorted(files_below(f"{folder}/examples")):
         odd = odd_commands(of_net, name, folder) if name.endswith(".toml") else []
-        if f"examples/{name}" not in shown:
+        if named_as(name) not in shown:
             print(f"examples/{name}: no command of the guide names it")
-        yield not odd and f"examples/{name}" in shown
+        yield not odd and named_as(name) in shown
 
 
 def documents():
@@ -169,14 +183,21 @@ def documents():
     return {str(path.relative_to(TOP)): path.read_text(encoding="utf-8") for path in paths}
 
 
+def furnish(folder, program):
+    """Puts into the folder what the commands of the documents find there: the program, the nets and the pages."""
+    for name in ("teg", "try"):
+        os.symlink(os.path.abspath(program), f"{folder}/{name}")
+    for name in ("examples", "docs"):
+        os.symlink(f"{TOP}/{name}", f"{folder}/{name}")
+
+
 def main(program, witnesses):
     if not is_there(program) or witnesses is not None and not is_there(WITNESS):
         return summed_up(0, 1)
     texts = documents()
     guides = {name: text for name, text in texts.items() if name.startswith("docs/GUIDE")}
     with tempfile.TemporaryDirectory(prefix="teg-guide-") as folder:
-        os.symlink(os.path.abspath(program), f"{folder}/teg")
-        os.symlink(f"{TOP}/examples", f"{folder}/examples")
+        furnish(folder, program)
         seen = {name: witnesses if name in guides else None for name in texts}
         shown = [well for name, text in texts.items() for well in run_blocks(name, text, folder, seen[name])]
         nets = list(run_nets(guides.values(), folder))

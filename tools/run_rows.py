@@ -12,7 +12,8 @@ is named it is each of tools/rows/*.rows. Of a file of rows
     status N        is how the runs just above end, and the text that follows is what each of them prints;
     keep NAME       gives the runs below, up to the end of the row, a file with the text just above;
     | TEXT          is a line of a text, and `|- TEXT` one without a line end;
-    N| TEXT         are N such lines, in which {i} is 0 in the first, 1 in the second and so on, and {i+1} one more;
+    N| TEXT         are N such lines, in which {i} is 0 in the first, 1 in the second and so on, {i+1} one more, and {i:8}
+                    has zeros before it up to 8 digits;
     # REMARK        is for the reader, as an empty line is.
 
 In words and texts `{N times PIECE}` is the piece N times and `{byte 0d}` the byte of this hexadecimal number. In what
@@ -62,7 +63,8 @@ def lines_of(mark, text):
     if "{i" not in text:
         return count * written_out(text + end)
     numbered = (text.replace("{i}", str(i)).replace("{i+1}", str(i + 1)) for i in range(count))
-    return b"".join(written_out(line + end) for line in numbered)
+    padded = (re.sub(r"\{i:(\d+)\}", lambda found: str(i).zfill(int(found[1])), line) for i, line in enumerate(numbered))
+    return b"".join(written_out(line + end) for line in padded)
 
 
 def runs_of(path, nets):

@@ -1,6 +1,7 @@
 #!/usr/bin/env python3
-"""Tests of check_definitions.py, check_signatures.py, make_pages.py and page_links.py over a small repository that is made
-for them, of what run_guide.py finds in a page, and of common.py against the sources.
+"""Tests of check_definitions.py, check_edits.py, check_signatures.py, house_order.py, make_pages.py, page_links.py,
+show_call.py and of what try_edits.py makes of rt's words, over a small repository that is made for them; of what run_guide.py finds in a page;
+and of common.py against the sources.
 
     tools/test_pages.py
 
@@ -15,19 +16,25 @@ import unittest
 from pathlib import Path
 
 import check_definitions
+import check_edits
 import check_signatures
 import common
+import house_order
 import make_pages
 import page_links
 import run_guide
+import show_call
+import try_edits
 
 FILES = {
-    "crates.txt": "low:\nhigh: low\n",
-    "README.md": "# T\n\n## The house\n\n| Crate | By |\n|---|---|\n| `high` | |\n| `low` | |\n\n## Read it\n\nSee [the page](docs/PAGE.md#what-is-there).\n",
-    "docs/ARCHITECTURE.md": "# How it is built\n\n## Crates\n\n```\nhigh > low\n```\n",
+    "crates.txt": "# NAME: those that it stands on.\n\n# Ground: what counts,\n# by (`count`).\nlow:\n\n# Program: all of it.\nhigh: low\n",
+    "README.md": "# T\n\n## The house\n\n<!-- blocks -->\n<!-- end -->\n\n## Read it\n\nSee [the page](docs/PAGE.md#what-is-there).\n",
+    "docs/ARCHITECTURE.md": "# How it is built\n\n## Crates\n\n```\nground   counts  low\nprogram  high > low\n```\n",
     "docs/PAGE.md": "# Page\n\n## What is there\n\nBy hand, of `low_limit`.\n\n"
-    "<!-- head of low -->\n<!-- end -->\n\n<!-- to read IsFew -->\n<!-- end -->\n",
-    "docs/WRONG_BODIES.md": "# Edits\n\n<!-- edits -->\n<!-- end -->\n",
+    "<!-- to read IsFew -->\n<!-- end -->\n",
+    "docs/PROVED.md": "# Proved\n\n## Crate by crate\n\n### Ground\n\n| Crate | By |\n|---|---|\n| `low` | |\n\n"
+    "<!-- heads of Ground -->\n<!-- end -->\n\n### Program\n\n| `high` | |\n\n<!-- heads of Program -->\n<!-- end -->\n",
+    "docs/WRONG_BODIES.md": "# Edits\n\n<!-- edits -->\n<!-- end -->\n\n<!-- kept edits -->\n<!-- end -->\n",
     "docs/DEFINITIONS.md": "# Definitions\n\n<!-- definitions IsFew -->\n<!-- end -->\n",
     "crates/low/src/lib.rt": "//! Counts things.\n//!\n//! One call. It stands on std alone. Its examples stand in `high`.\n//!\n//! | A | B |\n//! |---|---|\n//! | 1 | 2 |\npub use crate::count::{count, counts_are_few};\n",
     "crates/low/src/count.rt": """ghost use Rattle.low.specs.Few.{IsFew, CountsAreFew};
@@ -36,7 +43,7 @@ FILES = {
 pub fn count(things: &[u8]) -> usize
     ensures few { IsFew result }
 {
-    0
+    things.len()
 }
 
 /// Counts are few (chapter 2). It does nothing when it runs.
@@ -71,7 +78,8 @@ CountsAreFew = (n : ℕ) → IsFew n
 abbrev pub IsOther : ℕ → Type 0
 IsOther n = n ≡ 0
 """,
-    "crates/low/must-fail/one_more.edit": "# why: one more is told; refused by: count few\nfile: src/count.rt\nold: 0\nnew: 1\n",
+    "crates/low/must-fail/one_more.edit": "# why: one more is told; refused by: count few\nfile: src/count.rt\nold: things.len()\nnew: things.len() + 1\n",
+    "crates/low/must-fail/many.md": "# why: many are told; refused by: `count few`, by which all answer\nfile: src/count.rt\nold: things.len()\nnew: things.len() * 9\n",
     "crates/high/src/main.rt": "//! The program.\nfn main() {}\n",
 }
 
@@ -91,7 +99,7 @@ class Pages(unittest.TestCase):
         self.top = Path(room.name)
         for name, text in FILES.items():
             self.write(name, text)
-        for module in (check_definitions, check_signatures, make_pages):
+        for module in (check_definitions, check_edits, check_signatures, make_pages, show_call, try_edits):
             self.addCleanup(setattr, module, "TOP", module.TOP)
             module.TOP = self.top
 
@@ -161,11 +169,18 @@ IsKind k = IsFew k.part
         self.assertIn("docs/PAGE.md is not what the sources say", text)
         self.assertEqual(printed(make_pages.main, False), ("", 0))
         self.assertEqual(printed(make_pages.main, True), ("", 0))
+        self.assertEqual(
+            (self.top / "README.md").read_text().splitlines()[4:9],
+            ["<!-- blocks -->", "| Block | Crates | What is proved |", "|---|---|---|",
+             "| Ground | `low` | what counts, by (`count`) |", "| Program | `high` | all of it |"])
         page = (self.top / "docs/PAGE.md").read_text()
         self.assertIn("By hand, of `low_limit`.\n", page)
-        self.assertIn("Counts things.\n\nOne call.\n\n| A | B |\n|---|---|\n| 1 | 2 |\n\nCalls: `count` (`few`).\n\nLaws:\n\n- `counts_are_few`: Counts are few (chapter 2).\n", page)
+        proved = (self.top / "docs/PROVED.md").read_text()
+        self.assertIn("<!-- heads of Ground -->\n#### `low`\n\nCounts things.\n\nOne call.\n\n| A | B |\n|---|---|\n| 1 | 2 |\n\nCalls: `count` (`few`).\n\nLaws:\n\n- `counts_are_few`: Counts are few (chapter 2).\n<!-- end -->\n", proved)
         edits = (self.top / "docs/WRONG_BODIES.md").read_text()
-        self.assertIn("`low`:\n\n- `one_more`: one more is told (`count few`)\n\n1 edits.\n", edits)
+        in_gate, _, kept = edits.partition("<!-- kept edits -->")
+        self.assertIn("`low`:\n\n- `one_more`: one more is told (`count few`)\n\n1 edits in 1 crates.\n", in_gate)
+        self.assertIn("`low`:\n\n- `many`: many are told (`count few`, by which all answer)\n\n1 edits in 1 crates.\n", kept)
         self.assertIn("| `IsFew` | `low/specs/Few.antt` | 2 | 0 | 4 | 2 minutes |\n", page)
         self.assertIn("- `IsFew` (`low` Few): a number that is few\n", (self.top / "docs/DEFINITIONS.md").read_text())
 
@@ -173,12 +188,12 @@ IsKind k = IsFew k.part
         printed(make_pages.main, False)
         path = "crates/low/src/lib.rt"
         self.write(path, FILES[path].replace("Counts things.", "Counts all."))
-        self.assertIn("docs/PAGE.md is not what", printed(make_pages.main, True)[0])
+        self.assertIn("docs/PROVED.md is not what", printed(make_pages.main, True)[0])
 
     def test_a_law_of_the_page_of_laws_is_not_told_twice(self):
         self.write("docs/LAWS.md", "# Laws\n\n- `counts_are_few`\n")
         printed(make_pages.main, False)
-        page = (self.top / "docs/PAGE.md").read_text()
+        page = (self.top / "docs/PROVED.md").read_text()
         self.assertIn("[Laws](LAWS.md): `counts_are_few`.\n", page)
         self.assertNotIn("Counts are few", page)
 
@@ -188,10 +203,59 @@ IsKind k = IsFew k.part
         laws = FILES[path].replace("One call.", "Counts are so. Each law is the contract of a function that does nothing when it runs.")
         self.write(path, laws)
         printed(make_pages.main, False)
-        self.assertIn("Counts things.\n\nCounts are so.\n\n| A", (self.top / "docs/PAGE.md").read_text())
+        self.assertIn("Counts things.\n\nCounts are so.\n\n| A", (self.top / "docs/PROVED.md").read_text())
         self.write(path, laws.replace("{count, counts_are_few}", "counts_are_few"))
         printed(make_pages.main, False)
-        self.assertIn("Counts things.\n\n[Laws](LAWS.md): `counts_are_few`.\n", (self.top / "docs/PAGE.md").read_text())
+        self.assertIn("Counts things.\n\n[Laws](LAWS.md): `counts_are_few`.\n", (self.top / "docs/PROVED.md").read_text())
+
+    def test_edits_of_both_kinds_are_looked_at(self):
+        counts = "edits, of which the gate tries 1 in 1 crates"
+        self.assertEqual(printed(check_edits.main), (f"2 {counts}; 0 faults\n", 0))
+        path = "crates/low/must-fail/many.md"
+        self.write(path, FILES[path].replace("why", "how").replace("things.len()", "lost()", 1))
+        self.write("crates/low/must-fail/one_more.md", FILES[path])
+        told = [
+            "low/many: its first line is not '# why: ..; refused by: ..'", "low/many: its old text stands 0 times: lost()",
+            "low has two edits one_more", f"3 {counts}; 3 faults",
+        ]
+        text, status = printed(check_edits.main)
+        self.assertEqual((text.splitlines(), status), (told, 1))
+
+    def test_edits_are_counted(self):
+        path = "crates/low/must-fail/many.md"
+        for crate, kind, number in (("low", "md", 7), ("high", "edit", 8)):
+            for at in range(number):
+                self.write(f"crates/{crate}/must-fail/n{at}.{kind}", FILES[path])
+        self.write("crates/high/src/count.rt", FILES["crates/low/src/count.rt"])
+        self.addCleanup(setattr, check_edits, "MOST_IN_GATE", check_edits.MOST_IN_GATE)
+        check_edits.MOST_IN_GATE = 8
+        told = ["low has 9 edits, more than 8", "the gate tries 9 edits in 2 crates, and not at most 8 in 18"]
+        self.assertEqual(printed(check_edits.main)[0].splitlines()[:-1], told)
+
+    def told_of_edits(self, *lines):
+        """What is told of the fixture's edits where rt says these lines, and how many faults there are."""
+        path = f"{self.top}/said"
+        self.write("said", "".join(f"{line}\n" for line in lines))
+        with contextlib.redirect_stderr(io.StringIO()):
+            said = try_edits.told_by(["cat", path], self.top)
+        text, faults = printed(try_edits.tell, {"low": common.edits_of(self.top, "low")}, said)
+        return text.splitlines(), faults
+
+    def test_where_an_edit_was_refused_is_told(self):
+        refused = "rt: must-fail low/{}.edit: refused, as it must be: note: src/count.rt:{}:1: it is not proved"
+        lines, faults = self.told_of_edits("rt: low proved", refused.format("many", 4), refused.format("one_more", 20), "3 passed, 0 failed")
+        self.assertEqual(lines[0], "low/many: refused in count, src/count.rt:4")
+        self.assertEqual(lines[1], "low/one_more: refused in other, src/count.rt:20; its first line says count few")
+        self.assertEqual((lines[2], faults), ("2 edits in 1 crates, 1 of them refused elsewhere than told; 0 faults", 0))
+
+    def test_an_edit_that_was_not_refused_is_a_fault(self):
+        lines, faults = self.told_of_edits(
+            "rt: low is kept", "rt: must-fail low/many.edit: BAD EDIT: it did not reach the prover; the first lines of what it said:", "error[x]: no",
+            "rt: must-fail low/one_more.edit: NOT REFUSED: the crate is still proved with this edit", "rt: FAILED: low/one_more.edit")
+        self.assertEqual(lines[:2], ["low/many: BAD EDIT: it did not reach the prover; the first lines of what it said:", "  error[x]: no"])
+        self.assertEqual(lines[2], "low/one_more: NOT REFUSED: the crate is still proved with this edit")
+        self.assertEqual((lines[3], faults), ("2 edits in 1 crates, 0 of them refused elsewhere than told; 2 faults", 2))
+        self.assertEqual(self.told_of_edits("rt: low NOT PROVED")[0][0], "low/many: NOT TRIED: rt says nothing of it")
 
     def test_signatures_are_compared(self):
         text = "# A remark.\n\n[low]\npub fn count(things: &[u8]) -> usize\n\n[otherwise]\nlow::count | no such call | Counting\n"
@@ -202,6 +266,54 @@ IsKind k = IsFew k.part
         self.assertEqual(changed[0], "low: count reads otherwise: pub fn count(things: &[u8]) -> usize")
         self.assertEqual(changed[1], "low::sum stands below [otherwise], and is no item")
         self.assertEqual(list(check_signatures.faults_of("[low]\npub fn sum() -> u8\n", "")), ["low hands on no sum"])
+
+    def test_a_crate_of_ones_own_named_as_a_module_is_no_origin(self):
+        text, path = "[low]\npub fn count(things: &[u8]) -> usize\n\n[high]\npub fn count(things: &[u8]) -> usize\n", "crates/low/src/lib.rt"
+        self.write(path, FILES[path].replace("crate::count", "count"))
+        self.write("crates/high/src/lib.rt", "pub use low::count;\n")
+        self.write("crates/count/src/lib.rt", "pub use other::count;\n")
+        self.write("crates.txt", f"{FILES['crates.txt']}{common.OWN}\ncount: low\n")
+        self.assertEqual(list(check_signatures.faults_of(text, "")), [])
+        self.write("crates.txt", FILES["crates.txt"].replace("high: low", "high:"))
+        self.assertEqual(list(check_signatures.faults_of(text, "")), ["high hands on no count"])
+
+    def test_a_call_is_shown_with_what_its_clauses_name(self):
+        self.write("crates/high/src/lib.rt", "pub use low::{counts_are_few, count};\n")
+        text, found = printed(show_call.show, "high", None, "count")
+        self.assertTrue(found)
+        call, few, uses = text.split("\n\n")
+        self.assertEqual(call.splitlines()[0], "// crates/low/src/count.rt:4")
+        self.assertEqual(call.splitlines()[2:], ["pub fn count(things: &[u8]) -> usize", "    ensures few { IsFew result }"])
+        self.assertEqual(few, "-- crates/low/specs/Few.antt:9\n-- a number that is few\nabbrev pub IsFew : ℕ → Type 0\nIsFew n = n < low_limit")
+        self.assertEqual(uses, "use high::count;\nghost use Rattle.low.specs.Few.{IsFew};\n")
+
+    def test_a_call_on_a_value_is_shown_with_its_type(self):
+        self.write("crates/low/src/bags.rt", """ghost use Rattle.low.specs.Few.{IsFew};
+
+impl Other {
+    pub fn size(&self) -> u8
+    {
+        0
+    }
+}
+
+impl Bag {
+    /// How many.
+    pub fn size(&self) -> u8
+        ensures { IsFew result }
+    {
+        self.size
+    }
+
+    fn own(&self) {}
+}
+""")
+        text, found = printed(show_call.show, "low", "Bag", "size")
+        self.assertTrue(found)
+        self.assertTrue(text.startswith("// crates/low/src/bags.rt:12\n/// How many.\npub fn size(&self) -> u8\n    ensures { IsFew result }\n\n"))
+        self.assertTrue(text.endswith("\nuse low::Bag;\nghost use Rattle.low.specs.Few.{IsFew};\n"))
+        self.assertEqual(printed(show_call.show, "low", "Bag", "own"), ("", False))
+        self.assertEqual(printed(show_call.show, "low", None, "size"), ("", False))
 
     def test_code_is_shown_as_it_stands(self):
         self.write("docs/MORE.md", "<!-- code low/src/kept.rt FEW kept -->\n<!-- end -->\n")
@@ -219,7 +331,7 @@ IsKind k = IsFew k.part
         head = "//!\n//! ## Call it\n//!\n//! Of `n`. From `high::calls::few`:\n//!\n//! ```rust\n//! if few(n) {\n//!     count();\n//! }\n//! ```\npub use"
         self.write(path, FILES[path].replace("pub use", head))
         self.assertEqual(printed(make_pages.main, False), ("", 0))
-        self.assertNotIn("Call it", (self.top / "docs/PAGE.md").read_text())
+        self.assertNotIn("Call it", (self.top / "docs/PROVED.md").read_text())
         told = "the head of low shows what is not in the test few of crates/high/src/calls.rt\n"
         for old, new in [("count();", "counts();"), ("    count();", "count();"), ("if few", "few")]:
             self.write(path, FILES[path].replace("pub use", head.replace(old, new)))
@@ -237,14 +349,65 @@ IsKind k = IsFew k.part
         self.assertEqual(printed(check_definitions.main)[1], 0)
 
     def test_what_is_missing_is_told(self):
-        self.write("crates.txt", "low:\nhigh: low\nmiddle: low\n")
-        self.write("docs/MORE.md", "<!-- edits low/none -->\n<!-- end -->\n\n<!-- to read IsMany -->\n<!-- end -->\n")
+        self.write("crates.txt", FILES["crates.txt"] + "\n# Tests: what is tried.\nmiddle: low\n")
+        self.write("docs/MORE.md", "<!-- edits low/none low/many -->\n<!-- end -->\n\n<!-- to read IsMany -->\n<!-- end -->\n\n<!-- heads of All -->\n<!-- end -->\n")
+        self.write("README.md", "See [the page](docs/PAGE.md).\n")
         text, status = printed(make_pages.main, False)
         self.assertEqual(status, 1)
-        self.assertIn("the table of README.md does not name middle\n", text)
-        self.assertIn("the map of docs/ARCHITECTURE.md does not name middle\n", text)
-        self.assertIn("low/none is to be tried, and no edit\n", text)
+        self.assertIn("no page has what <!-- blocks --> writes\n", text)
+        self.assertIn("no page has what <!-- heads of Tests --> writes\n", text)
+        self.assertIn("the heads of All are to be told, and it is no block of crates.txt\n", text)
+        self.assertIn("the map of docs/ARCHITECTURE.md has nothing more where crates.txt has tests\n", text)
+        self.assertIn("the map of docs/ARCHITECTURE.md does not name middle in its block\n", text)
+        self.assertIn("docs/PROVED.md has the section nothing more where crates.txt has Tests\n", text)
+        self.assertIn("low/none is to be tried, and no edit of the gate\nlow/many is to be tried, and no edit of the gate\n", text)
         self.assertIn("IsMany is to be shown, and no definition\n", text)
+
+    def test_the_order_of_the_crates_is_kept(self):
+        heads = {crate: [] for crate in ("low", "high", "mine")}
+        self.assertEqual(house_order.out_of_order(self.top, heads.get), [])
+
+        def told(file, *changes):
+            text = FILES[file]
+            for old, new in changes:
+                text = text.replace(old, new)
+            self.write(file, text)
+            found = house_order.out_of_order(self.top, heads.get)
+            self.write(file, FILES[file])
+            return found
+
+        up = "crates.txt: low stands on high, which does not stand above it"
+        self.assertEqual(told("crates.txt", ("low:", "low: high"), ("high: low", "high:"))[0], up)
+        self.assertEqual(told("crates.txt", ("low:", "low: csv")), [])
+        own = f"{common.OWN}\nmine: low\n"
+        up = "crates.txt: low stands on mine, which does not stand above it"
+        self.assertEqual(told("crates.txt", ("low:", "low: mine"), ("high: low\n", f"high: low\n\n{own}")), [up])
+        self.assertEqual(told("crates.txt", ("high: low\n", f"high: low\n\n{own}")), [])
+        astray = ["the map of docs/ARCHITECTURE.md has rest where crates.txt has program", "the map of docs/ARCHITECTURE.md does not name high in its block"]
+        self.assertEqual(told("docs/ARCHITECTURE.md", ("program  ", "rest     ")), astray)
+        astray = ["the map of docs/ARCHITECTURE.md says that low stands on high"]
+        self.assertEqual(told("docs/ARCHITECTURE.md", ("high > low", "low > high > low")), astray)
+        astray = ["docs/PROVED.md: the rows of Program have low where high is in crates.txt"]
+        self.assertEqual(told("docs/PROVED.md", ("| `high` |", "| `low`, `high` |")), astray)
+        self.assertEqual(told("docs/PROVED.md", ("### Program", "### Rest")), ["docs/PROVED.md has the section Rest where crates.txt has Program"])
+
+    def test_examples_stand_where_a_head_says(self):
+        self.write("crates/high/src/calls.rt", "use low::count;\n")
+        heads = {"low": ["It is small. Its examples stand in `high`, in", "`calls.rt`."], "high": []}
+        self.assertEqual(house_order.out_of_order(self.top, heads.get), [])
+        heads["low"] = ["Its examples stand in `high`, in `main.rt`."]
+        told = "the head of low says that its examples stand in main.rt, which does not name it"
+        self.assertEqual(house_order.out_of_order(self.top, heads.get), [told])
+        heads = {"low": [], "high": ["Its examples stand in `low`."]}
+        told = "the head of high says that its examples stand in low, which does not name it"
+        self.assertEqual(house_order.out_of_order(self.top, heads.get), [told])
+
+    def test_names_in_comments_stand_in_backquotes(self):
+        self.write("crates/low/proofs/Few.antt", "-- What `low_limit` is.\nfew_is : ℕ\n  -- by low_limit of the `one` and the `other_one`\n")
+        text, status = printed(check_definitions.main)
+        self.assertEqual(status, 1)
+        self.assertEqual(text.splitlines()[0], "crates/low/proofs/Few.antt:3: low_limit stands in a comment without backquotes")
+        self.assertIn("; 1 faults\n", text)
 
     def test_links_and_names_lead_somewhere(self):
         self.assertEqual(page_links.leads_nowhere(self.top), [])
@@ -288,7 +451,7 @@ class Guide(unittest.TestCase):
 
 class Shared(unittest.TestCase):
     def test_statuses_are_those_of_the_program(self):
-        text = (common.TOP / "crates/teg_run/src/status.rt").read_text()
+        text = (common.TOP / "crates/teg_files/src/status.rt").read_text()
         codes = {re.sub(r"(?<=[a-z])(?=[A-Z])", "_", name).upper(): int(code) for name, code in re.findall(r"Status::(\w+) => (\d+),", text)}
         self.assertEqual(codes, {status.name: status.value for status in common.Status})
 

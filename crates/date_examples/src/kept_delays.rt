@@ -1,15 +1,17 @@
 //! Delays that stay and the circuit that shows it, tests of timetables and of due dates without end
 //! that a program makes itself, and the lines of their refusals.
+use endless_due::{EndlessRefusal, EndlessRow, is_endless_of, read_endless};
 use example_nets::says;
 use std::alloc::{AllocError, Global};
+use std::fmt::Display;
 use std::test::Fail;
 use teg_check::check;
-use teg_forever::{EndlessRow, forever, is_endless_of, read_endless};
+use teg_forever::{ForeverRefusal, forever};
 use teg_net::{DateList, Net, PlaceId, TransitionId};
 use teg_reader::read_net;
 use teg_timetable::{
-    Delay, Delayed, Outcome, Timetable, is_table_of, paths_pass_delays_on, read_timetable,
-    shows_kept, spread, tight_circuits_keep_delays,
+    Delay, DelayRefusal, Delayed, Outcome, TableRefusal, Timetable, is_table_of,
+    paths_pass_delays_on, read_timetable, shows_kept, spread, tight_circuits_keep_delays,
 };
 
 // A shuttle that takes 3 there and 4 back.
@@ -40,6 +42,14 @@ fn is_shown(net: &Net, delayed: &Delayed, period: u32) -> Option<bool> {
     }
 }
 
+// The delay of the first transition at its first departure.
+fn first_delay(delayed: &Delayed) -> Option<u128> {
+    if delayed.width() == 0 {
+        return None;
+    }
+    Some(delayed.delay(TransitionId { index: 0 }, 1))
+}
+
 #[test]
 fn kept_delays_are_shown(rt: HostRuntime) -> Result<(), Fail> {
     let alloc = rt.alloc();
@@ -52,12 +62,7 @@ fn kept_delays_are_shown(rt: HostRuntime) -> Result<(), Fail> {
     assert!(rt; is_shown(&net, &tight, 7) == Some(true));
     let slack = spread(alloc, &net, &live, 8, &table, None)?;
     assert!(rt; is_shown(&net, &slack, 8).is_none());
-    Ok(())
-}
-
-#[test]
-fn circuits_show_kept_delays(rt: HostRuntime) -> Result<(), Fail> {
-    let net = read_net(rt.alloc(), SHUTTLE)?;
+    assert!(rt; first_delay(&slack) == Some(0) && slack.after() == 6);
     let (there, back) = (PlaceId::new(0), PlaceId::new(1));
     for (period, places, is_shown) in [
         (7, [back, there].as_slice(), true),
@@ -117,6 +122,13 @@ fn row_of(alloc: Global, index: u32, dates: &[u64]) -> Result<EndlessRow, AllocE
     })
 }
 
+// How many inputs have latest releases for parts from the saw every 4.
+fn releases_of(alloc: Global, net: &Net) -> Result<usize, Fail> {
+    let live = check(alloc, net)?;
+    let rows = read_endless(alloc, net, b"saw,1,4,10\n")?;
+    Ok(forever(alloc, net, &live, &rows)?.len())
+}
+
 #[test]
 fn endless_dues_are_tested(rt: HostRuntime) -> Result<(), Fail> {
     let net = read_net(rt.alloc(), FEED)?;
@@ -138,58 +150,32 @@ fn endless_dues_are_tested(rt: HostRuntime) -> Result<(), Fail> {
         row_of(rt.alloc(), 1, &[10, 12])?,
     ];
     assert!(rt; !is_endless_of(&net, &twice));
+    assert!(rt; releases_of(rt.alloc(), &net)? == 1);
     Ok(())
 }
 
-#[test]
-fn refusals_of_timetables_have_lines(rt: HostRuntime) -> Result<(), Fail> {
-    let alloc = rt.alloc();
-    let net = read_net(alloc, SHUTTLE)?;
-    let live = check(alloc, &net)?;
-    assert!(rt;
-        says(
-            alloc,
-            read_timetable(alloc, &net, b"out,0\nhome,3\nhome,2,0\n"),
-            "timetable row 3 out of range"
-        )
-    );
-    assert!(rt;
-        says(
-            alloc,
-            read_timetable(alloc, &net, b"out,0\n"),
-            "no departure of transition 1"
-        )
-    );
-    let table = read_timetable(alloc, &net, b"out,0\nhome,3\n")?;
-    assert!(rt;
-        says(
-            alloc,
-            spread(alloc, &net, &live, 6, &table, None),
-            "place 1 does not fit the timetable"
-        )
-    );
-    Ok(())
+// Whether the refusal has this line.
+fn reads<E: Display + Drop>(alloc: Global, refusal: E, line: &str) -> bool {
+    says(alloc, Err::<u8, E>(refusal), line)
 }
 
 #[test]
-fn refusals_of_endless_dues_have_lines(rt: HostRuntime) -> Result<(), Fail> {
+fn refusals_have_lines(rt: HostRuntime) {
     let alloc = rt.alloc();
-    let net = read_net(alloc, FEED)?;
-    let live = check(alloc, &net)?;
-    assert!(rt;
-        says(
-            alloc,
-            read_endless(alloc, &net, b"saw,1,4,5,3\n"),
-            "due row 1 falls"
-        )
-    );
-    let rows = read_endless(alloc, &net, b"saw,1,4,1\n")?;
-    assert!(rt;
-        says(
-            alloc,
-            forever(alloc, &net, &live, &rows),
-            "late transition 1 firing 1 due 1 least 2"
-        )
-    );
-    Ok(())
+    let (place, transition) = (PlaceId::new(1), TransitionId::new(1));
+    let row = TableRefusal::OutOfRange { row: 3 };
+    assert!(rt; reads(alloc, row, "timetable row 3 out of range"));
+    let missing = TableRefusal::Missing { transition };
+    assert!(rt; reads(alloc, missing, "no departure of transition 1"));
+    let unworkable = DelayRefusal::Unworkable { place };
+    assert!(rt; reads(alloc, unworkable, "place 1 does not fit the timetable"));
+    let falls = EndlessRefusal::Falls { row: 1 };
+    assert!(rt; reads(alloc, falls, "due row 1 falls"));
+    let late = ForeverRefusal::Late {
+        transition,
+        number: 1,
+        due: 1,
+        least: 2,
+    };
+    assert!(rt; reads(alloc, late, "late transition 1 firing 1 due 1 least 2"));
 }

@@ -35,13 +35,19 @@ fn are_latest(alloc: Global, numbers: u32, dates: &[Date]) -> Result<bool, Fail>
 
 #[test]
 fn latest_dates_are_checked(rt: HostRuntime) -> Result<(), Fail> {
-    assert!(rt; are_latest(rt.alloc(), 3, &TOLD)?);
-    assert!(rt; !are_latest(rt.alloc(), 2, &TOLD)?);
-    let mut earlier = TOLD;
+    let (mut earlier, mut later) = (TOLD, TOLD);
     earlier[0] = Date::At(14);
-    assert!(rt; !are_latest(rt.alloc(), 3, &earlier)?);
-    let mut later = TOLD;
     later[9] = Date::At(32);
-    assert!(rt; !are_latest(rt.alloc(), 3, &later)?);
+    for (numbers, dates, is_right) in [
+        (3, TOLD, true),
+        (2, TOLD, false),
+        (3, earlier, false),
+        (3, later, false),
+    ] {
+        assert!(rt;
+            are_latest(rt.alloc(), numbers, &dates)? == is_right,
+            "{dates:?}"
+        );
+    }
     Ok(())
 }

@@ -1,15 +1,15 @@
 //! A settled form by rows of one's own: rows of a net by its own dates, and what they show.
 ghost use Rattle.std.specs.Prelude.{◌≡◌, ◌+◌, ◌<◌, IfOk};
 ghost use Rattle.teg_net.specs.Limits.{most_rows};
-ghost use Rattle.teg_dates.specs.PlaceOrder.{OrdersPlaces};
-ghost use Rattle.teg_dates.specs.KeptRows.{AreLeastRows};
-ghost use Rattle.teg_dates.specs.teg_model.Datings.{listed_releases, system_of};
+ghost use Rattle.date_rows.specs.PlaceOrder.{OrdersPlaces};
+ghost use Rattle.date_rows.specs.KeptRows.{AreLeastRows};
+ghost use Rattle.date_rows.specs.teg_model.Datings.{listed_releases, system_of};
 
+use date_rows::{NetInputs, PlaceOrder, Rows, nets_keep_bounds, nets_keep_short_bounds};
 use example_nets::LOOP;
 use std::alloc::Global;
 use std::test::Fail;
 use teg_check::check;
-use teg_dates::{NetInputs, PlaceOrder, Rows, nets_keep_bounds, nets_keep_short_bounds};
 use teg_net::{Net, OutOfMemory};
 use teg_reader::read_net;
 use teg_settle::{Repetition, own_releases, shown_form};

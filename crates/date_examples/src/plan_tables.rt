@@ -1,7 +1,5 @@
 //! Tables of latest dates that no inputs keep: they solve the backward equations, and only their
 //! starts tell. A line of three machines, of which the drill is down until 40 before its third job.
-ghost use Rattle.std.specs.Prelude.{◌≤◌, length};
-
 use dating_certificates::{check_latest, check_plan};
 use dioid::Date;
 use example_nets::SHOP;
@@ -83,9 +81,10 @@ const BELOW_ZERO: [Date; 12] = [
 ];
 
 // What a table is told: whether its dates are the latest ones, and whether they are a plan.
-fn told(alloc: Global, net: &[u8], due: &[u8], dates: &[Date]) -> Result<(bool, bool), Fail>
-    requires { length due.now ≤ 40 }
-{
+fn told(alloc: Global, net: &[u8], due: &[u8], dates: &[Date]) -> Result<(bool, bool), Fail> {
+    if 40 < due.len() {
+        return Ok((false, false));
+    }
     let net = read_net(alloc, net)?;
     let due = read_due(alloc, &net, due)?;
     let latest = check_latest(alloc, &net, &due, 3, dates)?;
@@ -93,15 +92,22 @@ fn told(alloc: Global, net: &[u8], due: &[u8], dates: &[Date]) -> Result<(bool, 
 }
 
 #[test]
-fn ready_dates_tell(rt: HostRuntime) -> Result<(), Fail> {
-    assert!(rt; told(rt.alloc(), BROKEN, b"paint,3,45\n", &HURRY)? == (true, false));
-    assert!(rt; told(rt.alloc(), BROKEN, b"paint,3,48\n", &MET)? == (true, true));
-    Ok(())
-}
-
-#[test]
-fn dates_below_zero_tell(rt: HostRuntime) -> Result<(), Fail> {
-    assert!(rt; told(rt.alloc(), SHOP, b"ship,2,25\ndrill,3,21\n", &FROM_ZERO)? == (true, true));
-    assert!(rt; told(rt.alloc(), SHOP, b"ship,2,24\ndrill,3,20\n", &BELOW_ZERO)? == (true, false));
+fn plans_are_told_from_tables(rt: HostRuntime) -> Result<(), Fail> {
+    for (net, due, dates, is_plan) in [
+        (BROKEN, b"paint,3,45\n".as_slice(), HURRY.as_slice(), false),
+        (BROKEN, b"paint,3,48\n", MET.as_slice(), true),
+        (SHOP, b"ship,2,25\ndrill,3,21\n", FROM_ZERO.as_slice(), true),
+        (
+            SHOP,
+            b"ship,2,24\ndrill,3,20\n",
+            BELOW_ZERO.as_slice(),
+            false,
+        ),
+    ] {
+        assert!(rt;
+            told(rt.alloc(), net, due, dates)? == (true, is_plan),
+            "{dates:?}"
+        );
+    }
     Ok(())
 }

@@ -3,6 +3,7 @@
 use dating_certificates::check_settled;
 use dioid::Date;
 use example_nets::KANBAN;
+use std::test::Fail;
 use teg_reader::read_net;
 
 const ROWS: [Date; 24] = [
@@ -33,18 +34,18 @@ const ROWS: [Date; 24] = [
 ];
 
 #[test]
-fn settled_rows_are_checked(rt: HostRuntime) {
-    let Ok(net) = read_net(rt.alloc(), KANBAN) else {
-        panic!(rt; "it is a net");
-    };
-    let answer = check_settled(rt.alloc(), &net, 4, 1, &ROWS, &[6, 6, 6]);
-    assert!(rt; matches!(answer, Ok(true)));
-    let sooner = check_settled(rt.alloc(), &net, 3, 1, &ROWS, &[6, 6, 6]);
-    assert!(rt; matches!(sooner, Ok(false)));
-    let slower = check_settled(rt.alloc(), &net, 4, 1, &ROWS, &[6, 6, 7]);
-    assert!(rt; matches!(slower, Ok(false)));
+fn settled_rows_are_checked(rt: HostRuntime) -> Result<(), Fail> {
+    let net = read_net(rt.alloc(), KANBAN)?;
     let mut other = ROWS;
     other[23] = Date::At(53);
-    let changed = check_settled(rt.alloc(), &net, 4, 1, &other, &[6, 6, 6]);
-    assert!(rt; matches!(changed, Ok(false)));
+    for (after, rows, step, is_right) in [
+        (4, ROWS, 6, true),
+        (3, ROWS, 6, false),
+        (4, ROWS, 7, false),
+        (4, other, 6, false),
+    ] {
+        let told = check_settled(rt.alloc(), &net, after, 1, &rows, &[6, 6, step])?;
+        assert!(rt; told == is_right, "{after} {step}");
+    }
+    Ok(())
 }

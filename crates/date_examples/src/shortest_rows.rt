@@ -32,9 +32,16 @@ fn told(alloc: Global, after: u64, period: u64, step: i128) -> Result<(bool, boo
 
 #[test]
 fn shortest_rows_are_checked(rt: HostRuntime) -> Result<(), Fail> {
-    assert!(rt; told(rt.alloc(), 0, 1, 5)? == (true, true));
-    assert!(rt; told(rt.alloc(), 1, 1, 5)? == (true, false));
-    assert!(rt; told(rt.alloc(), 0, 2, 10)? == (true, false));
-    assert!(rt; told(rt.alloc(), 0, 1, 6)? == (false, false));
+    for (after, period, step, wanted) in [
+        (0, 1, 5, (true, true)),
+        (1, 1, 5, (true, false)),
+        (0, 2, 10, (true, false)),
+        (0, 1, 6, (false, false)),
+    ] {
+        assert!(rt;
+            told(rt.alloc(), after, period, step)? == wanted,
+            "{after} {period}"
+        );
+    }
     Ok(())
 }

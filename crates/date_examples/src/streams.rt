@@ -2,7 +2,7 @@
 ghost use Rattle.std.specs.Prelude.{◌≡◌, ◌+◌, ◌<◌, length};
 ghost use Rattle.teg_net.specs.Limits.{greatest_firing_number};
 ghost use Rattle.teg_form.specs.StandardForms.{IsStandardFormOf};
-ghost use Rattle.teg_dates.specs.Streams.{IsStreamOf, rows_given};
+ghost use Rattle.date_rows.specs.Streams.{IsStreamOf, rows_given};
 
 use dioid::Date;
 use example_nets::LOOP;
@@ -44,6 +44,17 @@ fn two_rows(alloc: Global, net: &Net) -> Result<[(Date, Date); 2], Fail>
     Ok([first, second])
 }
 
+// The first row of such a net, of a stream without the form, and how many it then gave and keeps.
+fn first_row(alloc: Global, net: &Net) -> Result<(Date, Date, u64, u64), Fail>
+    requires two { length net.now.transitions ≡ 2 }
+{
+    let live = check(alloc, net)?;
+    let mut stream = Stream::of_live(alloc, net, &live)?;
+    let mut row = [Date::Early; 2];
+    stream.write_next(net, &mut row);
+    Ok((row[0], row[1], stream.number(), stream.kept()))
+}
+
 #[test]
 fn a_stream_gives_row_after_row(rt: HostRuntime) -> Result<(), Fail> {
     let first = (Date::At(0), Date::At(3));
@@ -52,6 +63,7 @@ fn a_stream_gives_row_after_row(rt: HostRuntime) -> Result<(), Fail> {
         let net = read_net(rt.alloc(), file)?;
         assert!(rt; net.transitions().len() == 2);
         assert!(rt; two_rows(rt.alloc(), &net)? == [first, second]);
+        assert!(rt; first_row(rt.alloc(), &net)? == (Date::At(0), Date::At(3), 1, 1));
     }
     Ok(())
 }

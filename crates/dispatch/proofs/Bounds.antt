@@ -10,11 +10,11 @@ use Rattle.teg_net.specs.Nets.{NetLists, IsNet}
 use Rattle.run_laws.specs.declared.fired.Fired.{Fired}
 use Rattle.run_laws.specs.Runs.{firing_date}
 use Rattle.dispatch.proofs.Runs.{firing_date_few}
-use Rattle.teg_dates.specs.KeptRows.{KeepsBounds}
-use Rattle.teg_dates.specs.teg_model.Datings.{at_input, extended_places, initial_date, listed_releases}
-use Rattle.teg_dates.specs.teg_model.DateBounds.{IsDateWithin}
-use Rattle.teg_dates.proofs.teg_model_proofs.Within.{within_more, net_is_bounded}
-use Rattle.teg_dates.proofs.teg_model_proofs.ListDates.{as_date_within, first_bound, listed_within}
+use Rattle.date_rows.specs.KeptRows.{KeepsBounds}
+use Rattle.date_rows.specs.teg_model.Datings.{at_input, extended_places, initial_date, listed_releases}
+use Rattle.date_rows.specs.teg_model.DateBounds.{IsDateWithin}
+use Rattle.date_rows.proofs.teg_model_proofs.Within.{within_more, net_is_bounded}
+use Rattle.date_rows.proofs.teg_model_proofs.ListDates.{as_date_within, first_bound, listed_within}
 use Rattle.state_laws.specs.NetsLeft.{count_in, system_after}
 
 later_within : (n : ℕ) (a b : Date) → IsDateWithin n a → IsDateWithin n b → IsDateWithin n (later_of a b)

@@ -1,22 +1,30 @@
 //! The earliest dates from here on, and what they miss.
-ghost use Rattle.std.specs.Prelude.{◌≡◌, ◌<◌, ◌≤◌, ◌^◌, All, Decides, IfOk, length};
+ghost use Rattle.std.specs.Prelude.{◌≡◌, ◌<◌, ◌≤◌, ◌^◌, All, IfOk, length};
+ghost use Rattle.std.specs.List.{filter};
 ghost use Rattle.teg_net.specs.Limits.{most_rows};
-ghost use Rattle.teg_dates.specs.KeptRows.{AreLeastRows};
+ghost use Rattle.date_rows.specs.KeptRows.{AreLeastRows};
 ghost use Rattle.teg_due.specs.RowRules.{IsDueOf};
 ghost use Rattle.state_laws.specs.NetsLeft.{system_after};
-ghost use Rattle.dispatch.specs.Outlooks.{AreMissed, IsMissed};
+ghost use Rattle.dispatch.specs.Outlooks.{is_after, is_missed};
 
 use crate::happened::Happened;
+use date_rows::{PlaceOrder, Rows};
 use dioid::Date;
 use run_laws::Fired;
 use std::alloc::{AllocError, Global};
 use teg_check::LiveNet;
-use teg_dates::{PlaceOrder, Rows};
 use teg_due::{Due, DueRow};
 use teg_net::OutOfMemory;
 
-/// The dates of the first `count` firings of each transition of a live net: those that happened, as
-/// the run tells them, and the earliest ones of the others from now on (chapter 2).
+/// The dates of the first `count` firings of each transition of a live net, in the user's unit: the
+/// least ones by which each place holds its tokens as long as it has to, no firing of the run comes
+/// before it happened, and no other one before now, nor at an input before its list says (chapter
+/// 2). A firing that happened sooner than the holding times allow is told at the date that they
+/// allow.
+///
+/// The dates of the run and now are at most 10^18. `OutOfMemory` comes only where no memory is
+/// found. A row takes time of order n + p for n transitions and p places, and for each transition a
+/// walk along the run.
 #[tactic(auto, using(crate::proofs::Bounds::keeps_bounds))]
 pub fn outlook(
     alloc: Global,
@@ -41,21 +49,30 @@ pub fn outlook(
     Ok(rows)
 }
 
-// Whether the table has the firing, and after its due date.
+// Whether the date is after this one.
+fn is_after(date: Date, due: u64) -> bool
+    ensures { result ≡ is_after date due }
+{
+    match date {
+        Date::Early => false,
+        Date::At(date) => i128::from(due) < date,
+        Date::Never => true,
+    }
+}
+
+// Whether the table has the firing of the row, and at a date after it is due.
 fn is_missed(rows: &Rows, row: DueRow) -> bool
     requires width { row.transition.index < rows.now.width }
     requires number { 1 ≤ row.number }
-    ensures { Decides result (IsMissed rows.now row) }
+    ensures { result ≡ is_missed rows.now row }
 {
     let number = u64::from(row.number);
-    if rows.count() < number {
-        return false;
-    }
-    let due = Date::At(i128::from(row.date));
-    rows.date(row.transition, number).later(due) != due
+    number <= rows.count() && is_after(rows.date(row.transition, number), row.date)
 }
 
-/// The due rows that are missed by the dates of these rows, as far as they go.
+/// The due rows, in their order, whose firing these rows tell at a later date than it is due; a
+/// firing past their last number is not told (chapter 5). `AllocError` comes only where no memory
+/// is found. It takes a step for each due row.
 pub fn missed(
     alloc: Global,
     held: &LiveNet,
@@ -64,13 +81,12 @@ pub fn missed(
 ) -> Result<Vec<DueRow>, AllocError>
     requires width { rows.now.width ≡ length held.now.transitions }
     requires due { IsDueOf held.now due.now.rows.items }
-    ensures { IfOk result (λ missed. AreMissed rows.now due.now.rows.items missed.items) }
+    ensures { IfOk result (λ missed. missed.items
+        ≡ filter (is_missed rows.now) due.now.rows.items) }
 {
-    let mut missed = Vec::new(alloc);
-    for row in due.rows.iter() {
-        if is_missed(rows, *row) {
-            missed.push(*row)?;
-        }
-    }
-    Ok(missed)
+    due.rows
+        .iter()
+        .copied()
+        .filter(|row| is_missed(rows, *row))
+        .collect(alloc)
 }

@@ -2,15 +2,18 @@
 ghost use Rattle.std.specs.Prelude.{◌≡◌, ◌≤◌};
 ghost use Rattle.run_laws.specs.Runs.{firing_date};
 
+use date_rows::Source;
 use dioid::Date;
 use run_laws::Fired;
-use teg_dates::Source;
 use teg_net::{Net, PlaceId, TransitionId};
 
-/// The firings so far, and the date that it is now.
+/// The firings so far and the date that it is now, in the user's unit, as a source of the releases
+/// from now on: those of `system_after`.
 #[derive(Clone, Copy, Debug, Drop)]
 pub struct Happened<'a> {
+    /// What happened, in its order.
     pub run: &'a [Fired],
+    /// No firing that has still to come is released before.
     pub now: u64,
 }
 
@@ -32,7 +35,7 @@ fn date_in(run: &[Fired], transition: TransitionId, number: u64) -> Option<u64>
 }
 
 impl Source for Happened<'_> {
-    ghost use Rattle.teg_dates.specs.teg_model.Datings.{initial_date};
+    ghost use Rattle.date_rows.specs.teg_model.Datings.{initial_date};
     ghost use Rattle.state_laws.specs.NetsLeft.{system_after};
 
     ghost initial = { λ s. initial_date };

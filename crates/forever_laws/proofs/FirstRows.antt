@@ -9,8 +9,8 @@ use Rattle.teg_net.specs.Circuits.{IsLive}
 use Rattle.teg_settle.specs.teg_model.Datings.{IsLeastUnder}
 use Rattle.due_laws.specs.MeetingDueDates.{inputs_at_zero}
 use Rattle.bound_laws.proofs.Unrolled.{unrolled}
-use Rattle.forever_laws.specs.declared.rows.EndlessRow.{EndlessRow}
-use Rattle.forever_laws.specs.EndlessRows.{IsEndlessRow}
+use Rattle.endless_due.specs.declared.row.EndlessRow.{EndlessRow}
+use Rattle.endless_due.specs.EndlessRows.{IsEndlessRow}
 use Rattle.forever_laws.specs.Late.{NoneLate, IsLeastLate, IsFirstLateRow}
 use Rattle.forever_laws.specs.EndlessDues.{EndlessMeetOrLate, EndlessLateExcludesMeet}
 use Rattle.forever_laws.proofs.GoingOn.{due_number}

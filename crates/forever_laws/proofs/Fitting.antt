@@ -25,8 +25,8 @@ use Rattle.teg_settle.proofs.teg_model_proofs.OfNet.{least_of, least_of_system, 
 use Rattle.due_laws.specs.MeetingDueDates.{inputs_at_zero}
 use Rattle.teg_settle.specs.settled_laws.SettledForms.{settled_length, row_of, step_of_form}
 use Rattle.teg_settle.specs.Transfers.{IsGreatestWalkTime}
-use Rattle.forever_laws.specs.declared.rows.EndlessRow.{EndlessRow}
-use Rattle.forever_laws.specs.EndlessRows.{IsEndlessRow, most_endless_dates}
+use Rattle.endless_due.specs.declared.row.EndlessRow.{EndlessRow}
+use Rattle.endless_due.specs.EndlessRows.{IsEndlessRow, most_endless_dates}
 use Rattle.forever_laws.specs.SeriesColumns.{listed_dates}
 use Rattle.forever_laws.specs.EndlessDues.{WalkSeriesFit, DueSeriesFit}
 use Rattle.forever_laws.proofs.GoingOn.{due_number, due_slow}

@@ -11,8 +11,8 @@ use Rattle.teg_net.specs.Inputs.{laps_past, moved_by}
 use Rattle.teg_net.proofs.InputDates.{one_round, more_rounds, date_le}
 use Rattle.teg_settle.specs.teg_model.Datings.{as_date}
 use Rattle.teg_settle.proofs.Listing.{dates_climb}
-use Rattle.forever_laws.specs.declared.rows.EndlessRow.{EndlessRow}
-use Rattle.forever_laws.specs.EndlessRows.{again_of_row, row_due, IsEndlessRow}
+use Rattle.endless_due.specs.declared.row.EndlessRow.{EndlessRow}
+use Rattle.endless_due.specs.EndlessRows.{again_of_row, row_due, IsEndlessRow}
 use Rattle.forever_laws.specs.EndlessDues.{RowsGoOn}
 
 abbrev number_in : Option ℕ → ℕ

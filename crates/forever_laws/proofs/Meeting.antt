@@ -13,8 +13,8 @@ use Rattle.teg_net.specs.Circuits.{place_at}
 use Rattle.teg_net.specs.Walks.{Walks}
 use Rattle.teg_settle.proofs.teg_model_proofs.OfNet.{only_least}
 use Rattle.due_laws.specs.MeetingDueDates.{inputs_at_zero}
-use Rattle.forever_laws.specs.declared.rows.EndlessRow.{EndlessRow}
-use Rattle.forever_laws.specs.EndlessRows.{row_due, due_by, row_for, due_on, IsEndlessRow, IsEndlessOf}
+use Rattle.endless_due.specs.declared.row.EndlessRow.{EndlessRow}
+use Rattle.endless_due.specs.EndlessRows.{row_due, due_by, row_for, due_on, IsEndlessRow, IsEndlessOf}
 use Rattle.forever_laws.specs.Late.{NoneLate}
 use Rattle.forever_laws.specs.EndlessDues.{ZeroMeetsWhereNoneLate, FreeAtEachNumber}
 use Rattle.forever_laws.proofs.GoingOn.{due_number, due_is, due_only}

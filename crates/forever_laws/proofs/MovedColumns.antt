@@ -25,8 +25,8 @@ use Rattle.teg_settle.specs.teg_model.DateBounds.{IsDateWithin}
 use Rattle.teg_net.specs.Nets.{NetLists, IsNet}
 use Rattle.teg_net.specs.Walks.{walk_time}
 use Rattle.due_laws.specs.MeetingDueDates.{InputsMeet, inputs_at_zero}
-use Rattle.forever_laws.specs.declared.rows.EndlessRow.{EndlessRow}
-use Rattle.forever_laws.specs.EndlessRows.{IsEndlessOf, IsEndlessRow, due_on}
+use Rattle.endless_due.specs.declared.row.EndlessRow.{EndlessRow}
+use Rattle.endless_due.specs.EndlessRows.{IsEndlessOf, IsEndlessRow, due_on}
 use Rattle.forever_laws.specs.SeriesColumns.{AreSeriesColumns, IsDueSeries, IsWalkSeries, gain_residuals, residual_over}
 use Rattle.forever_laws.proofs.Fitting.{due_low, small_numbers}
 use Rattle.forever_laws.proofs.GoingOn.{due_number}

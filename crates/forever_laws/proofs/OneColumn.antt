@@ -17,8 +17,8 @@ use Rattle.teg_settle.specs.settled_laws.SettledForms.{SettledForm, row_of, step
 use Rattle.teg_settle.specs.WalkTimes.{WalkTimesSettle}
 use Rattle.teg_settle.specs.Transfers.{IsGreatestWalkTime, IsTransferOf}
 use Rattle.teg_settle.specs.periodic_laws.Equations.{gains}
-use Rattle.forever_laws.specs.declared.rows.EndlessRow.{EndlessRow}
-use Rattle.forever_laws.specs.EndlessRows.{IsEndlessRow}
+use Rattle.endless_due.specs.declared.row.EndlessRow.{EndlessRow}
+use Rattle.endless_due.specs.EndlessRows.{IsEndlessRow}
 use Rattle.forever_laws.specs.SeriesColumns.{IsWalkSeries, due_date_at, IsDueSeries, gain_residuals, IsSeriesList, listed_dates}
 use Rattle.forever_laws.specs.ColumnLaws.{ColumnsExist, ColumnsAreOne, RowsFitAlike, TransfersHaveOneLength}
 use Rattle.forever_laws.proofs.Residuals.{GotRow, got_row}

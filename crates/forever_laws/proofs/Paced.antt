@@ -18,8 +18,8 @@ use Rattle.teg_settle.proofs.teg_loops_proofs.Again.{round_in}
 use Rattle.teg_settle.proofs.teg_loops_proofs.Taking.{Keeps, closed_keeps}
 use Rattle.due_laws.specs.MeetingDueDates.{inputs_at_zero}
 use Rattle.bound_laws.proofs.Unrolled.{unrolled}
-use Rattle.forever_laws.specs.declared.rows.EndlessRow.{EndlessRow}
-use Rattle.forever_laws.specs.EndlessRows.{IsEndlessRow}
+use Rattle.endless_due.specs.declared.row.EndlessRow.{EndlessRow}
+use Rattle.endless_due.specs.EndlessRows.{IsEndlessRow}
 use Rattle.forever_laws.specs.PacedRows.{KeepsPace, paced_bound, PacedLateIsSoon, NoRowsAreMet}
 use Rattle.forever_laws.proofs.GoingOn.{due_number, due_again}
 use Rattle.forever_laws.proofs.Late.{ReachedFrom, IsLateBefore, taken_out}

@@ -32,8 +32,8 @@ use Rattle.teg_settle.specs.Transfers.{IsGreatestWalkTime}
 use Rattle.due_laws.specs.MeetingDueDates.{InputsMeet, inputs_at_zero}
 use Rattle.due_laws.specs.LatestDates.{IsDateToDue, IsLatestDate}
 use Rattle.due_laws.proofs.LatestDates.{delayed_back, feasible_keeps, free_without_walks, walk_ends_in}
-use Rattle.forever_laws.specs.declared.rows.EndlessRow.{EndlessRow}
-use Rattle.forever_laws.specs.EndlessRows.{row_due, due_on, IsEndlessOf}
+use Rattle.endless_due.specs.declared.row.EndlessRow.{EndlessRow}
+use Rattle.endless_due.specs.EndlessRows.{row_due, due_on, IsEndlessOf}
 use Rattle.forever_laws.specs.SeriesColumns.{IsWalkSeries, IsDueSeries, AreSeriesColumns, residual_over}
 use Rattle.forever_laws.specs.EndlessDues.{ResidualsAreLatestDates, ResidualsAreFreeOrNumbers}
 use Rattle.forever_laws.proofs.GoingOn.{due_number, due_is}

@@ -18,7 +18,7 @@ use Rattle.teg_settle.specs.teg_model.Datings.{as_date}
 use Rattle.teg_settle.proofs.teg_model_proofs.WalkSteps.{walk_append, walk_time-append}
 use Rattle.teg_settle.specs.settled_laws.SettledForms.{settled_length, row_of, step_of_form, StandsFor}
 use Rattle.teg_settle.specs.Transfers.{IsGreatestWalkTime, AreWalkTimes}
-use Rattle.forever_laws.specs.declared.rows.EndlessRow.{EndlessRow}
+use Rattle.endless_due.specs.declared.row.EndlessRow.{EndlessRow}
 use Rattle.forever_laws.specs.SeriesColumns.{due_date_at, listed_dates, IsSeriesList}
 use Rattle.forever_laws.specs.EndlessDues.{TransfersAreSeries, DuesAreSeries}
 use Rattle.forever_laws.proofs.GoingOn.{due_number, due_is, due_listed, due_again, due_climbs}

@@ -20,8 +20,8 @@ use Rattle.bound_laws.proofs.Unrolled.{unrolled, same_sums, IsWait, kinds}
 use Rattle.bound_laws.proofs.WalkTimes.{number_of}
 use Rattle.teg_settle.specs.teg_loops.Loops.{EndsBelow}
 use Rattle.teg_settle.proofs.teg_loops_proofs.Taking.{sum_most}
-use Rattle.forever_laws.specs.declared.rows.EndlessRow.{EndlessRow}
-use Rattle.forever_laws.specs.EndlessRows.{IsEndlessRow}
+use Rattle.endless_due.specs.declared.row.EndlessRow.{EndlessRow}
+use Rattle.endless_due.specs.EndlessRows.{IsEndlessRow}
 use Rattle.forever_laws.specs.Late.{IsLateAt}
 use Rattle.forever_laws.specs.EndlessDues.{LateNumbersHaveLeast, LateIsSoon, late_date_bound, late_number_bound}
 use Rattle.forever_laws.proofs.GoingOn.{due_number, due_is, due_only, due_again, due_slow}

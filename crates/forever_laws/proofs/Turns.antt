@@ -14,8 +14,8 @@ use Rattle.teg_settle.proofs.teg_model_proofs.Tokens.{dates_climb}
 use Rattle.teg_settle.specs.settled_laws.SettledForms.{step_of_form}
 use Rattle.due_laws.specs.MeetingDueDates.{inputs_at_zero}
 use Rattle.bound_laws.proofs.WalkTimes.{number_of}
-use Rattle.forever_laws.specs.declared.rows.EndlessRow.{EndlessRow}
-use Rattle.forever_laws.specs.EndlessRows.{IsEndlessRow}
+use Rattle.endless_due.specs.declared.row.EndlessRow.{EndlessRow}
+use Rattle.endless_due.specs.EndlessRows.{IsEndlessRow}
 use Rattle.forever_laws.specs.Late.{IsLateAt, NoneLateTo, NoneLate, IsLeastLate}
 use Rattle.forever_laws.specs.LateSearches.{IsCommonPeriodOf, turns_to, IsSoonest}
 use Rattle.forever_laws.specs.EndlessDues.{TurnsTellLate, StepsAreFromZero}

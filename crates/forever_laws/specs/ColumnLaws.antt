@@ -7,8 +7,8 @@ use Rattle.teg_net.specs.Circuits.{IsLive}
 use Rattle.teg_settle.specs.settled_laws.SettledForms.{SettledForm, settled_length}
 use Rattle.teg_settle.specs.Transfers.{IsTransferOf, TransferSettlesPast}
 use Rattle.teg_settle.specs.periodic_laws.Equations.{gains}
-use Rattle.forever_laws.specs.declared.rows.EndlessRow.{EndlessRow}
-use Rattle.forever_laws.specs.EndlessRows.{IsEndlessOf}
+use Rattle.endless_due.specs.declared.row.EndlessRow.{EndlessRow}
+use Rattle.endless_due.specs.EndlessRows.{IsEndlessOf}
 use Rattle.forever_laws.specs.SeriesColumns.{AreSeriesColumns, gain_residuals}
 
 -- in a live net each input has columns

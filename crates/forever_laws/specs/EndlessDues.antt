@@ -13,9 +13,9 @@ use Rattle.teg_settle.specs.Transfers.{IsGreatestWalkTime, IsTransferOf}
 use Rattle.due_laws.specs.MeetingDueDates.{InputsMeet, AreLatestInputs, inputs_at_zero}
 use Rattle.due_laws.specs.LatestDates.{IsLatestDate}
 use Rattle.due_laws.specs.LatestInputs.{LeadsToNoDue}
-use Rattle.forever_laws.specs.declared.rows.EndlessRow.{EndlessRow}
+use Rattle.endless_due.specs.declared.row.EndlessRow.{EndlessRow}
 use Rattle.teg_net.specs.Inputs.{moved_by}
-use Rattle.forever_laws.specs.EndlessRows.{due_on, row_due, IsEndlessRow, IsEndlessOf}
+use Rattle.endless_due.specs.EndlessRows.{due_on, row_due, IsEndlessRow, IsEndlessOf}
 use Rattle.forever_laws.specs.Late.{IsLateAt, NoneLateTo, NoneLate, IsLeastLate, IsFirstLateRow}
 use Rattle.forever_laws.specs.LateSearches.{IsCommonPeriodOf, turns_to, IsSoonest}
 use Rattle.forever_laws.specs.SeriesColumns.{due_date_at, AreSeriesColumns, residual_over, IsWalkSeries, IsDueSeries, IsSeriesList, listed_dates}

@@ -3,8 +3,8 @@ use Rattle.std.specs.Prelude.{ℕ, pos, ◌+◌, ◌-◌, ◌*◌, ◌/◌, ◌<
 use Rattle.teg_settle.specs.dioid.declared.dates.Date.{Date}
 use Rattle.teg_settle.specs.dioid.declared.dates.Date.TheVariants.{At}
 use Rattle.teg_settle.specs.dioid.Dates.{move}
-use Rattle.forever_laws.specs.declared.rows.EndlessRow.{EndlessRow}
-use Rattle.forever_laws.specs.EndlessRows.{row_due}
+use Rattle.endless_due.specs.declared.row.EndlessRow.{EndlessRow}
+use Rattle.endless_due.specs.EndlessRows.{row_due}
 
 -- past number `past` each turn of `turn` firings adds `rise` to the dates of the row's transition and `fall` to the due dates of the row
 pub record IsCommonPeriodOf (x : ℕ → ℕ → Date) (r : EndlessRow) (past turn rise fall : ℕ) : Type 0 where

@@ -1,4 +1,3 @@
-pub mod EndlessRows
 pub mod Late
 pub mod LateSearches
 pub mod PacedRows
@@ -16,4 +15,5 @@ pub use Rattle.teg_settle.specs.teg_model as teg_model
 pub use Rattle.teg_settle.specs.settled_laws as settled_laws
 pub use Rattle.teg_settle.specs.periodic_laws as periodic_laws
 pub use Rattle.due_laws.specs as due_laws
+pub use Rattle.endless_due.specs as endless_due
 pub use Rattle.teg_settle.specs as teg_settle

@@ -6,8 +6,8 @@ use Rattle.teg_net.specs.Nets.{NetLists, IsNet}
 use Rattle.teg_net.specs.Circuits.{IsPathBetween, IsLive, time_of, tokens_of}
 use Rattle.teg_settle.specs.teg_model.Datings.{IsLeastUnder}
 use Rattle.due_laws.specs.MeetingDueDates.{InputsMeet, inputs_at_zero}
-use Rattle.forever_laws.specs.declared.rows.EndlessRow.{EndlessRow}
-use Rattle.forever_laws.specs.EndlessRows.{IsEndlessRow, due_on}
+use Rattle.endless_due.specs.declared.row.EndlessRow.{EndlessRow}
+use Rattle.endless_due.specs.EndlessRows.{IsEndlessRow, due_on}
 use Rattle.forever_laws.specs.Late.{NoneLateTo, NoneLate}
 
 -- no closed path from which one leads to the row's transition has a greater ratio of time to tokens than the row of gap to firings

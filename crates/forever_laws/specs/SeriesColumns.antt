@@ -12,8 +12,8 @@ use Rattle.teg_net.specs.Nets.{NetLists}
 use Rattle.teg_settle.specs.teg_model.Datings.{as_date}
 use Rattle.teg_settle.specs.Transfers.{IsGreatestWalkTime}
 use Rattle.teg_settle.specs.periodic_laws.Equations.{gains}
-use Rattle.forever_laws.specs.declared.rows.EndlessRow.{EndlessRow}
-use Rattle.forever_laws.specs.EndlessRows.{row_due}
+use Rattle.endless_due.specs.declared.row.EndlessRow.{EndlessRow}
+use Rattle.endless_due.specs.EndlessRows.{row_due}
 
 -- the values are the greatest times of walks from the first firing of the input, Early where there is none
 pub record IsWalkSeries (net : NetLists) (input t : ℕ) (h : Form) : Type 0 where

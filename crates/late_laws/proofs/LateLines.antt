@@ -9,8 +9,8 @@ use Rattle.growth_laws.specs.DateLines.{line_at, IsBelowLine}
 use Rattle.growth_laws.proofs.teg_model_proofs.OfNet.{net_ends}
 use Rattle.growth_laws.proofs.DateLines.{bound_dates}
 use Rattle.forever_laws.specs.due_laws.MeetingDueDates.{inputs_at_zero}
-use Rattle.forever_laws.specs.declared.rows.EndlessRow.{EndlessRow}
-use Rattle.forever_laws.specs.EndlessRows.{IsEndlessRow}
+use Rattle.endless_due.specs.declared.row.EndlessRow.{EndlessRow}
+use Rattle.endless_due.specs.EndlessRows.{IsEndlessRow}
 use Rattle.forever_laws.specs.Late.{IsLateAt}
 use Rattle.late_laws.specs.LateLines.{IsLineUnderDues, NoneLatePastLine, DuesPassLine}
 use Rattle.forever_laws.proofs.FirstLate.{on_by}

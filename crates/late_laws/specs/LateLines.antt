@@ -6,8 +6,8 @@ use Rattle.forever_laws.specs.teg_net.Circuits.{IsLive}
 use Rattle.forever_laws.specs.teg_model.Datings.{IsLeastUnder}
 use Rattle.growth_laws.specs.DateLines.{line_at, ArePotentialsInto, AreStartsBelow}
 use Rattle.forever_laws.specs.due_laws.MeetingDueDates.{inputs_at_zero}
-use Rattle.forever_laws.specs.declared.rows.EndlessRow.{EndlessRow}
-use Rattle.forever_laws.specs.EndlessRows.{row_due, IsEndlessRow}
+use Rattle.endless_due.specs.declared.row.EndlessRow.{EndlessRow}
+use Rattle.endless_due.specs.EndlessRows.{row_due, IsEndlessRow}
 use Rattle.forever_laws.specs.Late.{IsLateAt, NoneLateTo, NoneLate}
 
 -- past number `last` the due dates go on as the row says and rise no less than the line, which is under them for one round

@@ -6,8 +6,8 @@ use Rattle.forever_laws.specs.teg_net.Nets.{NetLists, IsNet}
 use Rattle.forever_laws.specs.teg_net.Circuits.{IsPathBetween, IsLive, time_of, tokens_of}
 use Rattle.forever_laws.specs.teg_model.Datings.{IsLeastUnder}
 use Rattle.forever_laws.specs.due_laws.MeetingDueDates.{inputs_at_zero}
-use Rattle.forever_laws.specs.declared.rows.EndlessRow.{EndlessRow}
-use Rattle.forever_laws.specs.EndlessRows.{IsEndlessRow}
+use Rattle.endless_due.specs.declared.row.EndlessRow.{EndlessRow}
+use Rattle.endless_due.specs.EndlessRows.{IsEndlessRow}
 use Rattle.forever_laws.specs.Late.{IsLateAt}
 
 -- with all inputs at 0, where a path leads from a circuit to the row's transition, and the circuit has a greater ratio of time to

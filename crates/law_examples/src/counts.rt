@@ -2,7 +2,7 @@
 ghost use Rattle.std.specs.Prelude.{ℕ, ℤ, Bool, IsTrue, ◌*◌, ◌<◌, ◌≤◌, ◌≡◌, ◌↔◌, List, Option, Some, length, count_by, nat_le};
 ghost use Rattle.counter_laws.specs.CounterEquations.{AreCounted};
 ghost use Rattle.counter_laws.specs.Counters.{AreCounters, IsUpTo, IsUpToLeast};
-ghost use Rattle.forever_laws.specs.EndlessRows.{IsEndlessRow};
+ghost use Rattle.endless_due.specs.EndlessRows.{IsEndlessRow};
 ghost use Rattle.forever_laws.specs.Late.{IsLateAt};
 ghost use Rattle.game_laws.specs.DatesByTheGame.{IsEarliestOfRuns};
 ghost use Rattle.game_laws.specs.EarliestRunsExist.{IsNoLaterUpTo, IsWholeUpTo};
@@ -20,7 +20,7 @@ ghost use Rattle.teg_net.specs.Circuits.{time_of, tokens_of, IsPathBetween};
 ghost use Rattle.teg_replay.specs.Games.{IsGameOf};
 
 use counter_laws::{counters_count_firings, counters_exist, counters_solve_min_plus_equations};
-use forever_laws::EndlessRow;
+use endless_due::EndlessRow;
 use game_laws::{
     earliest_runs_are_first, earliest_runs_are_whole, earliest_runs_exist,
     legal_runs_reach_least_dates,

@@ -17,6 +17,8 @@ mod chapters_plans;
 #[cfg(test)]
 mod chapters_series;
 #[cfg(test)]
+mod chapters_states;
+#[cfg(test)]
 mod held_nets;
 #[cfg(test)]
 mod lines_alone;

@@ -21,19 +21,25 @@ fn parts_are_those_of_one_net(rt: HostRuntime) -> Result<(), Fail> {
     let path = read_net(rt.alloc(), PATH)?;
     let parts = split(rt.alloc(), &ring)?;
     assert!(rt; parts.count() == 1);
+    for part in 0..parts.count() {
+        assert!(rt; parts.has_circuit(part));
+    }
     assert!(rt; are_parts(rt.alloc(), &ring, &parts)?);
     assert!(rt; !are_parts(rt.alloc(), &path, &parts)?);
     Ok(())
 }
 
 #[test]
-fn targets_keep_their_limits(rt: HostRuntime) -> Result<(), Fail> {
-    assert!(rt; is_target(&Ratio::of(0, 1)));
-    assert!(rt; is_target(&Ratio::of(1_000_000_000_000, 1)));
-    assert!(rt; !is_target(&Ratio::of(1_000_000_000_001, 1)));
-    assert!(rt; is_target(&Ratio::of(1, 1_000_000)));
-    assert!(rt; !is_target(&Ratio::of(1, 1_000_001)));
-    Ok(())
+fn targets_keep_their_limits(rt: HostRuntime) {
+    for (time, tokens, is_right) in [
+        (0, 1, true),
+        (1_000_000_000_000, 1, true),
+        (1_000_000_000_001, 1, false),
+        (1, 1_000_000, true),
+        (1, 1_000_001, false),
+    ] {
+        assert!(rt; is_target(&Ratio::of(time, tokens)) == is_right);
+    }
 }
 
 #[test]
@@ -42,6 +48,7 @@ fn a_form_is_that_of_its_net(rt: HostRuntime) -> Result<(), Fail> {
     let ring = LiveNet::new(alloc, read_net(alloc, LOOP)?)?;
     let path = LiveNet::new(alloc, read_net(alloc, PATH)?)?;
     let form = standard_form(alloc, ring.net(), ring.live())?;
+    assert!(rt; form.stars().len() == 1 && form.entries().len() == 2);
     assert!(rt; is_standard_form_of(alloc, ring.net(), ring.live(), &form)?);
     assert!(rt; !is_standard_form_of(alloc, path.net(), path.live(), &form)?);
     Ok(())

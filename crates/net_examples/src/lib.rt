@@ -1,6 +1,7 @@
-//! Examples of nets: files and what each is answered, lists of a program that break a rule, answers
-//! that were worked out by hand, conditions of calls, and what shows a slack. The crate has tests
-//! alone: they show what no contract says, that memory is found, also at the limits.
+//! Examples of nets: files at their limits, lists of a program that break a rule, answers that were
+//! worked out by hand, conditions of calls, and slacks with what shows them. The crate has tests
+//! alone: they show what no contract says, that memory is found, also at the limits. What a file is
+//! answered is told by the rows of `tools/rows`.
 #![tactic(auto)]
 
 #[cfg(test)]

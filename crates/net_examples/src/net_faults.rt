@@ -7,7 +7,7 @@ use teg_net::{
     Transition, TransitionId,
 };
 
-// The line of the fault of these lists, none where they are a net.
+// The fault of these lists, none where they are a net.
 fn fault(
     transitions: Vec<Transition>,
     places: Vec<Place>,
@@ -16,60 +16,31 @@ fn fault(
     Net::checked(transitions, places, inputs).err()
 }
 
-// So many transitions of one name.
-fn transitions_of_one_name(alloc: Global, count: u32) -> Result<Vec<Transition>, Fail> {
+// The fault of so many transitions of one name, and of so many places of one name.
+fn fault_of_names(alloc: Global, transitions: u32, places: u32) -> Result<Option<NetFault>, Fail> {
     let mut made = Vec::new(alloc);
-    for _ in 0..count {
+    for _ in 0..transitions {
         made.push(transition(alloc, "a", Role::Internal)?)?;
     }
-    Ok(made)
-}
-
-// So many places of one name.
-fn places_of_one_name(alloc: Global, count: u32) -> Result<Vec<Place>, Fail> {
-    let mut made = Vec::new(alloc);
-    for _ in 0..count {
-        made.push(place(alloc, "p", 0, 1)?)?;
+    let mut between = Vec::new(alloc);
+    for _ in 0..places {
+        between.push(place(alloc, "p", 0, 0)?)?;
     }
-    Ok(made)
+    Ok(fault(made, between, Vec::new(alloc)))
 }
 
 #[test]
-fn transitions_are_counted_and_named_once(rt: HostRuntime) -> Result<(), Fail> {
-    let alloc = rt.alloc();
-    for (count, expected) in [
-        (0, NetFault::NoTransition),
-        (401, NetFault::ManyTransitions),
-        (400, NetFault::SameTransition(TransitionId::new(1))),
+fn entries_are_counted_and_named_once(rt: HostRuntime) -> Result<(), Fail> {
+    for (transitions, places, expected) in [
+        (0, 0, NetFault::NoTransition),
+        (401, 0, NetFault::ManyTransitions),
+        (400, 0, NetFault::SameTransition(TransitionId::new(1))),
+        (1, 4_001, NetFault::ManyPlaces),
+        (1, 4_000, NetFault::SamePlace(PlaceId::new(1))),
     ] {
-        let lists = transitions_of_one_name(alloc, count)?;
-        let told = fault(lists, Vec::new(alloc), Vec::new(alloc));
-        assert!(rt; told == Some(expected), "{count} transitions");
+        let told = fault_of_names(rt.alloc(), transitions, places)?;
+        assert!(rt; told == Some(expected), "{transitions} {places}");
     }
-    Ok(())
-}
-
-#[test]
-fn places_are_counted_and_named_once(rt: HostRuntime) -> Result<(), Fail> {
-    let alloc = rt.alloc();
-    for (count, expected) in [
-        (4_001, NetFault::ManyPlaces),
-        (4_000, NetFault::SamePlace(PlaceId::new(1))),
-    ] {
-        let places = places_of_one_name(alloc, count)?;
-        let told = fault(transitions(alloc)?, places, Vec::new(alloc));
-        assert!(rt; told == Some(expected), "{count} places");
-    }
-    Ok(())
-}
-
-#[test]
-fn a_name_may_come_again_later(rt: HostRuntime) -> Result<(), Fail> {
-    let alloc = rt.alloc();
-    let mut lists = transitions(alloc)?;
-    lists.push(transition(alloc, "in", Role::Internal)?)?;
-    let told = fault(lists, Vec::new(alloc), Vec::new(alloc));
-    assert!(rt; told == Some(NetFault::SameTransition(TransitionId::new(2))));
     Ok(())
 }
 
@@ -130,33 +101,6 @@ fn fault_of_list(
     Ok(fault(transitions(alloc)?, Vec::new(alloc), inputs))
 }
 
-#[test]
-fn input_lists_are_tested(rt: HostRuntime) -> Result<(), Fail> {
-    let many = vec![in rt.alloc(); 5u64; 100_001]?;
-    for (number, dates, onward, expected) in [
-        (1, [].as_slice(), None, InputFault::NoInput),
-        (0, many.as_slice(), None, InputFault::ManyDates),
-        (0, &[1_000_000_000_001], None, InputFault::LateDate),
-        (0, &[5, 4], None, InputFault::FallingDates),
-        (0, &[1, 9], Some((0, 1)), InputFault::EveryZero),
-        (0, &[1, 9], Some((1_001, 1)), InputFault::GreatEvery),
-        (
-            0,
-            &[1, 9],
-            Some((2, 1_000_000_000_001)),
-            InputFault::GreatGap,
-        ),
-        (0, &[1, 9], Some((3, 9)), InputFault::FewDates),
-        (0, &[1, 9], Some((2, 7)), InputFault::EarlyNext),
-    ] {
-        let told = fault_of_list(rt.alloc(), number, dates, onward)?;
-        let wanted = NetFault::BadInput(0, expected);
-        assert!(rt; told == Some(wanted), "{expected:?}");
-    }
-    assert!(rt; fault_of_list(rt.alloc(), 0, &[1, 9], Some((2, 8)))?.is_none());
-    Ok(())
-}
-
 // A list without dates of the first transition.
 fn empty_list(alloc: Global) -> InputList {
     InputList {
@@ -166,12 +110,45 @@ fn empty_list(alloc: Global) -> InputList {
     }
 }
 
-#[test]
-fn two_lists_of_an_input_are_refused(rt: HostRuntime) -> Result<(), Fail> {
-    let alloc = rt.alloc();
+// The faults of a third transition with the name of the first, and of two lists of one input.
+fn faults_of_repeats(alloc: Global) -> Result<(Option<NetFault>, Option<NetFault>), Fail> {
+    let mut lists = transitions(alloc)?;
+    lists.push(transition(alloc, "in", Role::Internal)?)?;
+    let name = fault(lists, Vec::new(alloc), Vec::new(alloc));
     let twice = vec![in alloc; empty_list(alloc), empty_list(alloc)]?;
-    let told = fault(transitions(alloc)?, Vec::new(alloc), twice);
-    assert!(rt; told == Some(NetFault::SameInput(1)));
+    Ok((name, fault(transitions(alloc)?, Vec::new(alloc), twice)))
+}
+
+#[test]
+fn input_lists_are_tested(rt: HostRuntime) -> Result<(), Fail> {
+    let many = vec![in rt.alloc(); 5u64; 100_001]?;
+    for (number, dates, onward, expected) in [
+        (1, [].as_slice(), None, Some(InputFault::NoInput)),
+        (0, many.as_slice(), None, Some(InputFault::ManyDates)),
+        (0, &[1_000_000_000_001], None, Some(InputFault::LateDate)),
+        (0, &[5, 4], None, Some(InputFault::FallingDates)),
+        (0, &[1, 9], Some((0, 1)), Some(InputFault::EveryZero)),
+        (0, &[1, 9], Some((1_001, 1)), Some(InputFault::GreatEvery)),
+        (
+            0,
+            &[1, 9],
+            Some((2, 1_000_000_000_001)),
+            Some(InputFault::GreatGap),
+        ),
+        (0, &[1, 9], Some((3, 9)), Some(InputFault::FewDates)),
+        (0, &[1, 9], Some((2, 7)), Some(InputFault::EarlyNext)),
+        (0, &[1, 9], Some((2, 8)), None),
+    ] {
+        let told = fault_of_list(rt.alloc(), number, dates, onward)?;
+        let wanted = match expected {
+            Some(why) => Some(NetFault::BadInput(0, why)),
+            None => None,
+        };
+        assert!(rt; told == wanted, "{expected:?}");
+    }
+    let (name, twice) = faults_of_repeats(rt.alloc())?;
+    assert!(rt; name == Some(NetFault::SameTransition(TransitionId::new(2))));
+    assert!(rt; twice == Some(NetFault::SameInput(1)));
     Ok(())
 }
 

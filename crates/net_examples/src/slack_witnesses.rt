@@ -6,7 +6,7 @@ use std::alloc::Global;
 use std::test::Fail;
 use teg_certificates::{RiseWitness, check_cycle, shows_critical, shows_no_circuit, shows_rise};
 use teg_check::LiveNet;
-use teg_critical::{SlackWitness, slack_witness};
+use teg_critical::{Slack, SlackWitness, critical, slack_witness};
 use teg_cycle::cycle;
 use teg_net::{Circuit, CycleAnswer, Net, OutOfMemory, PlaceId};
 use teg_parts::split;
@@ -61,9 +61,10 @@ fn drill_rise(alloc: Global, by: u64, potentials: &[i128]) -> Result<RiseWitness
 }
 
 #[test]
-fn a_critical_place_is_shown(rt: HostRuntime) -> Result<(), Fail> {
+fn slacks_are_shown(rt: HostRuntime) -> Result<(), Fail> {
     let (held, answer) = line(rt.alloc())?;
-    assert!(rt; check_cycle(held.net(), &answer));
+    let net = held.net();
+    assert!(rt; check_cycle(net, &answer));
     for (place, circuit, is_right) in [
         (3, [3, 5].as_slice(), true),
         (5, &[3, 5], true),
@@ -71,15 +72,9 @@ fn a_critical_place_is_shown(rt: HostRuntime) -> Result<(), Fail> {
         (1, &[1], false),
     ] {
         let places = places_of(rt.alloc(), circuit)?;
-        let is_shown = shows_critical(held.net(), &answer, PlaceId::new(place), &places);
+        let is_shown = shows_critical(net, &answer, PlaceId::new(place), &places);
         assert!(rt; is_shown == is_right, "place {place}");
     }
-    Ok(())
-}
-
-#[test]
-fn a_rise_is_shown(rt: HostRuntime) -> Result<(), Fail> {
-    let (held, answer) = line(rt.alloc())?;
     for (place, by, drill, is_right) in [
         (1, 1, 0, true),
         (0, 1, 0, false),
@@ -88,22 +83,16 @@ fn a_rise_is_shown(rt: HostRuntime) -> Result<(), Fail> {
         (1, 1, 1, false),
     ] {
         let rise = drill_rise(rt.alloc(), by, &[-16, drill, 8, 9])?;
-        let is_shown = shows_rise(held.net(), &answer, PlaceId::new(place), &rise);
+        let is_shown = shows_rise(net, &answer, PlaceId::new(place), &rise);
         assert!(rt; is_shown == is_right, "place {place} by {by}");
     }
-    Ok(())
-}
-
-#[test]
-fn that_no_circuit_passes_is_shown(rt: HostRuntime) -> Result<(), Fail> {
-    let (held, answer) = line(rt.alloc())?;
     for (numbers, place, is_right) in [
         (answer.part_of.as_slice(), 6, true),
         (answer.part_of.as_slice(), 2, false),
         (&[0, 0, 1, 1], 6, false),
         (answer.part_of.as_slice(), 7, false),
     ] {
-        let is_shown = shows_no_circuit(held.net(), numbers, PlaceId::new(place));
+        let is_shown = shows_no_circuit(net, numbers, PlaceId::new(place));
         assert!(rt; is_shown == is_right, "place {place}");
     }
     Ok(())
@@ -122,15 +111,40 @@ fn is_shown(alloc: Global, net: &Net, answer: &CycleAnswer, name: &str) -> Resul
     })
 }
 
+// The slack of the place of this name.
+fn slack_of(
+    alloc: Global,
+    net: &Net,
+    answer: &CycleAnswer,
+    name: &str,
+) -> Result<Option<Slack>, Fail>
+    requires certificate { IsCertificate net.now answer.now }
+    requires live { IsLive net.now }
+{
+    let slacks = critical(alloc, net, answer)?;
+    Ok(match net.find_place(name) {
+        Some(place) => Some(slacks.slack(place)),
+        None => None,
+    })
+}
+
 #[test]
-fn what_shows_a_slack_is_handed_out(rt: HostRuntime) -> Result<(), Fail> {
+fn slacks_and_what_shows_them_are_handed_out(rt: HostRuntime) -> Result<(), Fail> {
     let alloc = rt.alloc();
     let held = LiveNet::new(alloc, read_net(alloc, LINE)?)?;
     let net = held.net();
     let parts = split(alloc, net)?;
     let answer = cycle(alloc, net, held.live(), &parts)?;
-    assert!(rt; is_shown(alloc, net, &answer, "to_paint")?);
-    assert!(rt; is_shown(alloc, net, &answer, "drill_free")?);
-    assert!(rt; is_shown(alloc, net, &answer, "to_ship")?);
+    for (name, slack) in [
+        ("to_paint", Slack::Critical),
+        ("drill_free", Slack::Rise { by: 1 }),
+        ("to_ship", Slack::NoCircuit),
+    ] {
+        assert!(rt;
+            slack_of(alloc, net, &answer, name)? == Some(slack),
+            "{name}"
+        );
+        assert!(rt; is_shown(alloc, net, &answer, name)?, "{name}");
+    }
     Ok(())
 }

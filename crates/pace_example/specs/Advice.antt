@@ -3,7 +3,6 @@ use Rattle.std.specs.Prelude.{ℕ, false, if◌then◌else◌, ◌≡◌, ◌≢
 use Rattle.teg_net.specs.Circuits.{IsLive}
 use Rattle.teg_net.specs.Nets.{NetLists}
 use Rattle.teg_net.specs.Ratios.{Fraction}
-use Rattle.teg_net.specs.GreatestRatios.{IsGreatestRatio, HasNoCircuit, IsAnyPlace}
 use Rattle.teg_reader.specs.Documents.{document}
 use Rattle.teg_reader.specs.PassWalks.{is_memory}
 use Rattle.teg_reader.specs.declared.refusals.ReadRefusal.{ReadRefusal}
@@ -22,13 +21,9 @@ use Rattle.teg_jit.specs.declared.answers.JitRefusal.{JitRefusal}
 use Rattle.teg_jit.specs.declared.answers.JitRefusal.TheVariants.{OutOfMemory as jit_memory}
 use Rattle.teg_jit.specs.Plans.{PlanDates, dates_of_plan, IsPlanFor}
 use Rattle.teg_jit.specs.LateRefusals.{LateIsRight}
+use Rattle.pace_calls.specs.Paces.{IsPace}
 use Rattle.pace_example.specs.declared.no_advice.NoAdvice.{NoAdvice}
 use Rattle.pace_example.specs.declared.no_advice.NoAdvice.TheVariants.{NoNet, NotLive, NoDue, Late, OutOfMemory}
-
--- the greatest ratio of time to tokens over all circuits of the net, or none where it has no circuit
-abbrev pub IsPaceOf : NetLists → Option Fraction → Type 0
-IsPaceOf net None = HasNoCircuit net IsAnyPlace
-IsPaceOf net (Some r) = IsGreatestRatio net IsAnyPlace r
 
 -- the line of a pace
 abbrev pub pace_line : Option Fraction → List ℕ
@@ -44,7 +39,7 @@ Say net due lists rows = (document net ≡ Ok lists) × (due_of lists due ≡ Ok
 abbrev pub IsAdvice : List ℕ → List ℕ → List ℕ → PlanDates → Type 0
 IsAdvice net due line plan =
     (lists : NetLists) × (rows : List DueRow) × (ratio : Option Fraction) × Say net due lists rows
-    × IsPaceOf lists ratio × (line ≡ pace_line ratio)
+    × IsPace lists ratio × (line ≡ pace_line ratio)
     × IsGreatestNumber rows plan.numbers × IsPlanFor lists (due_in rows) plan × AreLatestInputs lists (due_in rows) (dates_of_plan plan)
 
 -- the refusal of a net file as it is told: itself, or want of memory

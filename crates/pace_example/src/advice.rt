@@ -1,17 +1,15 @@
 //! The pace of a net, and the latest inputs that meet its due dates.
 ghost use Rattle.std.specs.Prelude.{IfErr, IfOk, string_bytes, ◌≡◌, ◌≤◌, length};
 ghost use Rattle.teg_jit.specs.csv_records.Records.{most_file_bytes};
-ghost use Rattle.teg_check.specs.Ranks.{IsRanking};
-ghost use Rattle.pace_example.specs.Advice.{IsAdvice, IsPaceOf, IsWhyNot, pace_line};
+ghost use Rattle.pace_example.specs.Advice.{IsAdvice, IsWhyNot, pace_line};
 
 use crate::no_advice::NoAdvice;
+use pace_calls::pace;
 use std::alloc::{AllocError, Global};
-use teg_check::{Live, check};
-use teg_cycle::{best_ratio, cycle};
+use teg_check::check;
 use teg_due::read_due;
 use teg_jit::{Plan, latest_inputs};
-use teg_net::{Net, OutOfMemory, Ratio};
-use teg_parts::split;
+use teg_net::Ratio;
 use teg_reader::read_net;
 
 /// What a planner is told of a net and of due dates.
@@ -21,18 +19,6 @@ pub struct Advice {
     pub pace: String,
     /// The latest dates of the firings.
     pub plan: Plan,
-}
-
-/// The greatest ratio of time to tokens over the circuits of a live net, in the user's unit for a
-/// token; none where it has no circuit (chapter 2). It answers `OutOfMemory` only where no memory
-/// is found. It takes the time of `split` and of `cycle`.
-pub fn pace(alloc: Global, net: &Net, live: &Live) -> Result<Option<Ratio>, OutOfMemory>
-    requires { IsRanking net.now live.now }
-    ensures { IfOk result (IsPaceOf net.now) }
-{
-    let parts = split(alloc, net)?;
-    let answer = cycle(alloc, net, live, &parts)?;
-    Ok(best_ratio(&answer))
 }
 
 // The line of a pace.

@@ -3,13 +3,13 @@
 //! contract is that of [`advise`]: the number in the line is the greatest ratio of time to tokens
 //! over the circuits of the net, and the plan has the latest inputs; or each refusal has its cause.
 //! It has no proof file: the contracts of the calls that it makes tell all that it promises. It
-//! stands on `teg_reader` and `teg_due` for files, on `teg_net`, `teg_check`, `teg_parts` and
-//! `teg_cycle` for the pace, on `teg_jit` for the latest inputs, and on `teg_text` for the words of
-//! its line. Its example stands in `library_examples`.
+//! stands on `teg_reader` and `teg_due` for files, on `teg_net` and `teg_check` for a live net, on
+//! `pace_calls` for the pace, on `teg_jit` for the latest inputs, and on `teg_text` for the words
+//! of its line. Its example stands in `library_examples`.
 #![tactic(auto)]
 
 mod advice;
 mod no_advice;
 
-pub use advice::{Advice, advise, pace};
+pub use advice::{Advice, advise};
 pub use no_advice::NoAdvice;

@@ -1,11 +1,9 @@
 -- What a scheduler is told, in the words of the library (chapters 2 and 5).
-use Rattle.std.specs.Prelude.{ℕ, false, if◌then◌else◌, ◌*◌, ◌<◌, ◌≡◌, ◌≢◌, List, Option, Some, None, Ok, Err, All, IsSomeAnd, slice_get, ⊤}
+use Rattle.std.specs.Prelude.{ℕ, false, if◌then◌else◌, ◌<◌, ◌≡◌, ◌≢◌, List, Ok, Err, All, IsSomeAnd, slice_get, ⊤}
 use Rattle.teg_net.specs.declared.entries.PlaceId.{PlaceId}
 use Rattle.teg_net.specs.Changes.{with_hold}
 use Rattle.teg_net.specs.Limits.{greatest_hold}
 use Rattle.teg_net.specs.Nets.{NetLists}
-use Rattle.teg_net.specs.Circuits.{IsCircuit, time_of, tokens_of}
-use Rattle.teg_net.specs.GreatestRatios.{IsGreatestRatio, HasNoCircuit, IsAnyPlace}
 use Rattle.teg_reader.specs.Documents.{document}
 use Rattle.teg_reader.specs.PassWalks.{is_memory}
 use Rattle.teg_reader.specs.declared.refusals.ReadRefusal.{ReadRefusal}
@@ -25,15 +23,6 @@ use Rattle.teg_jit.specs.declared.answers.JitRefusal.TheVariants.{OutOfMemory as
 use Rattle.teg_jit.specs.LateRefusals.{LateIsRight}
 use Rattle.scheduler_loop.specs.declared.refusals.NoAnswer.{NoAnswer}
 use Rattle.scheduler_loop.specs.declared.refusals.NoAnswer.TheVariants.{NoNet, NotLive, NoPlace, HoldTooLong, NoDue, Late, OutOfMemory}
-use Rattle.scheduler_loop.specs.declared.scheduler.Pace.{Pace}
-
--- the greatest ratio of all circuits of the net, and a circuit that has it; or that the net has no circuit
-abbrev pub IsPaceOf : NetLists → Option Pace → Type 0
-IsPaceOf net None = HasNoCircuit net IsAnyPlace
-IsPaceOf net (Some pace) =
-    IsGreatestRatio net IsAnyPlace pace.ratio
-    × IsCircuit net pace.bottleneck.places.items
-    × (time_of net pace.bottleneck.places.items * pace.ratio.tokens ≡ pace.ratio.time * tokens_of net pace.bottleneck.places.items)
 
 -- why a file says no net, as it is told: want of memory as itself
 abbrev pub no_answer_of_read : ReadRefusal → NoAnswer

@@ -1,32 +1,20 @@
 //! A net that is held, changed and asked again.
 ghost use Rattle.std.specs.Prelude.{◌≡◌, ◌≤◌, length, IfErr, IfOk, OnOk, OnErr, Ok};
 ghost use Rattle.teg_due.specs.csv_records.Records.{most_file_bytes};
-ghost use Rattle.teg_net.specs.Certificates.{IsCertificate};
 ghost use Rattle.teg_net.specs.Circuits.{IsLive};
-ghost use Rattle.teg_net.specs.GreatestRatios.{IsCycleTime};
+ghost use Rattle.pace_calls.specs.Paces.{IsPaceWithCircuit};
 ghost use Rattle.teg_reader.specs.Documents.{document};
-ghost use Rattle.scheduler_loop.specs.Answers.{IsHoldChanged, IsLatestPlan, IsPaceOf, IsWhyNoPlan, IsWhyNone, IsWhyNotChanged};
+ghost use Rattle.scheduler_loop.specs.Answers.{IsHoldChanged, IsLatestPlan, IsWhyNoPlan, IsWhyNone, IsWhyNotChanged};
 
 use crate::refusals::NoAnswer;
+use pace_calls::{PaceWithCircuit, bottleneck};
 use std::alloc::Global;
 use std::marker::Model;
 use teg_check::LiveNet;
-use teg_cycle::cycle;
 use teg_due::read_due;
 use teg_jit::{Plan, latest_inputs};
-use teg_net::{Circuit, CycleAnswer, GREATEST_HOLD, Net, OutOfMemory, PartAnswer, Ratio};
-use teg_parts::split;
+use teg_net::{GREATEST_HOLD, Net, OutOfMemory};
 use teg_reader::read_net;
-
-/// The pace of a net and its bottleneck (chapter 2).
-#[derive(Debug, Drop)]
-pub struct Pace {
-    /// The greatest ratio of holding time, in the user's unit, to tokens over the circuits of the
-    /// net.
-    pub ratio: Ratio,
-    /// A circuit that has this ratio.
-    pub bottleneck: Circuit,
-}
 
 /// A live net that is held, changed and asked again. Contracts see the net as it then is.
 #[derive(Drop)]
@@ -40,25 +28,6 @@ impl Model for Scheduler {
     ghost Value = { NetLists };
 
     ghost view = { λ s. s.net };
-}
-
-// The pace that an answer on the cycle times of the net tells.
-fn pace_in(net: &Net, mut answer: CycleAnswer) -> Option<Pace>
-    requires best { IsCycleTime net.now answer.parts.items answer.best }
-    requires certificate { IsCertificate net.now answer }
-    ensures { IsPaceOf net.now result }
-{
-    let best = answer.best? as usize;
-    if answer.parts.len() <= best {
-        return None;
-    }
-    match answer.parts.swap_remove(best) {
-        PartAnswer::NoCircuit => None,
-        PartAnswer::Best { ratio, circuit, .. } => Some(Pace {
-            ratio,
-            bottleneck: circuit,
-        }),
-    }
 }
 
 impl Scheduler {
@@ -89,13 +58,10 @@ impl Scheduler {
 
     /// The pace of the net as it is, and its bottleneck; none where it has no circuit. It answers
     /// `OutOfMemory` only where no memory is found. It takes the time of `split` and of `cycle`.
-    pub fn pace(&self, alloc: Global) -> Result<Option<Pace>, OutOfMemory>
-        ensures { IfOk result (IsPaceOf self.now) }
+    pub fn pace(&self, alloc: Global) -> Result<Option<PaceWithCircuit>, OutOfMemory>
+        ensures { IfOk result (IsPaceWithCircuit self.now) }
     {
-        let net = self.net.net();
-        let parts = split(alloc, net)?;
-        let answer = cycle(alloc, net, self.net.live(), &parts)?;
-        Ok(pace_in(net, answer))
+        bottleneck(alloc, self.net.net(), self.net.live())
     }
 
     /// Gives the place of this name another holding time, in the user's unit; all else stays.

@@ -1,8 +1,9 @@
 //! A list of a function, and gains through the bounds.
 use dioid::{Date, Dioid, Kleene, Refused, Residuated};
-use series_form::{Series, SeriesRefused};
+use series_form::{Series, SeriesRefused, least, sum};
 use series_ops::{Gain, star};
 use std::alloc::Global;
+use std::test::Fail;
 use teg_calc::print;
 
 // Whether the answer is the series with these values, period and step.
@@ -26,6 +27,22 @@ fn a_list_of_a_function(rt: HostRuntime) {
     assert!(rt; is_series(&even, &[Date::At(0)], 1, 2));
 }
 
+// Whether a constant and a monomial of one shift have this sum and this minimum.
+fn are_added(alloc: Global) -> Result<bool, SeriesRefused> {
+    let (level, late) = (
+        Series::constant(alloc, Date::At(5))?,
+        Series::monomial(alloc, 1, 7)?,
+    );
+    let more = sum(alloc, &level, &late)?;
+    let less = least(alloc, &level, &late)?;
+    Ok(
+        more.values() == [Date::At(5), Date::At(7)].as_slice()
+            && less.at(0) == Date::Early
+            && less.at(1) == Date::At(5)
+            && !more.equals(&less),
+    )
+}
+
 // Whether nothing changes where zero is added and one is multiplied with.
 fn keeps<D: Dioid>(alloc: Global, a: &D) -> Result<bool, Refused> {
     let (more, times) = (
@@ -42,16 +59,16 @@ fn is_closed<D: Kleene + Residuated>(alloc: Global, a: &D) -> Result<bool, Refus
 }
 
 // The star of the monomial of shift 1 and this date.
-fn line(alloc: Global, date: i32) -> Option<Gain> {
-    let part = Series::monomial(alloc, 1, i128::from(date)).ok()?;
-    let series = star(alloc, &part).ok()?;
-    Some(Gain { series })
+fn line(alloc: Global, date: i32) -> Result<Gain, SeriesRefused> {
+    let part = Series::monomial(alloc, 1, i128::from(date))?;
+    let series = star(alloc, &part)?;
+    Ok(Gain { series })
 }
 
 // The one date at every shift.
-fn level(alloc: Global, date: i32) -> Option<Gain> {
-    let series = Series::constant(alloc, Date::At(i128::from(date))).ok()?;
-    Some(Gain { series })
+fn level(alloc: Global, date: i32) -> Result<Gain, SeriesRefused> {
+    let series = Series::constant(alloc, Date::At(i128::from(date)))?;
+    Ok(Gain { series })
 }
 
 // Whether the answer is printed so.
@@ -95,20 +112,13 @@ fn are_worked_out(alloc: Global, two: &Gain, three: &Gain, five: &Gain) -> bool 
 }
 
 #[test]
-fn gains_that_were_worked_out(rt: HostRuntime) {
+fn gains_that_were_worked_out_and_through_the_bounds(rt: HostRuntime) -> Result<(), Fail> {
     let alloc = rt.alloc();
-    let (Some(two), Some(three), Some(five)) = (line(alloc, 2), line(alloc, 3), level(alloc, 5))
-    else {
-        panic!(rt; "memory is found");
-    };
+    let (two, three) = (line(alloc, 2)?, line(alloc, 3)?);
+    let five = level(alloc, 5)?;
     assert!(rt; are_worked_out(alloc, &two, &three, &five));
-}
-
-#[test]
-fn gains_through_the_bounds(rt: HostRuntime) {
-    let Some(gain) = line(rt.alloc(), 2) else {
-        panic!(rt; "memory is found");
-    };
-    assert!(rt; keeps(rt.alloc(), &gain) == Ok(true));
-    assert!(rt; is_closed(rt.alloc(), &gain) == Ok(true));
+    assert!(rt; keeps(alloc, &two) == Ok(true));
+    assert!(rt; is_closed(alloc, &two) == Ok(true));
+    assert!(rt; are_added(alloc)?);
+    Ok(())
 }

@@ -16,8 +16,8 @@ use Rattle.periodic_laws.proofs.teg_model_proofs.LeastOver.{least_over}
 use Rattle.periodic_laws.proofs.teg_model_proofs.ListDates.{first_bound, listed_within}
 use Rattle.periodic_laws.proofs.teg_model_proofs.OfNet.{least_is_over, least_of, ranks_extended}
 use Rattle.periodic_laws.proofs.teg_model_proofs.Within.{within_more, least_in_within, net_is_bounded}
-use Rattle.teg_dates.specs.Streams.{date_back, rows_given, rows_kept}
-use Rattle.teg_dates.proofs.Ranking.{rank_of, ranks_of}
+use Rattle.date_rows.specs.Streams.{date_back, rows_given, rows_kept}
+use Rattle.date_rows.proofs.Ranking.{rank_of, ranks_of}
 use Rattle.teg_bound.specs.declared.made_rows.MadeRows.{MadeRows}
 use Rattle.teg_bound.specs.MadeRows.{AreMadeOf}
 

@@ -28,7 +28,7 @@ use Rattle.periodic_laws.proofs.teg_model_proofs.OfNet.{all_extended_in, input_o
 use Rattle.periodic_laws.proofs.teg_model_proofs.Tokens.{available_after, implicit_gives, implicit_keeps, place_keeps}
 use Rattle.periodic_laws.specs.settled_laws.SettledForms.{RepeatsAfter}
 use Rattle.periodic_laws.specs.settled_laws.DateDifferences.{between}
-use Rattle.teg_dates.proofs.Ranking.{rank_of, ranks_of}
+use Rattle.date_rows.proofs.Ranking.{rank_of, ranks_of}
 
 le_or_not : (a b : ℤ) → (a ≤ℤ b) ⊎ ((b +ℤ pos 1) ≤ℤ a)
 le_or_not a b = by_lt_z b a (λ l. inr (omega (arith, ints))) (λ l. inl l)

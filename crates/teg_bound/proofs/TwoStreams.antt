@@ -15,7 +15,7 @@ use Rattle.periodic_laws.specs.settled_laws.DateDifferences.{between}
 use Rattle.periodic_laws.specs.LinearSystem.{LeastDatingsRepeat, SettlesShortest}
 use Rattle.periodic_laws.specs.RepeatNumbers.{repeats_past, repeats_in, repeats_by}
 use Rattle.periodic_laws.proofs.settled_laws_proofs.Repeating.{period_least, after_least}
-use Rattle.teg_dates.specs.Streams.{date_back, rows_given, rows_kept}
+use Rattle.date_rows.specs.Streams.{date_back, rows_given, rows_kept}
 use Rattle.teg_bound.specs.declared.made_rows.MadeRows.{MadeRows}
 use Rattle.teg_bound.specs.declared.two_streams.Returned.{Returned}
 use Rattle.teg_bound.specs.MadeRows.{AreMadeOf}

@@ -8,7 +8,7 @@ use Rattle.teg_net.specs.Nets.{NetLists}
 use Rattle.bound_laws.specs.teg_model.Datings.{IsLeastDating}
 use Rattle.bound_laws.specs.settled_laws.SettledForms.{SettledForm, RepeatsAfter, IsSettledFormOf}
 use Rattle.bound_laws.specs.settled_laws.DateDifferences.{between}
-use Rattle.teg_dates.specs.Streams.{date_back, rows_given, rows_kept}
+use Rattle.date_rows.specs.Streams.{date_back, rows_given, rows_kept}
 use Rattle.teg_bound.specs.declared.made_rows.MadeRows.{MadeRows}
 use Rattle.teg_bound.specs.declared.two_streams.Returned.{Returned}
 use Rattle.teg_bound.specs.declared.two_streams.SettledNumbers.{SettledNumbers}

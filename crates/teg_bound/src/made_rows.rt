@@ -2,19 +2,19 @@
 ghost use Rattle.std.specs.Prelude.{◌≡◌, ◌+◌, ◌<◌, ◌≤◌, IfOk};
 ghost use Rattle.teg_check.specs.Ranks.{IsRanking};
 ghost use Rattle.teg_net.specs.Limits.{greatest_firing_number};
-ghost use Rattle.teg_dates.specs.Streams.{rows_given};
+ghost use Rattle.date_rows.specs.Streams.{rows_given};
 ghost use Rattle.teg_bound.specs.MadeRows.{AreMadeOf};
 
+use date_rows::LeastRows;
 use dioid::Date;
 use std::alloc::Global;
 use teg_check::Live;
-use teg_dates::Stream;
 use teg_net::{Net, OutOfMemory};
 
 // A stream of rows, and room for the next.
 #[derive(Drop)]
 pub(crate) struct MadeRows {
-    pub(crate) stream: Stream,
+    pub(crate) stream: LeastRows,
     row: Vec<Date>,
 }
 
@@ -24,7 +24,7 @@ pub(crate) fn no_rows(alloc: Global, net: &Net, live: &Live) -> Result<MadeRows,
     ensures made { IfOk result (AreMadeOf net.now) }
     ensures none { IfOk result (λ rows. rows_given rows.stream ≡ 0) }
 {
-    let stream = Stream::of_live(alloc, net, live)?;
+    let stream = LeastRows::new(alloc, net, live)?;
     let row = vec![in alloc; Date::Early; net.transitions().len()]?;
     Ok(MadeRows { stream, row })
 }

@@ -5,7 +5,7 @@ ghost use Rattle.periodic_laws.specs.teg_model.DateBounds.{IsDateWithin};
 ghost use Rattle.periodic_laws.specs.settled_laws.DateDifferences.{between};
 ghost use Rattle.teg_check.specs.Ranks.{IsRanking};
 ghost use Rattle.teg_net.specs.Limits.{greatest_firing_number};
-ghost use Rattle.teg_dates.specs.Streams.{rows_given, rows_kept};
+ghost use Rattle.date_rows.specs.Streams.{rows_given, rows_kept};
 ghost use Rattle.teg_bound.specs.MadeRows.{AreMadeOf};
 ghost use Rattle.teg_bound.specs.PeriodicBounds.{HasPlacesAlone, EachReachesEach};
 ghost use Rattle.teg_bound.specs.ReturningRows.{AreAbreast, AreRowsMoved, AreTwoStreams, HasFormWithin, IsMovedFrom, IsOnePart, IsReturn, IsReturned, IsRowMoved, IsShortestRepetition, NoneComeAgain, back_step};
@@ -32,7 +32,7 @@ pub struct SettledNumbers {
 }
 
 // The last number of rows that come again first after this period, all moved by this step.
-#[derive(Clone, Copy, Debug, Drop)]
+#[derive(Clone, Copy, Drop)]
 pub(crate) struct Returned {
     last: u64,
     period: u64,

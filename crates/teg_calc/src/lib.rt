@@ -7,6 +7,13 @@
 //! `series_ops` for series, on `series_laws` for what they mean, on `dioid` for dates, on
 //! `teg_text` for words, on `teg_net` for want of memory, and on `thiserror`.
 //! Its examples stand in `series_examples`.
+//!
+//! ## How it works
+//!
+//! [`parse`] is one machine over the bytes with a stack of open brackets. A state stands for what
+//! was written so far, so the first byte at which it stops is the exact offset; no list of tokens is
+//! made, and no recursion goes down the text. [`evaluate`], and the drop of a tree, recur along the
+//! tree, which has at most 4,096 nodes.
 #![tactic(auto)]
 
 mod brackets;

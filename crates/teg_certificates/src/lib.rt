@@ -15,9 +15,9 @@
 //!
 //! None takes memory, and none takes more time than what it reads has pairs. That what is shown is
 //! so are laws: so a reader may distrust whatever found an answer and still believe it.
-//! [`best_ratio`] reads the ratio of the net off an answer on cycle times.
-//! The crate stands on `teg_net` alone.
-//! Its examples stand in `worked_examples` and `library_examples`.
+//! [`best_ratio`] reads the ratio of the net off an answer on cycle times. The crate stands on
+//! `teg_net` alone. Its examples stand in `library_examples`, in `chapters_nets.rt`, and in
+//! `net_examples`, in `slack_witnesses.rt`.
 //!
 //! ## Call it
 //!

@@ -4,8 +4,7 @@
 //! is live, and otherwise names a circuit without tokens. A [`Live`] is seen by contracts as its
 //! list of ranks; it stands for a net where `IsRanking` ties the two, which is what calls above
 //! ask. [`ranks_of`] gives them of a net that is known to be live. The crate stands on `teg_net`
-//! alone.
-//! Its examples stand in `worked_examples`.
+//! alone. Its examples stand in `library_examples`, in `calls.rt`.
 //!
 //! A circuit without tokens is told from its lowest numbered transition on.
 //!

@@ -2,16 +2,16 @@
 use Rattle.std.proofs.Common.{◌<◌, ℕ, List, length, subst}
 use Rattle.std.proofs.lemmas.List.Elements.{All-get_or}
 use Rattle.std.proofs.lemmas.Option.{get_or_from_slice_get, slice_get_within}
-use Rattle.teg_forever.specs.forever_laws.declared.rows.EndlessRow.{EndlessRow}
-use Rattle.teg_forever.specs.forever_laws.EndlessRows.{IsEndlessOf, IsEndlessRow}
+use Rattle.endless_due.specs.declared.row.EndlessRow.{EndlessRow}
+use Rattle.endless_due.specs.EndlessRows.{IsEndlessOf, IsEndlessRow}
 use Rattle.teg_forever.specs.declared.releases.ForeverRefusal.{ForeverRefusal}
 use Rattle.teg_forever.specs.declared.releases.ForeverRefusal.TheVariants.{Late, TooLong, TooWide, OutOfMemory}
 use Rattle.teg_forever.specs.LatestReleases.{ForeverRefused}
 use Rattle.teg_forever.specs.EndlessTexts.{IsRefusalIn}
 use Rattle.teg_net.specs.Nets.{NetLists}
-use Rattle.teg_commands.specs.declared.outcome.Verdict.{Verdict}
+use Rattle.teg_outcome.specs.declared.outcome.Verdict.{Verdict}
 use Rattle.teg_commands.specs.Forever.{EndsUnreleased}
-use Rattle.teg_settle.proofs.Transferring.{input_within}
+use Rattle.teg_report.proofs.teg_settle_proofs.Transferring.{input_within}
 
 pub refusal_in : (net : NetLists) (rows : List EndlessRow) → IsEndlessOf net rows → (refusal : ForeverRefusal) (verdict : Verdict) → EndsUnreleased refusal verdict →
     ForeverRefused net rows refusal → IsRefusalIn net refusal

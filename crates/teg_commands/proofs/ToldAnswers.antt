@@ -8,47 +8,47 @@ use Rattle.std.proofs.lemmas.Int.{ints}
 use Rattle.std.proofs.lemmas.List.Elements.{All-cons, All-nil}
 use Rattle.std.proofs.lemmas.Option.{slice_get_past}
 use Rattle.due_laws.proofs.LatestDates.{walk_ends_in}
-use Rattle.settled_laws.proofs.teg_model_proofs.LiveRanks.{live_ranks}
-use Rattle.settled_laws.proofs.teg_model_proofs.NetBound.{least_keeps_bound}
-use Rattle.settled_laws.proofs.teg_model_proofs.OfNet.{net_ends}
+use Rattle.teg_report.proofs.teg_settle_proofs.teg_model_proofs.LiveRanks.{live_ranks}
+use Rattle.teg_report.proofs.teg_settle_proofs.teg_model_proofs.NetBound.{least_keeps_bound}
+use Rattle.teg_report.proofs.teg_settle_proofs.teg_model_proofs.OfNet.{net_ends}
 use Rattle.teg_report.specs.dioid.declared.dates.Date.{Date}
 use Rattle.teg_report.specs.dioid.declared.dates.Date.TheVariants.{Early, Never, At as on_date}
 use Rattle.teg_net.specs.Limits.{greatest_firing_number}
 use Rattle.teg_net.specs.Circuits.{IsLive}
 use Rattle.teg_net.specs.Nets.{NetLists, IsNet}
-use Rattle.teg_dates.specs.DateTables.{TableDates, HasDatesOf, IsDateTable, date_at, most_numbers}
-use Rattle.teg_jit.specs.declared.answers.LatestDate.{LatestDate}
-use Rattle.teg_jit.specs.declared.answers.LatestDate.TheVariants.{Free, At}
-use Rattle.teg_jit.specs.declared.answers.Onward.TheVariants.{Due, Next, By}
-use Rattle.teg_due.specs.RowRules.{due_in}
-use Rattle.teg_jit.specs.Plans.{PlanDates, IsPlanFor, HasOnward, dates_of_latest, latest_at, latest_in}
+use Rattle.teg_report.specs.date_rows.DateTables.{TableDates, HasDatesOf, IsDateTable, date_at, most_numbers}
+use Rattle.teg_report.specs.teg_jit.declared.answers.LatestDate.{LatestDate}
+use Rattle.teg_report.specs.teg_jit.declared.answers.LatestDate.TheVariants.{Free, At}
+use Rattle.teg_report.specs.teg_jit.declared.answers.Onward.TheVariants.{Due, Next, By}
+use Rattle.teg_report.specs.teg_due.RowRules.{due_in}
+use Rattle.teg_report.specs.teg_jit.Plans.{PlanDates, IsPlanFor, HasOnward, dates_of_latest, latest_at, latest_in}
 use Rattle.teg_report.specs.DateLists.{dated_firing, listed_count_line, names_line, number_line}
 use Rattle.teg_report.specs.teg_model.DateBounds.{IsDateWithin, greatest_least_date}
 use Rattle.teg_report.specs.teg_model.Datings.{IsLeastDating}
 use Rattle.teg_report.specs.teg_text.Lines.{written}
 use Rattle.teg_report.specs.teg_text.ValueWords.{IsDate, date_word}
-use Rattle.teg_commands.proofs.teg_text_proofs.LineBlocks.{cells_all}
+use Rattle.teg_report.proofs.teg_text_proofs.LineBlocks.{cells_all}
 use Rattle.teg_report.specs.PlanLines.{IsLateKept, IsLatePlanTold, IsLatestIn, IsPlanIn}
-use Rattle.teg_commands.specs.CommandTexts.{list_text}
+use Rattle.teg_files.specs.List.{list_text}
 use Rattle.teg_bound.specs.declared.bound.BoundAnswer.{BoundAnswer}
 use Rattle.teg_bound.specs.declared.bound.BoundAnswer.TheVariants.{Bound, HasInputs, NoPlace, NotStrong, ReadyDates}
 use Rattle.teg_bound.specs.BoundTexts.{ToldBound, BoundTold, AreNumbersIn, IsCause, bound_lines, told_bound}
 use Rattle.teg_cycle.proofs.Gathering.{certified}
 use Rattle.teg_cycle.proofs.Telling.{answer_certifies}
 use Rattle.teg_cycle.proofs.teg_certificates_proofs.Inside.{circuit_in_part}
-use Rattle.teg_forever.specs.forever_laws.declared.rows.EndlessRow.{EndlessRow}
-use Rattle.teg_forever.specs.forever_laws.EndlessRows.{IsEndlessOf}
-use Rattle.teg_forever.specs.EndlessFiles.{endless_of}
+use Rattle.endless_due.specs.declared.row.EndlessRow.{EndlessRow}
+use Rattle.endless_due.specs.EndlessRows.{IsEndlessOf}
+use Rattle.endless_due.specs.EndlessFiles.{endless_of}
 use Rattle.teg_forever.specs.declared.releases.Release.{Release}
 use Rattle.teg_forever.specs.declared.releases.Release.TheVariants.{Free as FreeRelease, Latest}
 use Rattle.teg_forever.specs.EndlessTexts.{EndlessAnswer, Answered, Faulty, IsEndlessTold, IsReleaseTold, answer_lines}
 use Rattle.teg_forever.specs.LatestReleases.{AreBeside, IsReleaseOf, inputs_of}
 use Rattle.teg_howard.specs.PolicyRuns.{KeepsLimits}
-use Rattle.teg_jit.specs.declared.answers.JitRefusal.{JitRefusal}
-use Rattle.teg_jit.specs.declared.answers.JitRefusal.TheVariants.{Late, OutOfMemory as NoPlanRoom}
-use Rattle.teg_jit.specs.LateRefusals.{LateIsRight}
-use Rattle.teg_due.specs.declared.rows.DueRow.{DueRow}
-use Rattle.teg_due.specs.declared.rows.LogRow.{LogRow}
+use Rattle.teg_report.specs.teg_jit.declared.answers.JitRefusal.{JitRefusal}
+use Rattle.teg_report.specs.teg_jit.declared.answers.JitRefusal.TheVariants.{Late, OutOfMemory as NoPlanRoom}
+use Rattle.teg_report.specs.teg_jit.LateRefusals.{LateIsRight}
+use Rattle.teg_report.specs.teg_due.declared.rows.DueRow.{DueRow}
+use Rattle.teg_report.specs.teg_due.declared.rows.LogRow.{LogRow}
 use Rattle.teg_net.specs.declared.answers.CycleAnswer.{CycleAnswer}
 use Rattle.teg_net.specs.declared.answers.PartAnswer.{PartAnswer}
 use Rattle.teg_net.specs.declared.answers.PartAnswer.TheVariants.{NoCircuit, Best}
@@ -61,8 +61,8 @@ use Rattle.teg_net.specs.GreatestRatios.{HasNoCircuit}
 use Rattle.teg_net.specs.PartAnswers.{IsPartAnswer}
 use Rattle.teg_net.specs.Parts.{to_of, IsPlaceOfPart}
 use Rattle.teg_net.specs.Ratios.{Fraction, IsRatioOf}
-use Rattle.teg_outside.specs.declared.monitor.Firing.{Firing}
-use Rattle.teg_outside.specs.Monitors.{IsOneLine}
+use Rattle.teg_report.specs.teg_outside.declared.monitor.Firing.{Firing}
+use Rattle.teg_report.specs.teg_outside.Monitors.{IsOneLine}
 use Rattle.teg_parts.specs.Partitions.{PartLists, AreParts}
 use Rattle.teg_replay.specs.declared.refusal.FireRefusal.{FireRefusal}
 use Rattle.teg_replay.specs.declared.refusal.FireRefusal.TheVariants.{Illegal, BackInTime, BeforeRelease, OutOfMemory as NoRunRoom}
@@ -79,25 +79,25 @@ use Rattle.teg_report.specs.teg_lines.RoundLines.{IsRunKept}
 use Rattle.teg_report.specs.Series.{IsParseKept, IsSeriesRefusalKept}
 use Rattle.teg_report.specs.teg_lines.Widths.{IsWord32}
 use Rattle.teg_report.proofs.teg_lines_proofs.Certified.{certificate_told}
-use Rattle.teg_settle.proofs.teg_loops_proofs.Through.{pass_back}
+use Rattle.teg_report.proofs.teg_settle_proofs.teg_loops_proofs.Through.{pass_back}
 use Rattle.teg_sizing.specs.SizingTexts.{SaidSizing, SizingSaid, NoPlaceSaid, IsSizingSaid, IsSizingTold, said_lines, told_sizing}
 use Rattle.teg_sizing.proofs.Reading.{circuit_in_net}
 use Rattle.teg_timetable.specs.delay_laws.declared.table.Timetable.{Timetable}
 use Rattle.teg_timetable.specs.delay_laws.PlannedTimetables.{IsTableOf}
 use Rattle.teg_timetable.specs.TimetableFiles.{lists_of_table, timetable_of}
 use Rattle.teg_timetable.specs.TimetableTexts.{ToldTimetable, IsTimetableText, IsTimetableTold, delay_told, spread_told, table_told, told_lines}
-use Rattle.teg_commands.specs.declared.outcome.Verdict.{Verdict}
-use Rattle.teg_commands.specs.Bound.{SaysNoNumber, SaysNumber}
-use Rattle.teg_commands.specs.Cycle.{AreRuns, IsCycleAnswer}
+use Rattle.teg_outcome.specs.declared.outcome.Verdict.{Verdict}
+use Rattle.teg_pace_commands.specs.Bound.{SaysNoNumber, SaysNumber}
+use Rattle.teg_pace_commands.specs.Cycle.{AreRuns, IsCycleAnswer}
 use Rattle.teg_commands.specs.Forever.{SaysBadEndless, SaysEndless, SaysReleases, SaysUnreleased}
-use Rattle.teg_commands.specs.Replay.{CanTellRefusal, IsToldAs}
-use Rattle.teg_commands.specs.Size.{HasPlaceName, SaysSizeOf, TellsNoPlace}
-use Rattle.teg_commands.specs.Timetable.{SaysBadTable, SaysDelays, SaysSpread, SaysUnspread}
+use Rattle.teg_plan_commands.specs.Replay.{CanTellRefusal, IsToldAs}
+use Rattle.teg_pace_commands.specs.Size.{HasPlaceName, SaysSizeOf, TellsNoPlace}
+use Rattle.teg_date_commands.specs.Timetable.{SaysBadTable, SaysDelays, SaysSpread, SaysUnspread}
 use Rattle.teg_commands.specs.ToldAnswers.{AnswersOfCommandsAreTold, IsListTold}
-use Rattle.teg_commands.proofs.CycleTold.{told_from}
-use Rattle.teg_commands.proofs.Replayed.{end_told}
-use Rattle.teg_commands.proofs.Formed.{form_within}
-use Rattle.teg_commands.proofs.Transferred.{times_told}
+use Rattle.teg_pace_commands.proofs.CycleTold.{told_from}
+use Rattle.teg_plan_commands.proofs.Replayed.{end_told}
+use Rattle.teg_net_commands.proofs.Formed.{form_within}
+use Rattle.teg_transfer.proofs.Transferred.{times_told}
 
 in_64_bits : (number : ℕ) → number ≤ greatest_firing_number → number < 2 ^ 64
 in_64_bits number h = omega (arith, h)

@@ -1,20 +1,20 @@
 -- What is said of the latest inputs of a live net for a file of due dates without end.
 use Rattle.std.specs.Prelude.{ℕ, ◌≡◌, ◌⊎◌, List, Ok, Err}
-use Rattle.teg_forever.specs.forever_laws.declared.rows.EndlessRow.{EndlessRow}
-use Rattle.teg_forever.specs.forever_laws.EndlessRows.{IsEndlessOf}
+use Rattle.endless_due.specs.declared.row.EndlessRow.{EndlessRow}
+use Rattle.endless_due.specs.EndlessRows.{IsEndlessOf}
 use Rattle.teg_forever.specs.declared.releases.ForeverRefusal.{ForeverRefusal}
 use Rattle.teg_forever.specs.declared.releases.ForeverRefusal.TheVariants.{Late, TooLong, TooWide, OutOfMemory}
 use Rattle.teg_forever.specs.declared.releases.Release.{Release}
-use Rattle.teg_forever.specs.declared.rows.EndlessRefusal.{EndlessRefusal}
-use Rattle.teg_forever.specs.declared.rows.EndlessRefusal.TheVariants.{OutOfMemory as NoRoom}
+use Rattle.endless_due.specs.declared.refusal.EndlessRefusal.{EndlessRefusal}
+use Rattle.endless_due.specs.declared.refusal.EndlessRefusal.TheVariants.{OutOfMemory as NoRoom}
 use Rattle.teg_forever.specs.LatestReleases.{AreEndlessReleases, ForeverRefused}
-use Rattle.teg_forever.specs.EndlessFiles.{endless_of}
+use Rattle.endless_due.specs.EndlessFiles.{endless_of}
 use Rattle.teg_forever.specs.EndlessTexts.{Answered, Faulty, IsFaultTold, IsRefusalTold, answer_lines}
 use Rattle.teg_net.specs.Nets.{NetLists}
 use Rattle.teg_report.specs.teg_text.Lines.{written}
-use Rattle.teg_commands.specs.declared.outcome.Verdict.{Verdict}
-use Rattle.teg_commands.specs.declared.outcome.Verdict.TheVariants.{Done as VerdictDone, Late as VerdictLate, Schedule as VerdictSchedule, TooLong as VerdictTooLong}
-use Rattle.teg_commands.specs.CommandOutcomes.{TellsWhy}
+use Rattle.teg_outcome.specs.declared.outcome.Verdict.{Verdict}
+use Rattle.teg_outcome.specs.declared.outcome.Verdict.TheVariants.{Done as VerdictDone, Late as VerdictLate, Schedule as VerdictSchedule, TooLong as VerdictTooLong}
+use Rattle.teg_outcome.specs.CommandOutcomes.{TellsWhy}
 
 -- the first fault of the file is said
 abbrev pub SaysBadEndless : NetLists → List ℕ → Verdict → List ℕ → Type 0

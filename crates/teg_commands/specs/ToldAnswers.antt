@@ -1,22 +1,22 @@
 -- Which answers are told, so that their bytes are those of no other answer about the net: those that the commands give.
 use Rattle.std.specs.Prelude.{ℕ, ◌≡◌, ◌≤◌, ◌<◌, List, Option, Some, None, All, length, map}
 use Rattle.teg_report.specs.dioid.declared.dates.Date.{Date as DateOf}
-use Rattle.series_form.specs.declared.forms.SeriesRefused.{SeriesRefused}
-use Rattle.settled_laws.specs.SettledForms.{SettledForm, IsSettledFormOf}
+use Rattle.teg_report.specs.series_form.declared.forms.SeriesRefused.{SeriesRefused}
+use Rattle.teg_report.specs.settled_laws.SettledForms.{SettledForm, IsSettledFormOf}
 use Rattle.teg_bound.specs.BoundTexts.{ToldBound, AreNumbersIn, bound_lines}
-use Rattle.teg_calc.specs.declared.refusals.ParseRefused.{ParseRefused}
-use Rattle.teg_critical.specs.declared.slacks.Slack.{Slack as PlaceSlack}
-use Rattle.teg_critical.specs.Slacks.{AreSlacks}
-use Rattle.teg_dates.specs.DateTables.{TableDates, HasDatesOf, IsDateTable}
-use Rattle.teg_due.specs.declared.rows.DueRefusal.{DueRefusal}
-use Rattle.teg_due.specs.declared.rows.DueRow.{DueRow}
-use Rattle.teg_due.specs.declared.rows.LogRefusal.{LogRefusal}
-use Rattle.teg_due.specs.declared.rows.LogRow.{LogRow}
+use Rattle.teg_report.specs.teg_calc.declared.refusals.ParseRefused.{ParseRefused}
+use Rattle.teg_report.specs.teg_critical.declared.slacks.Slack.{Slack as PlaceSlack}
+use Rattle.teg_report.specs.teg_critical.Slacks.{AreSlacks}
+use Rattle.teg_report.specs.date_rows.DateTables.{TableDates, HasDatesOf, IsDateTable}
+use Rattle.teg_report.specs.teg_due.declared.rows.DueRefusal.{DueRefusal}
+use Rattle.teg_report.specs.teg_due.declared.rows.DueRow.{DueRow}
+use Rattle.teg_report.specs.teg_due.declared.rows.LogRefusal.{LogRefusal}
+use Rattle.teg_report.specs.teg_due.declared.rows.LogRow.{LogRow}
 use Rattle.teg_forever.specs.EndlessTexts.{EndlessAnswer, IsEndlessTold, answer_lines}
-use Rattle.teg_form.specs.StandardForms.{FormLists, IsStandardFormOf}
-use Rattle.teg_jit.specs.declared.answers.JitRefusal.{JitRefusal}
-use Rattle.teg_jit.specs.LateRefusals.{LateIsRight}
-use Rattle.teg_jit.specs.Plans.{PlanDates}
+use Rattle.teg_report.specs.teg_form.StandardForms.{FormLists, IsStandardFormOf}
+use Rattle.teg_report.specs.teg_jit.declared.answers.JitRefusal.{JitRefusal}
+use Rattle.teg_report.specs.teg_jit.LateRefusals.{LateIsRight}
+use Rattle.teg_report.specs.teg_jit.Plans.{PlanDates}
 use Rattle.teg_net.specs.declared.answers.CycleAnswer.{CycleAnswer}
 use Rattle.teg_net.specs.declared.entries.TransitionId.{TransitionId}
 use Rattle.teg_net.specs.declared.rounds.Round.{Round}
@@ -24,8 +24,8 @@ use Rattle.teg_net.specs.Circuits.{IsLive}
 use Rattle.teg_net.specs.Limits.{greatest_firing_number}
 use Rattle.teg_net.specs.Nets.{NetLists, IsNet}
 use Rattle.teg_net.specs.Ratios.{Fraction}
-use Rattle.teg_outside.specs.declared.monitor.Firing.{Firing}
-use Rattle.teg_outside.specs.Monitors.{IsOneLine}
+use Rattle.teg_report.specs.teg_outside.declared.monitor.Firing.{Firing}
+use Rattle.teg_report.specs.teg_outside.Monitors.{IsOneLine}
 use Rattle.teg_replay.specs.declared.replayed.Refused.{Refused as RefusedRow}
 use Rattle.teg_replay.specs.declared.replayed.Replayed.{Replayed as Replay}
 use Rattle.teg_replay.specs.Replays.{IsReplayOf}
@@ -48,16 +48,16 @@ use Rattle.teg_report.specs.teg_text.ValueWords.{AreBytes, IsDate}
 use Rattle.teg_report.specs.teg_lines.Widths.{IsWord32, IsWord64}
 use Rattle.teg_sizing.specs.SizingTexts.{SaidSizing, IsSizingSaid, said_lines}
 use Rattle.teg_timetable.specs.TimetableTexts.{ToldTimetable, IsTimetableTold, told_lines}
-use Rattle.teg_commands.specs.declared.outcome.Verdict.{Verdict}
-use Rattle.teg_commands.specs.Bound.{SaysBound}
-use Rattle.teg_commands.specs.CommandTexts.{list_text}
-use Rattle.teg_commands.specs.Cycle.{AreRuns, IsCycleAnswer}
+use Rattle.teg_outcome.specs.declared.outcome.Verdict.{Verdict}
+use Rattle.teg_pace_commands.specs.Bound.{SaysBound}
+use Rattle.teg_files.specs.List.{list_text}
+use Rattle.teg_pace_commands.specs.Cycle.{AreRuns, IsCycleAnswer}
 use Rattle.teg_commands.specs.Forever.{SaysForever}
-use Rattle.teg_commands.specs.Jit.{IsPlanOf}
-use Rattle.teg_commands.specs.Replay.{IsToldAs}
-use Rattle.teg_commands.specs.Size.{SaysSize}
-use Rattle.teg_commands.specs.Timetable.{SaysTimetable}
-use Rattle.teg_commands.specs.Transfer.{AreTimesFrom}
+use Rattle.teg_plan_commands.specs.Jit.{IsPlanOf}
+use Rattle.teg_plan_commands.specs.Replay.{IsToldAs}
+use Rattle.teg_pace_commands.specs.Size.{SaysSize}
+use Rattle.teg_date_commands.specs.Timetable.{SaysTimetable}
+use Rattle.teg_transfer.specs.TimesFromInputs.{AreTimesFrom}
 
 -- the dates that a list says, as a table: a told answer, with the text that is said
 pub record IsListTold (net : NetLists) (x : ℕ → ℕ → DateOf) (table : TableDates) : Type 0 where

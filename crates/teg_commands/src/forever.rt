@@ -1,13 +1,12 @@
 //! The latest inputs of a live net by which due dates without end are met.
 ghost use Rattle.std.specs.Prelude.{◌≡◌, ◌≤◌, IfNone, IfSome, length};
 ghost use Rattle.teg_report.specs.csv_records.Records.{most_file_bytes};
-ghost use Rattle.teg_forever.specs.forever_laws.EndlessRows.{IsEndlessOf};
+ghost use Rattle.endless_due.specs.EndlessRows.{IsEndlessOf};
 ghost use Rattle.teg_commands.specs.Forever.{EndsUnreleased, SaysEndless, SaysForever, SaysUnreleased};
-ghost use Rattle.teg_commands.specs.CommandOutcomes.{Tells, TellsWhy, outcome_of};
+ghost use Rattle.teg_outcome.specs.CommandOutcomes.{Tells, TellsWhy, outcome_of};
 ghost use Rattle.teg_forever.specs.EndlessTexts.{Faulty, IsFaultTold, answer_lines};
 ghost use Rattle.teg_forever.specs.LatestReleases.{ForeverRefused};
 
-use crate::outcome::{CommandOutcome, Verdict};
 use std::alloc::Global;
 use teg_check::LiveNet;
 use teg_forever::{
@@ -15,6 +14,7 @@ use teg_forever::{
     forever_refusal_text, read_endless, releases_text,
 };
 use teg_net::OutOfMemory;
+use teg_outcome::{CommandOutcome, Verdict};
 
 // Why a file says no endless due dates.
 fn refuse_endless(

@@ -1,27 +1,7 @@
-//! The laws of what is told: of a net without a circuit, of the rounds behind the cycle times, of
-//! files that give no bytes, and of the answers whose bytes are those of no other answer. Each is a
-//! function that does nothing when it runs: its contract is the law.
+//! The laws of what is told: of files that give no bytes, and of the answers whose bytes are those of
+//! no other answer. Each is a function that does nothing when it runs: its contract is the law.
 ghost use Rattle.teg_commands.specs.ToldAnswers.{AnswersOfCommandsAreTold};
-ghost use Rattle.teg_commands.specs.SpecialCases.{NoCircuitIsTold, RoundsFollowTimes, UnreadFilesAreTold};
-
-use teg_howard::policy_runs_are_one;
-use teg_parts::parts_are_one;
-
-/// The law that of a net without a circuit `cycle` tells just that, with the rounds or without. It
-/// does nothing when it runs.
-pub fn no_circuit_is_told()
-    ensures { NoCircuitIsTold }
-{}
-
-/// The law that of a live net `cycle` with the rounds writes what it writes without them, and then
-/// the rounds. It does nothing when it runs.
-pub fn rounds_follow_times()
-    ensures { RoundsFollowTimes }
-{
-    // That a net has one split into parts, and each part one run of policy iteration.
-    parts_are_one();
-    policy_runs_are_one();
-}
+ghost use Rattle.teg_commands.specs.UnreadFiles.{UnreadFilesAreTold};
 
 /// The law that a due file or a timetable which is too long or cannot be read has the text of which
 /// the laws `texts_of_endless_differ` and `texts_of_timetables_differ` speak. It does nothing when

@@ -9,8 +9,7 @@
 //! `teg_certificates` for the ratio that an answer tells, and on `teg_loops` for the laws of paths
 //! and circuits. That what the checkers of `teg_certificates` show of a place is its slack is the
 //! law [`witnesses_tell_slacks`], and [`slack_witness`] hands out what they say yes to, for one
-//! place.
-//! Its examples stand in `worked_examples`.
+//! place. Its examples stand in `net_examples`, in `slack_witnesses.rt`.
 #![tactic(auto)]
 
 mod each_place;

@@ -6,7 +6,7 @@
 //! and [`best_ratio`], which reads the ratio of the net off an answer, are those of
 //! `teg_certificates`. The crate stands on `teg_howard` for the greatest ratio of a part, on
 //! `teg_parts` for parts, on `teg_check` for ranks, on `teg_certificates` for certificates, and on
-//! `teg_net` for nets. Its examples stand in `worked_examples`.
+//! `teg_net` for nets. Its examples stand in `library_examples`, in `chapters_nets.rt`.
 //!
 //! ## Call it
 //!

@@ -1,15 +1,14 @@
-//! The earliest dates of a timed event graph: those of the first firings of each transition.
+//! The earliest dates of a timed event graph: those of the first firings of each transition, and
+//! its rows one after another.
 //!
 //! [`first_dates`] gives a [`Table`] whose dates are the least dating of the net (chapter 2), with
-//! its ready dates and its input lists, and with that the greatest start plus time of the walks
-//! that end at each firing. It stands on [`Rows`], which makes one row after another of the least
-//! dating of any system of a net: a [`Source`] gives the dates of its initial tokens and its
-//! releases, and those of the net itself keep what rows ask ([`nets_keep_bounds`]). A [`Stream`]
-//! gives the rows of the net one after another and keeps only the last of them, whose dates it
-//! tells, and so do [`FirstRows`], up to number 10,000, in cells of eight bytes, which keep theirs
-//! to themselves. The crate stands on `teg_net`, on `teg_check` for the ranks, on `teg_form` for
-//! the form that a stream can be asked with, on `teg_model` for what a least dating is, on
-//! `circular_buffer`, and on `dioid` for dates. Its examples stand in `library_examples`.
+//! its ready dates and its input lists. A [`Stream`] gives the rows of the net one after another
+//! and keeps only the last of them, whose dates it tells. What makes the rows stands in
+//! `date_rows`, whose calls and types this crate hands on: [`Rows`] of any system, [`LeastRows`]
+//! and [`FirstRows`] of a net. The crate stands on `date_rows` for rows, on `teg_form` for the form
+//! that a stream can be asked with, on `teg_check` for ranks, on `teg_net` and on `dioid` for
+//! dates. Its examples stand in `library_examples`, in `chapters_plans.rt`, and in `date_examples`,
+//! in `streams.rt`.
 //!
 //! ## Call it
 //!
@@ -26,28 +25,10 @@
 //! ```
 #![tactic(auto)]
 
-mod date_cell;
-mod date_list;
-mod first;
-mod first_rows;
-mod last_rows;
-mod laws;
-mod next;
-mod order;
-mod passes;
-mod past;
-mod rows;
-mod sources;
 mod stream;
-mod table;
-mod window;
 
-pub use date_cell::DateCell;
-pub use first::first_dates;
-pub use first_rows::FirstRows;
-pub use laws::{nets_keep_bounds, nets_keep_short_bounds};
-pub use order::PlaceOrder;
-pub use rows::Rows;
-pub use sources::{NetInputs, Source};
+pub use date_rows::{
+    DateCell, FirstRows, LeastRows, NetInputs, PlaceOrder, Rows, Source, Table, first_dates,
+    nets_keep_bounds, nets_keep_short_bounds,
+};
 pub use stream::Stream;
-pub use table::Table;

@@ -1,15 +1,12 @@
-//! Rows of dates, one after another, in memory that does not grow.
+//! A stream of rows that can be asked with the form of its net.
 ghost use Rattle.std.specs.Prelude.{◌≡◌, ◌+◌, ◌<◌, ◌≤◌, length, IfOk};
 ghost use Rattle.teg_net.specs.Limits.{greatest_firing_number};
 ghost use Rattle.teg_net.specs.Circuits.{IsLive};
 ghost use Rattle.teg_check.specs.Ranks.{IsRanking};
 ghost use Rattle.teg_form.specs.StandardForms.{IsStandardFormOf};
-ghost use Rattle.teg_dates.specs.Streams.{HasLeast, IsLeastRow, IsStreamOf, date_back, rows_given, rows_kept};
+ghost use Rattle.date_rows.specs.Streams.{HasLeast, IsLeastRow, IsStreamOf, date_back, rows_given, rows_kept};
 
-use crate::last_rows::LastRows;
-use crate::next::{most_tokens_of, next_row};
-use crate::order::PlaceOrder;
-use crate::past::Past;
+use date_rows::LeastRows;
 use dioid::Date;
 use std::alloc::Global;
 use std::marker::Model;
@@ -18,32 +15,27 @@ use teg_form::Form;
 use teg_net::{Net, OutOfMemory, TransitionId};
 
 /// The rows of the least dating of a live net, with its ready dates and its input lists (chapter
-/// 2), one number after another. It keeps the last rows, as many as the greatest number of tokens
-/// of a place and at least one, in room that is made at the start, so the next row takes no memory.
+/// 2), one number after another: [`LeastRows`](crate::LeastRows), which can be made and asked with
+/// the form of the net as well. It keeps the last rows, as many as the greatest number of tokens of
+/// a place and at least one, in room that is made at the start, so the next row takes no memory.
 /// Contracts see the order in which it goes over the places, and the rows that it keeps.
 #[derive(Drop)]
 pub struct Stream {
-    order: PlaceOrder,
-    last: LastRows,
+    rows: LeastRows,
 }
 
 impl Model for Stream {
-    ghost use Rattle.teg_dates.specs.Streams.{StreamLists};
+    ghost use Rattle.date_rows.specs.Streams.{StreamLists};
 
     ghost Value = { StreamLists };
 
-    ghost view = { λ a. record { order = a.order; last = a.last } };
+    ghost view = { λ a. a.rows };
 }
 
 impl Stream {
     /// A stream before the first row of the net that this form stands for. The net is live, as each
-    /// net is that a form was made of.
-    ///
-    /// The rows follow the places in the order of their turns, which is found here once. They do
-    /// not follow the entries of the form: these do not tell the ready dates of tokens, and where
-    /// two places join the same transitions, the one that takes less time may have the later token.
-    /// `OutOfMemory` comes only where no memory is found. It takes time of order `n^2 + p log p`
-    /// for n transitions and p places.
+    /// net is that a form was made of; the form plays no other part. `OutOfMemory` comes only where
+    /// no memory is found. It takes time of order `n^2 + p log p` for n transitions and p places.
     pub fn new(alloc: Global, net: &Net, form: &Form) -> Result<Stream, OutOfMemory>
         requires live { IsLive net.now }
         requires stands { IsStandardFormOf net.now form.now }
@@ -65,10 +57,8 @@ impl Stream {
         ensures number { IfOk result (λ stream. rows_given stream ≡ 0) }
         ensures exists { IfOk result (λ _. HasLeast net.now) }
     {
-        let order = PlaceOrder::new(alloc, net, live)?;
-        let reach = most_tokens_of(net) as u64;
-        let last = LastRows::new(alloc, net.transitions().len(), reach)?;
-        Ok(Stream { order, last })
+        let rows = LeastRows::new(alloc, net, live)?;
+        Ok(Stream { rows })
     }
 
     /// How many rows were given so far. It takes no memory.
@@ -76,7 +66,7 @@ impl Stream {
         ensures value { result ≡ rows_given self.now }
         ensures few { result ≤ greatest_firing_number }
     {
-        self.last.number()
+        self.rows.number()
     }
 
     /// Writes the next row: the dates of the firings of number `number + 1` by the least dating of
@@ -106,9 +96,7 @@ impl Stream {
         ensures number { rows_given self.new ≡ rows_given self.old + 1 }
         ensures stands { IsStreamOf net.now self.new }
     {
-        let number = self.last.number() + 1;
-        next_row(net, self.order.turns(), &self.last, row, number);
-        self.last.push(row);
+        self.rows.write_next(net, row);
     }
 
     /// How many of the last rows it keeps: all, while they are fewer than the greatest number of
@@ -116,7 +104,7 @@ impl Stream {
     pub fn kept(&self) -> u64
         ensures { result ≡ rows_kept self.now.last }
     {
-        self.last.kept()
+        self.rows.kept()
     }
 
     /// The date of the transition so many rows back, 1 being the last: that of its firing of number
@@ -128,6 +116,6 @@ impl Stream {
         requires last { behind ≤ rows_kept self.now.last }
         ensures { result ≡ date_back self.now.last transition.index behind }
     {
-        self.last.back(transition, behind)
+        self.rows.back(transition, behind)
     }
 }

@@ -3,10 +3,10 @@
 //! [`read_due`] and [`read_log`] answer the rows of a file in order, or its first faulty row with
 //! the first of its faults. Rows are counted from 1, a header included. The rows that are answered
 //! keep the rules that the crates above ask for (`IsDueOf`, `IsLogOf`); rows that a program makes
-//! itself are tested by [`is_due_of`] and [`is_log_of`]. [`transition_named`] and
-//! [`is_input`] are what other readers of rows ask of a net too. The crate stands on
-//! `teg_net` for the names of transitions and on `csv_records` for the reader of rows.
-//! Its examples stand in `worked_examples`.
+//! itself are tested by [`is_due_of`] and [`is_log_of`]. [`transition_named`] and [`is_input`] are
+//! what other readers of rows ask of a net too. The crate stands on `teg_net` for the names of
+//! transitions and on `csv_records` for the reader of rows. Its examples stand in
+//! `library_examples`, in `calls.rt`.
 //!
 //! ## Call it
 //!

@@ -8,9 +8,9 @@ use Rattle.teg_net.specs.Nets.{NetLists, IsNet, without_inputs}
 use Rattle.teg_net.specs.Circuits.{IsLive}
 use Rattle.forever_laws.specs.teg_model.Datings.{IsLeastUnder}
 use Rattle.forever_laws.specs.due_laws.MeetingDueDates.{inputs_at_zero}
-use Rattle.teg_dates.specs.Streams.{IsLeastRow}
-use Rattle.forever_laws.specs.declared.rows.EndlessRow.{EndlessRow}
-use Rattle.forever_laws.specs.EndlessRows.{row_due, IsEndlessRow}
+use Rattle.date_rows.specs.Streams.{IsLeastRow}
+use Rattle.endless_due.specs.declared.row.EndlessRow.{EndlessRow}
+use Rattle.endless_due.specs.EndlessRows.{row_due, IsEndlessRow}
 use Rattle.forever_laws.specs.Late.{IsLeastLate, NoneLate, NoneLateTo}
 use Rattle.forever_laws.specs.EndlessDues.{LateIsSoon, ZeroInputsAreNoLists, ZeroMeetsWhereNoneLate}
 use Rattle.forever_laws.specs.PacedRows.{NoRowsAreMet}

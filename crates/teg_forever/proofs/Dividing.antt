@@ -21,8 +21,8 @@ use Rattle.teg_net.specs.declared.entries.TransitionId.{TransitionId}
 use Rattle.teg_net.specs.Inputs.{list_date}
 use Rattle.teg_net.specs.Nets.{NetLists}
 use Rattle.forever_laws.specs.teg_model.Datings.{as_date}
-use Rattle.forever_laws.specs.declared.rows.EndlessRow.{EndlessRow}
-use Rattle.forever_laws.specs.EndlessRows.{again_of_row}
+use Rattle.endless_due.specs.declared.row.EndlessRow.{EndlessRow}
+use Rattle.endless_due.specs.EndlessRows.{again_of_row}
 use Rattle.forever_laws.specs.SeriesColumns.{AreSeriesColumns, IsDueSeries, IsWalkSeries, due_date_at, gain_residuals, residual_over}
 use Rattle.forever_laws.specs.ColumnLaws.{ColumnsExist}
 use Rattle.forever_laws.proofs.OneColumn.{one_due, one_walk}

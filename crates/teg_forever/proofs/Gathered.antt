@@ -6,8 +6,8 @@ use Rattle.teg_net.specs.Nets.{NetLists, IsNet, IsInput}
 use Rattle.teg_net.specs.Circuits.{IsLive}
 use Rattle.teg_due.specs.RowNames.{is_input}
 use Rattle.forever_laws.specs.due_laws.LatestDates.{IsLatestDate}
-use Rattle.forever_laws.specs.declared.rows.EndlessRow.{EndlessRow}
-use Rattle.forever_laws.specs.EndlessRows.{due_on}
+use Rattle.endless_due.specs.declared.row.EndlessRow.{EndlessRow}
+use Rattle.endless_due.specs.EndlessRows.{due_on}
 use Rattle.forever_laws.specs.EndlessDues.{LatestAtInputsAreLatest}
 use Rattle.teg_forever.specs.declared.releases.Release.{Release}
 use Rattle.teg_forever.specs.declared.releases.Release.TheVariants.{Free, Latest}

@@ -11,8 +11,8 @@ use Rattle.dioid.specs.Dates.{move}
 use Rattle.dioid.proofs.Moves.{at_inj}
 use Rattle.forever_laws.proofs.GoingOn.{due_number, due_is, due_only, due_again}
 use Rattle.forever_laws.specs.settled_laws.SettledForms.{SettledForm, settled_date}
-use Rattle.forever_laws.specs.declared.rows.EndlessRow.{EndlessRow}
-use Rattle.forever_laws.specs.EndlessRows.{IsEndlessRow, row_due}
+use Rattle.endless_due.specs.declared.row.EndlessRow.{EndlessRow}
+use Rattle.endless_due.specs.EndlessRows.{IsEndlessRow, row_due}
 use Rattle.forever_laws.specs.Late.{NoneLateTo, NoneLate}
 use Rattle.teg_net.specs.Nets.{NetLists}
 use Rattle.teg_forever.specs.LateFirings.{AreDatesUnder, AreDuesOver, GoesOnBySteps, IsClimbing, NoneLatePast, RisesIn}

@@ -29,8 +29,8 @@ use Rattle.teg_lags.proofs.Lagged.{LeadsSo, lagged_back, lagged_time, lagged_tim
 use Rattle.teg_due.specs.RowNames.{is_input}
 use Rattle.forever_laws.specs.due_laws.LatestDates.{IsDateToDue, IsLatestDate}
 use Rattle.forever_laws.specs.due_laws.MeetingDueDates.{InputsMeet, inputs_at_zero}
-use Rattle.forever_laws.specs.declared.rows.EndlessRow.{EndlessRow}
-use Rattle.forever_laws.specs.EndlessRows.{IsEndlessOf, IsEndlessRow, due_on}
+use Rattle.endless_due.specs.declared.row.EndlessRow.{EndlessRow}
+use Rattle.endless_due.specs.EndlessRows.{IsEndlessOf, IsEndlessRow, due_on}
 use Rattle.forever_laws.specs.SeriesColumns.{AreSeriesColumns, IsWalkSeries}
 use Rattle.forever_laws.proofs.Fitting.{walk_series_fit}
 use Rattle.forever_laws.proofs.Inputs.{input_in, latest_from_zero}

@@ -14,8 +14,8 @@ use Rattle.forever_laws.specs.teg_model.DateBounds.{IsDateWithin, greatest_least
 use Rattle.forever_laws.specs.settled_laws.SettledForms.{SettledForm, IsSettledFormOf, settled_date, step_of_form}
 use Rattle.forever_laws.proofs.settled_laws_proofs.Telling.{form_tells}
 use Rattle.teg_settle.specs.KeptForms.{IsFormKept}
-use Rattle.forever_laws.specs.declared.rows.EndlessRow.{EndlessRow}
-use Rattle.forever_laws.specs.EndlessRows.{IsEndlessRow}
+use Rattle.endless_due.specs.declared.row.EndlessRow.{EndlessRow}
+use Rattle.endless_due.specs.EndlessRows.{IsEndlessRow}
 use Rattle.forever_laws.specs.Late.{NoneLateTo, NoneLate, IsLeastLate}
 use Rattle.forever_laws.specs.LateSearches.{IsCommonPeriodOf, IsSoonest, turns_to}
 use Rattle.forever_laws.specs.EndlessDues.{TurnsTellLate, LateIsSoon, StepsAreFromZero, ZeroInputsAreNoLists, ZeroMeetsWhereNoneLate}

@@ -11,7 +11,6 @@ pub mod LateTurns
 pub mod ReadBack
 pub mod Repeated
 pub mod Residues
-pub mod RowRules
 pub mod LaggedReleases
 pub mod Series
 pub mod Written

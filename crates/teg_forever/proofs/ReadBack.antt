@@ -20,8 +20,8 @@ use Rattle.teg_text.proofs.NamesRead.{transition_back, transition_is_word}
 use Rattle.teg_text.proofs.Reading.{written_read}
 use Rattle.teg_text.proofs.LineBlocks.{before_back, behind_back, map_back, map_passes}
 use Rattle.teg_text.proofs.Words.{all_append, decimal_is_word, date_is_word, signed_is_word}
-use Rattle.teg_forever.specs.declared.rows.EndlessRefusal.{EndlessRefusal}
-use Rattle.teg_forever.specs.declared.rows.EndlessRefusal.TheVariants.{BadRow, UnknownTransition, NotDue, RepeatedDue, OutOfRange, Falls, OutOfMemory as NoRowRoom}
+use Rattle.endless_due.specs.declared.refusal.EndlessRefusal.{EndlessRefusal}
+use Rattle.endless_due.specs.declared.refusal.EndlessRefusal.TheVariants.{BadRow, UnknownTransition, NotDue, RepeatedDue, OutOfRange, Falls, OutOfMemory as NoRowRoom}
 use Rattle.teg_forever.specs.declared.releases.Release.{Release}
 use Rattle.teg_forever.specs.declared.releases.Release.TheVariants.{Free, Latest}
 use Rattle.teg_forever.specs.declared.releases.ForeverRefusal.{ForeverRefusal}

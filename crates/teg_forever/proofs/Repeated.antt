@@ -12,7 +12,7 @@ use Rattle.forever_laws.specs.periodic_laws.Equations.{gains}
 use Rattle.teg_net.specs.Nets.{NetLists, IsNet}
 use Rattle.forever_laws.specs.settled_laws.SettledForms.{SettledForm}
 use Rattle.teg_settle.specs.Transfers.{IsTransferOf}
-use Rattle.forever_laws.specs.declared.rows.EndlessRow.{EndlessRow}
+use Rattle.endless_due.specs.declared.row.EndlessRow.{EndlessRow}
 use Rattle.forever_laws.specs.SeriesColumns.{AreSeriesColumns, IsDueSeries, IsWalkSeries, gain_residuals}
 use Rattle.forever_laws.proofs.OneColumn.{one_due, one_time}
 use Rattle.forever_laws.proofs.Residuals.{GotRow, got_row}

@@ -11,8 +11,8 @@ use Rattle.forever_laws.specs.settled_laws.SettledForms.{SettledForm, settled_le
 use Rattle.teg_settle.specs.Transfers.{IsTransferOf}
 use Rattle.forever_laws.specs.due_laws.MeetingDueDates.{InputsMeet, inputs_at_zero}
 use Rattle.forever_laws.specs.due_laws.LatestDates.{IsLatestDate}
-use Rattle.forever_laws.specs.declared.rows.EndlessRow.{EndlessRow}
-use Rattle.forever_laws.specs.EndlessRows.{due_on}
+use Rattle.endless_due.specs.declared.row.EndlessRow.{EndlessRow}
+use Rattle.endless_due.specs.EndlessRows.{due_on}
 use Rattle.forever_laws.specs.SeriesColumns.{AreSeriesColumns, residual_over}
 use Rattle.forever_laws.specs.ColumnLaws.{ColumnsExist}
 use Rattle.forever_laws.specs.EndlessDues.{ResidualsAreLatestDates, ResidualsAreFreeOrNumbers}

@@ -5,13 +5,12 @@ use Rattle.teg_net.specs.Circuits.{IsLive}
 use Rattle.teg_net.specs.declared.entries.PlaceId.{PlaceId}
 use Rattle.teg_net.specs.declared.entries.TransitionId.{TransitionId}
 use Rattle.teg_net.specs.Nets.{NetLists, IsNet, IsInput, without_inputs}
-use Rattle.teg_form.specs.StandardForms.{FormLists, IsStandardFormOf}
 use Rattle.forever_laws.specs.settled_laws.SettledForms.{SettledForm, settled_length}
 use Rattle.teg_lags.specs.Lags.{AreLeaving}
 use Rattle.teg_settle.specs.Transfers.{IsTransferOf}
 use Rattle.forever_laws.specs.due_laws.MeetingDueDates.{InputsMeet, inputs_at_zero}
-use Rattle.forever_laws.specs.declared.rows.EndlessRow.{EndlessRow}
-use Rattle.forever_laws.specs.EndlessRows.{IsEndlessOf, IsEndlessRow, due_on}
+use Rattle.endless_due.specs.declared.row.EndlessRow.{EndlessRow}
+use Rattle.endless_due.specs.EndlessRows.{IsEndlessOf, IsEndlessRow, due_on}
 use Rattle.teg_forever.specs.LatestReleases.{longest_form}
 
 -- a live net with its ranks, and endless due dates
@@ -78,12 +77,12 @@ pub record IsLiveRow (net : NetLists) (row : EndlessRow) : Type 0 where
   pub is_live : IsLive net
   pub ends : IsEndlessRow net row
 
--- with the net without its inputs, which is live too, and the standard form of that
-pub record IsPlainRow (net plain : NetLists) (form : FormLists) (row : EndlessRow) : Type 0 where
+-- with the net without its inputs, which is live too, and its ranks
+pub record IsPlainRow (net plain : NetLists) (ranks : List ℕ) (row : EndlessRow) : Type 0 where
   pub live : IsLiveRow net row
   pub plain_is : plain ≡ without_inputs net
   pub plain_live : IsLive plain
-  pub stands : IsStandardFormOf plain form
+  pub stands : IsRanking plain ranks
 
 -- a net, and a row of endless due dates
 pub record RowOfNet : Type 0 where

@@ -8,7 +8,7 @@ use Rattle.series_ops.specs.Gains.{gain_left, gain_meet, LeftFits, MeetFits}
 use Rattle.forever_laws.specs.periodic_laws.Equations.{gains}
 use Rattle.teg_net.specs.declared.entries.TransitionId.{TransitionId}
 use Rattle.teg_net.specs.Nets.{NetLists}
-use Rattle.forever_laws.specs.declared.rows.EndlessRow.{EndlessRow}
+use Rattle.endless_due.specs.declared.row.EndlessRow.{EndlessRow}
 use Rattle.forever_laws.specs.SeriesColumns.{AreSeriesColumns, IsDueSeries, gain_residuals, residual_over}
 use Rattle.teg_forever.specs.declared.divisions.Divided.{Divided}
 use Rattle.teg_forever.specs.declared.divisions.Divisions.{Divisions}

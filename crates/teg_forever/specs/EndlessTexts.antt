@@ -9,8 +9,8 @@ use Rattle.teg_text.specs.Faults.{row_line}
 use Rattle.teg_text.specs.Lines.{phrase, written}
 use Rattle.teg_text.specs.WordsOfNames.{name_of_transition}
 use Rattle.teg_text.specs.ValueWords.{date_word}
-use Rattle.teg_forever.specs.declared.rows.EndlessRefusal.{EndlessRefusal}
-use Rattle.teg_forever.specs.declared.rows.EndlessRefusal.TheVariants.{BadRow, UnknownTransition, NotDue, RepeatedDue, OutOfRange, Falls, OutOfMemory as NoRowRoom}
+use Rattle.endless_due.specs.declared.refusal.EndlessRefusal.{EndlessRefusal}
+use Rattle.endless_due.specs.declared.refusal.EndlessRefusal.TheVariants.{BadRow, UnknownTransition, NotDue, RepeatedDue, OutOfRange, Falls, OutOfMemory as NoRowRoom}
 use Rattle.teg_forever.specs.declared.releases.Release.{Release}
 use Rattle.teg_forever.specs.declared.releases.Release.TheVariants.{Free, Latest}
 use Rattle.teg_forever.specs.declared.releases.ForeverRefusal.{ForeverRefusal}

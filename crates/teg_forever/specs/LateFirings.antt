@@ -10,8 +10,8 @@ use Rattle.forever_laws.specs.teg_model.DateBounds.{greatest_least_date}
 use Rattle.forever_laws.specs.teg_model.Datings.{IsLeastUnder}
 use Rattle.forever_laws.specs.settled_laws.SettledForms.{SettledForm, StandsFor, settled_date, step_of_form}
 use Rattle.forever_laws.specs.due_laws.MeetingDueDates.{inputs_at_zero}
-use Rattle.forever_laws.specs.declared.rows.EndlessRow.{EndlessRow}
-use Rattle.forever_laws.specs.EndlessRows.{IsEndlessRow, most_endless_dates, row_due}
+use Rattle.endless_due.specs.declared.row.EndlessRow.{EndlessRow}
+use Rattle.endless_due.specs.EndlessRows.{IsEndlessRow, most_endless_dates, row_due}
 use Rattle.forever_laws.specs.Late.{IsLateAt, IsLeastLate, NoneLate, NoneLateTo}
 use Rattle.forever_laws.specs.LateSearches.{IsCommonPeriodOf}
 use Rattle.forever_laws.specs.EndlessDues.{late_date_bound, late_number_bound}

@@ -16,8 +16,8 @@ use Rattle.forever_laws.specs.due_laws.MeetingDueDates.{InputsMeet, AreLatestInp
 use Rattle.forever_laws.specs.due_laws.LatestDates.{IsLatestDate}
 use Rattle.forever_laws.specs.due_laws.LatestInputs.{LeadsToNoDue}
 use Rattle.teg_due.specs.RowNames.{is_input}
-use Rattle.forever_laws.specs.declared.rows.EndlessRow.{EndlessRow}
-use Rattle.forever_laws.specs.EndlessRows.{due_on}
+use Rattle.endless_due.specs.declared.row.EndlessRow.{EndlessRow}
+use Rattle.endless_due.specs.EndlessRows.{due_on}
 use Rattle.forever_laws.specs.EndlessDues.{late_date_bound, late_number_bound}
 use Rattle.forever_laws.specs.Late.{IsFirstLateRow}
 use Rattle.forever_laws.specs.SeriesColumns.{AreSeriesColumns, gain_residuals}

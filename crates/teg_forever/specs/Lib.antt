@@ -1,4 +1,3 @@
-pub mod EndlessFiles
 pub mod LatestReleases
 pub mod InputAnswers
 pub mod Asked
@@ -9,3 +8,4 @@ pub mod EndlessTexts
 pub mod Paces
 pub mod Lagged
 pub use Rattle.forever_laws.specs as forever_laws
+pub use Rattle.endless_due.specs as endless_due

@@ -4,7 +4,7 @@ use Rattle.teg_net.specs.declared.entries.Place.{Place}
 use Rattle.teg_net.specs.Limits.{greatest_every, greatest_hold, greatest_input_date, most_place_tokens}
 use Rattle.teg_net.specs.Ratios.{Fraction}
 use Rattle.teg_net.specs.ReducedTimes.{reduced_time_of_place}
-use Rattle.forever_laws.specs.declared.rows.EndlessRow.{EndlessRow}
+use Rattle.endless_due.specs.declared.row.EndlessRow.{EndlessRow}
 
 -- the gap of a row for so many firings
 abbrev pub row_ratio : EndlessRow → Fraction

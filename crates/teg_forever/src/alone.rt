@@ -4,7 +4,7 @@ ghost use Rattle.std.specs.Prelude.{◌≡◌, ◌<◌, ◌≤◌, ◌+◌, All,
 ghost use Rattle.dioid.specs.declared.dates.Date.TheVariants.{At};
 ghost use Rattle.teg_net.specs.Limits.{greatest_firing_number, most_place_tokens};
 ghost use Rattle.teg_net.specs.Nets.{without_inputs};
-ghost use Rattle.teg_dates.specs.Streams.{IsStreamOf, rows_given};
+ghost use Rattle.date_rows.specs.Streams.{IsStreamOf, rows_given};
 ghost use Rattle.forever_laws.specs.Late.{IsLeastLate, NoneLateTo};
 ghost use Rattle.forever_laws.specs.PacedRows.{paced_bound};
 ghost use Rattle.teg_forever.specs.LateFirings.{InLeastAtZero, IsTold};
@@ -13,10 +13,10 @@ use crate::dues::due_at;
 use crate::late::LateFiring;
 use crate::pace::keeps_pace;
 use crate::plain_row::PlainRow;
+use date_rows::LeastRows;
 use dioid::Date;
 use forever_laws::{paced_late_is_soon, zero_inputs_are_no_lists};
 use std::alloc::Global;
-use teg_dates::Stream;
 use teg_net::{Net, OutOfMemory};
 
 // The dates and places of the rows that are looked through, at most: some seconds.
@@ -47,7 +47,7 @@ fn number_of(date: Date) -> u128
 }
 
 // Writes the next row of the net without its inputs. The date of the row's transition in it.
-fn next_least(plain: &PlainRow<'_>, stream: &mut Stream, dates: &mut [Date]) -> u128
+fn next_least(plain: &PlainRow<'_>, stream: &mut LeastRows, dates: &mut [Date]) -> u128
     requires stands { IsStreamOf (without_inputs plain.now.net) stream.old }
     requires few { rows_given stream.old < greatest_firing_number }
     requires full { length dates.old ≡ length plain.now.net.transitions }
@@ -58,7 +58,7 @@ fn next_least(plain: &PlainRow<'_>, stream: &mut Stream, dates: &mut [Date]) -> 
     ensures full { length dates.new ≡ length dates.old }
 {
     zero_inputs_are_no_lists();
-    stream.next_row(plain.plain(), plain.form(), dates);
+    stream.write_next(plain.plain(), dates);
     number_of(dates[plain.row().transition.index as usize])
 }
 
@@ -75,7 +75,7 @@ fn late_to(
         IsLeastLate x plain.now.row l.number l.due l.least))) }
 {
     let row = plain.row();
-    let mut stream = Stream::new(alloc, plain.plain(), plain.form())?;
+    let mut stream = LeastRows::new(alloc, plain.plain(), plain.live())?;
     let mut list = vec![in alloc; Date::Early; plain.net().transitions().len()]?;
     let dates = list.as_mut_slice();
     for number in 1..last + 1 {

@@ -2,7 +2,7 @@
 ghost use Rattle.std.specs.Prelude.{◌≡◌, IfOk, IfErr, IsTrue};
 ghost use Rattle.teg_check.specs.Ranks.{IsRanking};
 ghost use Rattle.teg_net.specs.Nets.{without_inputs};
-ghost use Rattle.forever_laws.specs.EndlessRows.{IsEndlessOf};
+ghost use Rattle.endless_due.specs.EndlessRows.{IsEndlessOf};
 ghost use Rattle.forever_laws.specs.settled_laws.SettledForms.{IsSettledFormOf};
 ghost use Rattle.teg_forever.specs.Asked.{AreMetAtZero};
 ghost use Rattle.teg_forever.specs.LatestReleases.{AreEndlessReleases, ForeverRefused};
@@ -14,13 +14,13 @@ use crate::late::{LateFiring, late_in_row};
 use crate::plain_row::PlainRow;
 use crate::releases::{ForeverRefusal, Release};
 use crate::settled_row::SettledRow;
+use endless_due::EndlessRow;
 use forever_laws::{
-    EndlessRow, late_is_soon, latest_at_inputs_are_latest, no_rows_are_met, turns_tell_late,
+    late_is_soon, latest_at_inputs_are_latest, no_rows_are_met, turns_tell_late,
     zero_inputs_are_no_lists, zero_meets_where_none_late,
 };
 use std::alloc::Global;
 use teg_check::{Live, ranked_nets_are_live};
-use teg_form::standard_form;
 use teg_net::{Net, PlaceEnd, PlacesOf};
 use teg_settle::{SettleRefusal, SettledDates, settle_dates, settle_dates_within};
 
@@ -70,9 +70,9 @@ fn keep_rows_alone(alloc: Global, due: &DueRows<'_>, plain: &Net) -> Result<bool
     zero_meets_where_none_late();
     late_is_soon();
     let net = due.net();
-    let form = standard_form(alloc, plain, due.live())?;
+    let live = due.live();
     for row in due.rows() {
-        match told_alone(alloc, &PlainRow::new(net, plain, &form, row))? {
+        match told_alone(alloc, &PlainRow::new(net, plain, live, row))? {
             Told::Late(late) => return Err(refused_at(row, late)),
             Told::None => {}
             Told::Nothing => return Ok(false),

@@ -2,9 +2,9 @@
 ghost use Rattle.std.specs.Prelude.{◌≡◌, ◌<◌, Some, length, slice_get};
 ghost use Rattle.teg_lags.specs.Lags.{AreLeaving};
 ghost use Rattle.teg_forever.specs.Asked.{AreDue, AreRankedRows, IsAsked, IsAskedWith, input_asked, ranked_rows};
-ghost use Rattle.forever_laws.specs.EndlessRows.{IsEndlessRow};
+ghost use Rattle.endless_due.specs.EndlessRows.{IsEndlessRow};
 
-use forever_laws::EndlessRow;
+use endless_due::EndlessRow;
 use std::marker::Model;
 use teg_check::Live;
 use teg_net::{Net, PlacesOf, TransitionId};

@@ -6,7 +6,7 @@ ghost use Rattle.teg_forever.specs.Divisions.{AreAlike, AreDivisions, AreFirstsT
 
 use crate::gains::due_gain;
 use dioid::{Dioid, Refused, Residuated};
-use forever_laws::EndlessRow;
+use endless_due::EndlessRow;
 use series_ops::Gain;
 use std::alloc::{AllocError, Global};
 

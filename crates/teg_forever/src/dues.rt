@@ -1,10 +1,10 @@
 //! The due dates that a row gives each firing.
 ghost use Rattle.std.specs.Prelude.{◌≡◌, ◌≤◌, ◌+◌, ◌*◌};
 ghost use Rattle.teg_net.specs.Limits.{greatest_firing_number, greatest_input_date};
-ghost use Rattle.forever_laws.specs.EndlessRows.{row_due};
+ghost use Rattle.endless_due.specs.EndlessRows.{row_due};
 ghost use Rattle.teg_forever.specs.LateFirings.{IsGoingRow};
 
-use forever_laws::EndlessRow;
+use endless_due::EndlessRow;
 
 // The due date of a firing.
 pub(crate) fn due_at(row: &EndlessRow, number: u64) -> u128

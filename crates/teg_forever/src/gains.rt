@@ -12,7 +12,8 @@ ghost use Rattle.teg_forever.specs.LateFirings.{IsGoingRow};
 
 use crate::asked::InputRows;
 use dioid::Date;
-use forever_laws::{EndlessRow, forms_are_series, series_fit};
+use endless_due::EndlessRow;
+use forever_laws::{forms_are_series, series_fit};
 use series_form::{Series, SeriesRefused};
 use series_ops::Gain;
 use std::alloc::{AllocError, Global};

@@ -4,7 +4,7 @@ ghost use Rattle.dioid.specs.declared.dates.Date.TheVariants.{At};
 ghost use Rattle.teg_net.specs.Limits.{greatest_every, greatest_firing_number, most_rows};
 ghost use Rattle.forever_laws.specs.teg_model.DateBounds.{greatest_least_date};
 ghost use Rattle.forever_laws.specs.settled_laws.SettledForms.{settled_date};
-ghost use Rattle.forever_laws.specs.EndlessRows.{most_endless_dates, row_due};
+ghost use Rattle.endless_due.specs.EndlessRows.{most_endless_dates, row_due};
 ghost use Rattle.forever_laws.specs.Late.{IsLeastLate, NoneLate, NoneLateTo};
 ghost use Rattle.forever_laws.specs.LateSearches.{IsCommonPeriodOf, turns_to};
 ghost use Rattle.teg_forever.specs.LateFirings.{GainsByTurns, IsCycleOf, IsLateAfter, IsSoonLate, GoesOnPast, RisesIn};

@@ -9,13 +9,13 @@
 ghost use Rattle.std.specs.Prelude.{◌≤◌, ◌<◌, ◌+◌, ◌*◌, IsTrue};
 ghost use Rattle.teg_net.specs.Limits.{greatest_every, greatest_input_date, most_rows};
 ghost use Rattle.forever_laws.specs.teg_model.DateBounds.{greatest_least_date};
-ghost use Rattle.forever_laws.specs.EndlessRows.{most_endless_dates};
+ghost use Rattle.endless_due.specs.EndlessRows.{most_endless_dates};
 ghost use Rattle.forever_laws.specs.settled_laws.SettledForms.{settled_date};
 ghost use Rattle.teg_forever.specs.LateFirings.{AreDatesUnder, AreDuesOver, IsCycleOf, IsGoingRow, NoneLatePast, GoesOnPast, greatest_row_number, most_cycle};
 
 use crate::dues::due_at;
 use crate::settled_row::{Cycle, SettledRow};
-use forever_laws::EndlessRow;
+use endless_due::EndlessRow;
 
 // The longest cycle that is looked at, so that all products are small.
 const MOST_CYCLE: u64 = 100_000;

@@ -6,7 +6,7 @@ ghost use Rattle.forever_laws.specs.PacedRows.{KeepsPace};
 ghost use Rattle.teg_forever.specs.Paces.{IsKept, IsWeighable, row_ratio};
 
 use crate::plain_row::PlainRow;
-use forever_laws::EndlessRow;
+use endless_due::EndlessRow;
 use std::alloc::{AllocError, Global};
 use teg_net::{OutOfMemory, Place};
 

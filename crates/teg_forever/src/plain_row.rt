@@ -3,22 +3,22 @@
 ghost use Rattle.std.specs.Prelude.{◌≡◌};
 ghost use Rattle.teg_net.specs.Circuits.{IsLive};
 ghost use Rattle.teg_net.specs.Nets.{without_inputs};
-ghost use Rattle.teg_form.specs.StandardForms.{IsStandardFormOf};
-ghost use Rattle.forever_laws.specs.EndlessRows.{IsEndlessRow};
+ghost use Rattle.teg_check.specs.Ranks.{IsRanking};
+ghost use Rattle.endless_due.specs.EndlessRows.{IsEndlessRow};
 ghost use Rattle.teg_forever.specs.Asked.{IsPlainRow, IsRowOfLive, row_of_net};
 
-use forever_laws::EndlessRow;
+use endless_due::EndlessRow;
 use std::marker::Model;
-use teg_form::Form;
+use teg_check::Live;
 use teg_net::Net;
 
-// A live net, the net without its inputs, the standard form of that, and a row. Contracts see the
-// net and the row.
+// A live net, the net without its inputs, the ranks of both, and a row. Contracts see the net and
+// the row.
 #[derive(Drop)]
 pub(crate) struct PlainRow<'a> {
     net: &'a Net,
     plain: &'a Net,
-    form: &'a Form,
+    live: &'a Live,
     row: &'a EndlessRow,
 }
 
@@ -29,7 +29,7 @@ impl<'a> Model for PlainRow<'a> {
 
     ghost view = { λ p. row_of_net p.net.now p.row.now };
 
-    ghost invariant = { λ p. IsPlainRow p.net.now p.plain.now p.form.now p.row.now };
+    ghost invariant = { λ p. IsPlainRow p.net.now p.plain.now p.live.now p.row.now };
 }
 
 impl<'a> PlainRow<'a> {
@@ -37,16 +37,16 @@ impl<'a> PlainRow<'a> {
     pub(crate) fn new(
         net: &'a Net,
         plain: &'a Net,
-        form: &'a Form,
+        live: &'a Live,
         row: &'a EndlessRow,
     ) -> PlainRow<'a>
-        requires { IsPlainRow net.now plain.now form.now row.now }
+        requires { IsPlainRow net.now plain.now live.now row.now }
         ensures { result ≡ row_of_net net.now row.now }
     {
         PlainRow {
             net,
             plain,
-            form,
+            live,
             row,
         }
     }
@@ -68,11 +68,11 @@ impl<'a> PlainRow<'a> {
         self.plain
     }
 
-    // Its standard form.
-    pub(crate) fn form(&self) -> &Form
-        ensures { IsStandardFormOf (without_inputs self.now.net) result.now }
+    // Its ranks.
+    pub(crate) fn live(&self) -> &Live
+        ensures { IsRanking (without_inputs self.now.net) result.now }
     {
-        self.form
+        self.live
     }
 
     // The row.

@@ -7,7 +7,7 @@ ghost use Rattle.forever_laws.specs.settled_laws.SettledForms.{settled_date};
 ghost use Rattle.teg_forever.specs.LateFirings.{IsClimbing, IsGoingRow, IsRowAtZero, IsSettledRow, row_at_zero};
 
 use dioid::Date;
-use forever_laws::EndlessRow;
+use endless_due::EndlessRow;
 use std::marker::Model;
 use teg_net::TransitionId;
 use teg_settle::SettledDates;

@@ -7,7 +7,7 @@ ghost use Rattle.teg_forever.specs.LatestReleases.{inputs_of};
 ghost use Rattle.teg_forever.specs.EndlessTexts.{IsRefusalIn, IsReleaseTold, IsEndlessTold, TextsOfEndlessDiffer, Faulty, Answered, answer_lines, endless_lines_of, release_line, series_words};
 
 use crate::releases::{ForeverRefusal, Release};
-use crate::rows::EndlessRefusal;
+use endless_due::EndlessRefusal;
 use series_form::Series;
 use std::alloc::{AllocError, Global};
 use teg_due::is_input;

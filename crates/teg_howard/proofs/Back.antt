@@ -26,7 +26,7 @@ back_add net π (suc m) k t =
     let e : suc m + k ≡ suc (m + k) = omega arith in
     rw e (ap (λ x. from_of net (π x)) (back_add net π m k t))
 
--- the place at i of the trail is the policy's place of the transition m - 1 - i places step_back
+-- the place at i of the trail is the policy's place of the transition m - 1 - i places back
 pub get_or-trail : (net : NetLists) (π : Policy) (m t i : ℕ) (d : PlaceId) → i < m → get_or (trail net π m t) i d ≡ π (step_back net π (m - suc i) t)
 get_or-trail net π zero t i d l = absurd (omega arith)
 get_or-trail net π (suc m) t zero d l = let e : suc m - 1 ≡ m = omega arith in rw e refl
@@ -64,13 +64,13 @@ module _ (net : NetLists) (parts : List ℕ) (part : ℕ) (π : Policy) (ok : Is
           let long = length-trail net π k t in
           let jk : j < k = omega arith in
           let ik : i < k = omega arith in
-          -- the place at i begins k - i places step_back
+          -- the place at i begins k - i places back
           let a : from_of net (get_or (trail net π k t) i d) ≡ step_back net π (suc (k - suc i)) t = ap (from_of net) (get_or-trail net π k t i d ik) in
           let b : from_of net (get_or (trail net π k t) j d) ≡ step_back net π (suc (k - suc j)) t = ap (from_of net) (get_or-trail net π k t j d jk) in
           let ia : suc (k - suc i) ≡ k - i = omega arith in
           let jb : suc (k - suc j) ≡ k - j = omega arith in
           λ e.
-          -- i more places step_back from both: one has come to t after k, the other before
+          -- i more places back from both: one has come to t after k, the other before
           let same : step_back net π (k - i) t ≡ step_back net π (k - j) t = sym (a ∙ ap (λ x. step_back net π x t) ia) ∙ (e ∙ (b ∙ ap (λ x. step_back net π x t) jb)) in
           let on : step_back net π (i + (k - i)) t ≡ step_back net π (i + (k - j)) t = sym (back_add net π i (k - i) t) ∙ (ap (step_back net π i) same ∙ back_add net π i (k - j) t) in
           let whole : i + (k - i) ≡ k = omega arith in

@@ -1,4 +1,4 @@
--- Routing to a circuit: afterwards every member leads step_back to it.
+-- Routing to a circuit: afterwards every member leads back to it.
 use Rattle.std.proofs.Common.{ℕ, zero, suc, ◌+◌, ◌-◌, ◌<◌, ◌≤◌, ◌≡◌, List, length, get_or, take, refl, sym, ap, subst, ◌∙◌, arith, ⊎_elim}
 use Rattle.std.specs.Prelude.{Any}
 use Rattle.std.proofs.lemmas.List.{get_or_default, get_or-take, length-take-le}
@@ -13,7 +13,7 @@ use Rattle.teg_howard.proofs.Turns.{on_circuit}
 
 module _ (net : NetLists) (parts : List ℕ) (part : ℕ) (π : Policy) (ok : IsPolicy net parts part π) (s : ℕ) (joins : List PlaceId)
     (routed : Policy) (r : IsRouting net parts part π s joins routed) where
-  -- what led step_back leads step_back the same way
+  -- what led back leads back the same way
   same_back : (m t : ℕ) → IsMember parts part t → step_back net π m t ≡ s → (j : ℕ) → j ≤ m → step_back net routed j t ≡ step_back net π j t
   same_back m t h e zero l = refl
   same_back m t h e (suc j) l =
@@ -26,7 +26,7 @@ module _ (net : NetLists) (parts : List ℕ) (part : ℕ) (π : Policy) (ok : Is
   pub kept_home : (t : ℕ) → IsMember parts part t → LeadsBack net π t s → LeadsBack net routed t s
   kept_home t h home = (home.0, same_back home.0 t h home.1 home.0 (omega arith) ∙ home.1)
 
-  -- the ends of the first n places lead step_back
+  -- the ends of the first n places lead back
   joined_home : (n k : ℕ) → k < n → k < length joins → LeadsBack net routed (to_of net (get_or joins k first_id)) s
   joined_home zero k l m = absurd (omega arith)
   joined_home (suc n) k l m =

@@ -59,7 +59,7 @@ own_trail net π (suc n) (p ∷ ps) s t e h l =
     (ap (λ x. x ∷ ps) p_is ∙ ap (λ x. π (step_back net π n t) ∷ x) rest.0, sym l.1 ∙ ap (from_of net) p_is)
 
 module _ (net : NetLists) (parts : List ℕ) (part : ℕ) (π : Policy) (ok : IsPolicy net parts part π) (a b s : ℕ) (v : ℕ → ℤ) (sums : AreSums net parts part a b π s v) where
-  -- a potential is the sum of what the places count on the way step_back
+  -- a potential is the sum of what the places count on the way back
   pub sum_back : (m t : ℕ) → IsMember parts part t → ((j : ℕ) → j < m → step_back net π j t ≢ s) → v t ≡ (reduced_time_of net a b (trail net π m t) +ℤ v (step_back net π m t))
   sum_back zero t h apart = omega (arith, ints)
   sum_back (suc m) t h apart =

@@ -85,7 +85,7 @@ module _ (net : NetLists) (parts : List ℕ) (part : ℕ) where
   pub root_member : (π : Policy) (c : List PlaceId) → IsPolicyCircuit net parts part π c → IsMember parts part (first_transition_of net c)
   root_member π c h = (h.inside 0 first_id h.circuit.not_empty).from_member
 
-  -- each transition of a policy's circuit comes step_back to itself, and to the root
+  -- each transition of a policy's circuit comes back to itself, and to the root
   pub on_circuit : (π : Policy) (c : List PlaceId) → IsPolicyCircuit net parts part π c → (k : ℕ) (d : PlaceId) → k < length c → LeadsBack net π (to_of net (get_or c k d)) (first_transition_of net c)
   on_circuit π c h k d l =
       let e = circuit_trail π c h in
@@ -94,7 +94,7 @@ module _ (net : NetLists) (parts : List ℕ) (part : ℕ) where
       let x : ℕ = to_of net (get_or c k d) in
       let own : π x ≡ get_or c k d = h.own k d l in
       let read : get_or c k d ≡ π (step_back net π (n - suc k) root) = ap (λ z. get_or z k d) e.0 ∙ get_or-trail net π n root k d l in
-      -- the place begins n - k step_back from the root, so from its end the root is k + 1 step_back
+      -- the place begins n - k back from the root, so from its end the root is k + 1 back
       let start : from_of net (get_or c k d) ≡ step_back net π (suc (n - suc k)) root = ap (from_of net) read in
       let whole : k + suc (n - suc k) ≡ n = omega arith in
       let step : step_back net π 1 x ≡ step_back net π (suc (n - suc k)) root = ap (from_of net) own ∙ start in
@@ -262,7 +262,7 @@ module _ (net : NetLists) (parts : List ℕ) (part : ℕ) where
               let j : ℕ = n - suc i in
               let p : PlaceId = get_or c i d in
               let own : π (to_of net p) ≡ p = is.own i d l in
-              -- the place ends j step_back from the root
+              -- the place ends j back from the root
               let read : p ≡ π (step_back net π j root) = ap (λ z. get_or z i d) t.0 ∙ get_or-trail net π n root i d l in
               let end : to_of net p ≡ step_back net π j root = ap (to_of net) read ∙ (ok (step_back net π j root) (back_member net parts part π ok j root root_in)).ends in
               let way = same_way r.0 root root_in r.1 r.2 in

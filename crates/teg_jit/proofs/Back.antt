@@ -3,17 +3,17 @@ use Rattle.std.proofs.Common.{ℕ, ◌+◌, ◌<◌, ◌≤◌, ◌≡◌, ◌�
 use Rattle.std.specs.Prelude.{pos, Option, ◌⊎◌, ⊤}
 use Rattle.std.proofs.lemmas.Bool.{cases_eq, cases_lt}
 use Rattle.std.proofs.lemmas.List.{length-set}
-use Rattle.teg_dates.specs.dioid.declared.dates.Date.{Date}
-use Rattle.teg_dates.specs.dioid.declared.dates.Date.TheVariants.{At as on_date}
-use Rattle.teg_dates.specs.dioid.Dates.{IsAtMostDate, delayed}
-use Rattle.teg_dates.proofs.dioid_proofs.DateOrder.{at_most_is, at_most_trans, delayed_rises}
+use Rattle.date_rows.specs.dioid.declared.dates.Date.{Date}
+use Rattle.date_rows.specs.dioid.declared.dates.Date.TheVariants.{At as on_date}
+use Rattle.date_rows.specs.dioid.Dates.{IsAtMostDate, delayed}
+use Rattle.date_rows.proofs.dioid_proofs.DateOrder.{at_most_is, at_most_trans, delayed_rises}
 use Rattle.teg_net.specs.declared.entries.PlaceId.{PlaceId}
 use Rattle.teg_net.specs.declared.entries.Place.{Place}
 use Rattle.teg_net.specs.Nets.{NetLists, IsNet, IsPlaceOf}
 use Rattle.teg_net.specs.Circuits.{no_place, place_at}
-use Rattle.teg_dates.specs.teg_model.Datings.{IsFeasibleUnder}
+use Rattle.date_rows.specs.teg_model.Datings.{IsFeasibleUnder}
 use Rattle.due_laws.specs.MeetingDueDates.{KeepsDues, inputs_at_zero}
-use Rattle.teg_dates.specs.DateTables.{firing_position}
+use Rattle.date_rows.specs.DateTables.{firing_position}
 use Rattle.teg_jit.specs.declared.order.Depth.{Depth}
 use Rattle.teg_jit.specs.declared.answers.Onward.{Onward}
 use Rattle.teg_jit.specs.declared.answers.Onward.TheVariants.{Due, By, Next}

@@ -3,13 +3,13 @@ use Rattle.std.proofs.Common.{ℕ, ◌+◌, ◌*◌, ◌<◌, ◌≤◌, ◌≡�
 use Rattle.std.specs.Prelude.{pos, Option, Some}
 use Rattle.std.proofs.lemmas.Bool.{cases_lt}
 use Rattle.std.proofs.lemmas.List.{length-set}
-use Rattle.teg_dates.specs.dioid.declared.dates.Date.{Date}
-use Rattle.teg_dates.specs.dioid.declared.dates.Date.TheVariants.{At as on_date, Never}
-use Rattle.teg_dates.specs.dioid.Dates.{IsAtMostDate, delayed}
-use Rattle.teg_dates.proofs.dioid_proofs.DateOrder.{at_most_refl, at_most_is, at_most_trans, never_last}
+use Rattle.date_rows.specs.dioid.declared.dates.Date.{Date}
+use Rattle.date_rows.specs.dioid.declared.dates.Date.TheVariants.{At as on_date, Never}
+use Rattle.date_rows.specs.dioid.Dates.{IsAtMostDate, delayed}
+use Rattle.date_rows.proofs.dioid_proofs.DateOrder.{at_most_refl, at_most_is, at_most_trans, never_last}
 use Rattle.teg_net.specs.Nets.{NetLists, IsNet}
 use Rattle.teg_net.specs.Circuits.{place_at}
-use Rattle.teg_dates.specs.DateTables.{firing_position}
+use Rattle.date_rows.specs.DateTables.{firing_position}
 use Rattle.teg_due.specs.declared.rows.DueRow.{DueRow}
 use Rattle.teg_jit.specs.declared.answers.Onward.{Onward}
 use Rattle.teg_jit.specs.declared.answers.Onward.TheVariants.{Due, By}

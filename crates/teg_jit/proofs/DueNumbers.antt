@@ -4,11 +4,11 @@ use Rattle.std.specs.Prelude.{All, Contains}
 use Rattle.std.proofs.lemmas.Bool.{cases_eq, cases_lt}
 use Rattle.std.proofs.lemmas.List.{get_or-map, get_or-set_same, get_or-set_other, length-set}
 use Rattle.std.proofs.lemmas.List.Elements.{All-push, Contains-push, Contains-append_left}
-use Rattle.teg_dates.specs.dioid.declared.dates.Date.{Date}
-use Rattle.teg_dates.specs.dioid.declared.dates.Date.TheVariants.{Early}
+use Rattle.date_rows.specs.dioid.declared.dates.Date.{Date}
+use Rattle.date_rows.specs.dioid.declared.dates.Date.TheVariants.{Early}
 use Rattle.teg_net.specs.Nets.{NetLists}
-use Rattle.teg_dates.specs.teg_model.Datings.{IsLeastDating}
-use Rattle.teg_dates.specs.DateCells.{date_of_cell}
+use Rattle.date_rows.specs.teg_model.Datings.{IsLeastDating}
+use Rattle.date_rows.specs.DateCells.{date_of_cell}
 use Rattle.teg_due.specs.declared.rows.DueRow.{DueRow}
 use Rattle.teg_jit.specs.declared.due_numbers.Numbered.{Numbered}
 use Rattle.teg_jit.specs.DueDates.{NameFirings}

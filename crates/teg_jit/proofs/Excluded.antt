@@ -4,11 +4,11 @@ use Rattle.std.specs.Prelude.{pos, All, IsSomeAnd, slice_get}
 use Rattle.std.proofs.lemmas.Int.{ints}
 use Rattle.std.proofs.lemmas.List.{get_or_default}
 use Rattle.std.proofs.lemmas.Option.{get_or_from_slice_get, slice_get_within}
-use Rattle.teg_dates.specs.dioid.declared.dates.Date.{Date}
-use Rattle.teg_dates.specs.dioid.declared.dates.Date.TheVariants.{At}
-use Rattle.teg_dates.specs.dioid.Dates.{IsAtMostDate}
+use Rattle.date_rows.specs.dioid.declared.dates.Date.{Date}
+use Rattle.date_rows.specs.dioid.declared.dates.Date.TheVariants.{At}
+use Rattle.date_rows.specs.dioid.Dates.{IsAtMostDate}
 use Rattle.teg_net.specs.Nets.{NetLists}
-use Rattle.teg_dates.proofs.teg_model_proofs.OfNet.{only_least}
+use Rattle.date_rows.proofs.teg_model_proofs.OfNet.{only_least}
 use Rattle.due_laws.specs.MeetingDueDates.{KeepsDues, inputs_at_zero}
 use Rattle.teg_due.specs.declared.rows.DueRow.{DueRow}
 use Rattle.teg_due.specs.RowRules.{IsDueOf, due_in}

@@ -5,19 +5,19 @@ use Rattle.std.proofs.lemmas.Bool.{cases_Bool}
 use Rattle.std.proofs.lemmas.Int.{ints}
 use Rattle.std.proofs.lemmas.List.{get_or-take, length-take-le}
 use Rattle.std.proofs.lemmas.Option.{slice_get-get_or}
-use Rattle.teg_dates.specs.dioid.declared.dates.Date.{Date}
-use Rattle.teg_dates.specs.dioid.declared.dates.Date.TheVariants.{Early, At as on_date, Never}
-use Rattle.teg_dates.proofs.dioid_proofs.DateOrder.{at_most_is}
+use Rattle.date_rows.specs.dioid.declared.dates.Date.{Date}
+use Rattle.date_rows.specs.dioid.declared.dates.Date.TheVariants.{Early, At as on_date, Never}
+use Rattle.date_rows.proofs.dioid_proofs.DateOrder.{at_most_is}
 use Rattle.teg_net.specs.Limits.{greatest_input_date}
 use Rattle.teg_net.specs.Nets.{NetLists, IsNet, without_inputs}
 use Rattle.teg_net.specs.ReadyDates.{start_date}
 use Rattle.teg_net.specs.Walks.{walk_time}
 use Rattle.teg_check.specs.Ranks.{IsRanking}
-use Rattle.teg_dates.specs.teg_model.Datings.{IsLeastUnder, IsLeastDating}
-use Rattle.teg_dates.proofs.teg_model_proofs.OfNet.{net_ends}
-use Rattle.teg_dates.proofs.teg_model_proofs.Within.{AreWithin, least_within}
-use Rattle.teg_dates.specs.DateCells.{no_number, date_of_cell}
-use Rattle.teg_dates.specs.DateTables.{most_numbers}
+use Rattle.date_rows.specs.teg_model.Datings.{IsLeastUnder, IsLeastDating}
+use Rattle.date_rows.proofs.teg_model_proofs.OfNet.{net_ends}
+use Rattle.date_rows.proofs.teg_model_proofs.Within.{AreWithin, least_within}
+use Rattle.date_rows.specs.DateCells.{no_number, date_of_cell}
+use Rattle.date_rows.specs.DateTables.{most_numbers}
 use Rattle.due_laws.specs.MeetingDueDates.{InputsMeet, inputs_at_zero}
 use Rattle.teg_due.specs.declared.rows.DueRow.{DueRow}
 use Rattle.teg_due.specs.RowRules.{due_in}

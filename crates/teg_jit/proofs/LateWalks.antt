@@ -3,20 +3,20 @@ use Rattle.std.proofs.Common.{ℕ, zero, suc, ◌+◌, ◌<◌, ◌≤◌, ◌�
 use Rattle.std.specs.Prelude.{pos, Some, None, Option, IfNone, IfOk, Result, Ok, Err}
 use Rattle.std.specs.Option.{IsSome}
 use Rattle.std.proofs.lemmas.Int.{ints}
-use Rattle.teg_dates.specs.dioid.declared.dates.Date.{Date}
-use Rattle.teg_dates.specs.dioid.declared.dates.Date.TheVariants.{Early, At as on_date}
-use Rattle.teg_dates.specs.dioid.Dates.{IsAtMostDate, delayed}
-use Rattle.teg_dates.proofs.dioid_proofs.DateOrder.{at_most_is, at_most_trans, same_by_at_most, later_is_left}
+use Rattle.date_rows.specs.dioid.declared.dates.Date.{Date}
+use Rattle.date_rows.specs.dioid.declared.dates.Date.TheVariants.{Early, At as on_date}
+use Rattle.date_rows.specs.dioid.Dates.{IsAtMostDate, delayed}
+use Rattle.date_rows.proofs.dioid_proofs.DateOrder.{at_most_is, at_most_trans, same_by_at_most, later_is_left}
 use Rattle.teg_net.specs.declared.walks.Step.{Step}
 use Rattle.teg_net.specs.declared.walks.Walk.{Walk}
 use Rattle.teg_net.specs.Nets.{NetLists, IsNet, IsInput}
 use Rattle.teg_net.specs.ReadyDates.{start_date}
 use Rattle.teg_net.specs.Walks.{Walks, walk_time}
-use Rattle.teg_dates.specs.teg_model.LiveRanks.{AreRanks, HasEndsInRange}
-use Rattle.teg_dates.specs.teg_model.Datings.{IsLeastUnder, at_input}
-use Rattle.teg_dates.specs.teg_model.Starts.{start_of_firing}
-use Rattle.teg_dates.proofs.teg_model_proofs.GreatestWalks.{least_is_walk, not_before_ready}
-use Rattle.teg_dates.proofs.teg_model_proofs.OfNet.{input_or_not, net_ends}
+use Rattle.date_rows.specs.teg_model.LiveRanks.{AreRanks, HasEndsInRange}
+use Rattle.date_rows.specs.teg_model.Datings.{IsLeastUnder, at_input}
+use Rattle.date_rows.specs.teg_model.Starts.{start_of_firing}
+use Rattle.date_rows.proofs.teg_model_proofs.GreatestWalks.{least_is_walk, not_before_ready}
+use Rattle.date_rows.proofs.teg_model_proofs.OfNet.{input_or_not, net_ends}
 use Rattle.due_laws.specs.MeetingDueDates.{KeepsDues, InputsMeet, inputs_at_zero}
 use Rattle.due_laws.specs.LatestDates.{IsDateToDue, IsTightWalk, IsLateWalk}
 use Rattle.due_laws.proofs.LatestDates.{kept_below}
@@ -27,7 +27,7 @@ use Rattle.teg_jit.specs.Plans.{dates_of_plan, PlanDates, KeepsSizes, IsPlanFor}
 use Rattle.teg_jit.specs.FirstLate.{HasDateAtStart, StartsAreKept}
 use Rattle.teg_due.proofs.DueOnce.{no_row}
 use Rattle.teg_due.proofs.DueRows.{row_of_due, due_of_row}
-use Rattle.teg_dates.proofs.teg_model_proofs.LiveRanks.{rank_bound, rank_in, ranks_in}
+use Rattle.date_rows.proofs.teg_model_proofs.LiveRanks.{rank_bound, rank_in, ranks_in}
 use Rattle.teg_jit.proofs.Walking.{in_numbers}
 
 -- ---- one row

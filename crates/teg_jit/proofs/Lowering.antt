@@ -4,8 +4,8 @@ use Rattle.std.specs.Prelude.{pos, ◌⊎◌, Some, None}
 use Rattle.std.proofs.lemmas.Bool.{cases_Bool}
 use Rattle.std.proofs.lemmas.Bool.Decides.{nat_tests}
 use Rattle.std.proofs.lemmas.Int.{ints}
-use Rattle.teg_dates.specs.dioid.declared.dates.Date.TheVariants.{At as on_date, Never}
-use Rattle.teg_dates.specs.dioid.Dates.{IsAtMostDate}
+use Rattle.date_rows.specs.dioid.declared.dates.Date.TheVariants.{At as on_date, Never}
+use Rattle.date_rows.specs.dioid.Dates.{IsAtMostDate}
 use Rattle.teg_jit.specs.declared.answers.Onward.{Onward}
 use Rattle.teg_jit.specs.declared.answers.Onward.TheVariants.{Due}
 use Rattle.teg_jit.specs.declared.answers.LatestDate.{LatestDate}

@@ -8,18 +8,18 @@ use Rattle.teg_net.specs.Nets.{NetLists, IsNet}
 use Rattle.teg_net.specs.Circuits.{IsLive}
 use Rattle.teg_net.specs.ReadyDates.{start_date}
 use Rattle.teg_net.specs.Walks.{walk_time}
-use Rattle.teg_dates.specs.teg_model.Datings.{IsLeastUnder, system_of}
+use Rattle.date_rows.specs.teg_model.Datings.{IsLeastUnder, system_of}
 use Rattle.due_laws.specs.MeetingDueDates.{inputs_at_zero}
-use Rattle.teg_dates.proofs.teg_model_proofs.LeastOver.{least_over}
-use Rattle.teg_dates.proofs.teg_model_proofs.LiveRanks.{live_is_ranked}
-use Rattle.teg_dates.proofs.teg_model_proofs.OfNet.{net_ends, least_of, least_of_system}
+use Rattle.date_rows.proofs.teg_model_proofs.LeastOver.{least_over}
+use Rattle.date_rows.proofs.teg_model_proofs.LiveRanks.{live_is_ranked}
+use Rattle.date_rows.proofs.teg_model_proofs.OfNet.{net_ends, least_of, least_of_system}
 use Rattle.teg_due.specs.declared.rows.DueRow.{DueRow}
 use Rattle.teg_due.specs.RowRules.{IsDueOf}
 use Rattle.teg_jit.specs.PlansAndLateness.{IsLate, MeetOrLate}
 use Rattle.teg_jit.specs.LateRefusals.{KeepsRow}
 use Rattle.teg_due.proofs.DueOnce.{no_row}
-use Rattle.teg_dates.proofs.teg_model_proofs.LiveRanks.{rank_bound, rank_in, ranks_in}
-use Rattle.teg_dates.proofs.teg_model_proofs.DateFunctions.{Dating}
+use Rattle.date_rows.proofs.teg_model_proofs.LiveRanks.{rank_bound, rank_in, ranks_in}
+use Rattle.date_rows.proofs.teg_model_proofs.DateFunctions.{Dating}
 use Rattle.teg_jit.proofs.LateWalks.{Reached, reached}
 use Rattle.teg_jit.proofs.LateRows.{all_kept, first_late_is}
 

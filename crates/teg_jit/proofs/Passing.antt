@@ -4,21 +4,21 @@ use Rattle.std.specs.Prelude.{pos, Option, Some, None, Contains}
 use Rattle.std.proofs.lemmas.Bool.{cases_lt}
 use Rattle.std.proofs.lemmas.Int.{ints}
 use Rattle.std.proofs.lemmas.List.{set-get_or, get_or_read}
-use Rattle.teg_dates.specs.dioid.declared.dates.Date.{Date}
-use Rattle.teg_dates.specs.dioid.declared.dates.Date.TheVariants.{At as on_date}
-use Rattle.teg_dates.specs.dioid.Dates.{IsAtMostDate, delayed}
-use Rattle.teg_dates.proofs.dioid_proofs.DateOrder.{at_most_refl, at_most_is, at_most_trans, never_last, delayed_rises}
+use Rattle.date_rows.specs.dioid.declared.dates.Date.{Date}
+use Rattle.date_rows.specs.dioid.declared.dates.Date.TheVariants.{At as on_date}
+use Rattle.date_rows.specs.dioid.Dates.{IsAtMostDate, delayed}
+use Rattle.date_rows.proofs.dioid_proofs.DateOrder.{at_most_refl, at_most_is, at_most_trans, never_last, delayed_rises}
 use Rattle.teg_net.specs.declared.entries.PlaceId.{PlaceId}
 use Rattle.teg_net.specs.declared.entries.Place.{Place}
 use Rattle.teg_net.specs.Nets.{NetLists, IsNet, IsPlaceOf}
 use Rattle.teg_net.specs.Circuits.{no_place, place_at}
 use Rattle.teg_check.specs.Ranks.{IsRanking}
-use Rattle.teg_dates.specs.teg_model.Datings.{IsFeasibleUnder}
+use Rattle.date_rows.specs.teg_model.Datings.{IsFeasibleUnder}
 use Rattle.due_laws.specs.MeetingDueDates.{KeepsDues, inputs_at_zero}
 use Rattle.due_laws.proofs.LatestDates.{delayed_back}
 use Rattle.due_laws.proofs.LatestDates.{feasible_keeps}
-use Rattle.teg_dates.proofs.teg_model_proofs.Tokens.{not_before_zero}
-use Rattle.teg_dates.specs.DateTables.{firing_position}
+use Rattle.date_rows.proofs.teg_model_proofs.Tokens.{not_before_zero}
+use Rattle.date_rows.specs.DateTables.{firing_position}
 use Rattle.teg_jit.specs.declared.order.Depth.{Depth}
 use Rattle.teg_jit.specs.declared.answers.Onward.TheVariants.{By, Next}
 use Rattle.teg_jit.specs.declared.answers.LatestDate.{LatestDate}

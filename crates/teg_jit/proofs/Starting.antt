@@ -3,8 +3,8 @@ use Rattle.std.proofs.Common.{ℕ, ◌<◌, ◌≤◌, ◌≡◌, length, get_or
 use Rattle.std.specs.Prelude.{pos, Any}
 use Rattle.std.proofs.lemmas.Int.{ints}
 use Rattle.std.proofs.lemmas.List.{get_or_default}
-use Rattle.teg_dates.specs.dioid.declared.dates.Date.TheVariants.{At as on_date}
-use Rattle.teg_dates.specs.dioid.Dates.{IsAtMostDate}
+use Rattle.date_rows.specs.dioid.declared.dates.Date.TheVariants.{At as on_date}
+use Rattle.date_rows.specs.dioid.Dates.{IsAtMostDate}
 use Rattle.teg_net.specs.declared.entries.Place.{Place}
 use Rattle.teg_net.specs.Nets.{NetLists}
 use Rattle.teg_net.specs.Circuits.{no_place}

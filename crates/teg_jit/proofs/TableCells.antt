@@ -2,8 +2,8 @@
 use Rattle.std.proofs.Common.{ℕ, ◌-◌, ◌*◌, ◌<◌, ◌≤◌, ◌≡◌, ◌≢◌, List, length, set, ap, arith, ⊎_elim}
 use Rattle.std.proofs.lemmas.Bool.{cases_lt}
 use Rattle.std.proofs.lemmas.List.{get_or_past, get_or-set_same, get_or-set_other}
-use Rattle.teg_dates.specs.DateTables.{firing_position}
-use Rattle.teg_dates.proofs.Cells.{rows_below, cell_within}
+use Rattle.date_rows.specs.DateTables.{firing_position}
+use Rattle.date_rows.proofs.Cells.{rows_below, cell_within}
 use Rattle.teg_jit.specs.declared.answers.LatestDate.{LatestDate}
 use Rattle.teg_jit.specs.declared.answers.LatestDate.TheVariants.{Free}
 use Rattle.teg_jit.specs.Plans.{latest_in}

@@ -3,21 +3,21 @@ use Rattle.std.proofs.Common.{ℕ, zero, suc, ◌+◌, ◌-◌, ◌*◌, ◌<◌
 use Rattle.std.specs.Prelude.{pos, Option}
 use Rattle.std.proofs.lemmas.Bool.{cases_lt}
 use Rattle.std.proofs.lemmas.Int.{ints}
-use Rattle.teg_dates.specs.dioid.declared.dates.Date.{Date}
-use Rattle.teg_dates.specs.dioid.declared.dates.Date.TheVariants.{At as on_date, Never}
-use Rattle.teg_dates.specs.dioid.Dates.{delayed}
-use Rattle.teg_dates.proofs.dioid_proofs.DateOrder.{at_most_is, at_most_trans}
+use Rattle.date_rows.specs.dioid.declared.dates.Date.{Date}
+use Rattle.date_rows.specs.dioid.declared.dates.Date.TheVariants.{At as on_date, Never}
+use Rattle.date_rows.specs.dioid.Dates.{delayed}
+use Rattle.date_rows.proofs.dioid_proofs.DateOrder.{at_most_is, at_most_trans}
 use Rattle.teg_net.specs.declared.entries.Place.{Place}
 use Rattle.teg_net.specs.Nets.{NetLists, IsNet, IsPlaceOf}
 use Rattle.teg_net.specs.Circuits.{no_place, place_at, IsLive}
 use Rattle.teg_check.specs.Ranks.{IsRanking}
 use Rattle.std.proofs.lemmas.List.{get_or_past}
 use Rattle.teg_net.specs.Walks.{walk_time}
-use Rattle.teg_dates.specs.teg_model.LiveRanks.{AreRanks}
-use Rattle.teg_dates.proofs.teg_model_proofs.OfNet.{net_ends}
+use Rattle.date_rows.specs.teg_model.LiveRanks.{AreRanks}
+use Rattle.date_rows.proofs.teg_model_proofs.OfNet.{net_ends}
 use Rattle.due_laws.specs.LatestDates.{IsDateToDue, AreLatestDates}
 use Rattle.due_laws.proofs.LatestDates.{delayed_back, due_here, due_by, due_next, walk_ends_in}
-use Rattle.teg_dates.proofs.teg_model_proofs.WalkSteps.{Keeps, walk_below}
+use Rattle.date_rows.proofs.teg_model_proofs.WalkSteps.{Keeps, walk_below}
 use Rattle.teg_jit.specs.declared.answers.Onward.{Onward}
 use Rattle.teg_jit.specs.declared.answers.Onward.TheVariants.{Due, By, Next}
 use Rattle.teg_jit.specs.declared.answers.LatestDate.{LatestDate}

@@ -4,9 +4,9 @@ use Rattle.std.specs.Prelude.{pos, Option, Some, None, All, unwrap_or, ⊤}
 use Rattle.std.proofs.lemmas.Bool.{cases_lt}
 use Rattle.std.proofs.lemmas.Int.{ints}
 use Rattle.std.proofs.lemmas.List.Sums.{sum_by-cons}
-use Rattle.teg_dates.specs.dioid.declared.dates.Date.TheVariants.{At as on_date, Never}
-use Rattle.teg_dates.specs.dioid.Dates.{delayed}
-use Rattle.teg_dates.proofs.dioid_proofs.DateOrder.{at_most_is}
+use Rattle.date_rows.specs.dioid.declared.dates.Date.TheVariants.{At as on_date, Never}
+use Rattle.date_rows.specs.dioid.Dates.{delayed}
+use Rattle.date_rows.proofs.dioid_proofs.DateOrder.{at_most_is}
 use Rattle.teg_net.specs.declared.entries.PlaceId.{PlaceId}
 use Rattle.teg_net.specs.declared.entries.Place.{Place}
 use Rattle.teg_net.specs.declared.walks.Step.{Step}
@@ -15,9 +15,9 @@ use Rattle.teg_net.specs.declared.walks.Walk.{Walk}
 use Rattle.teg_net.specs.Nets.{NetLists, IsNet, IsPlaceOf}
 use Rattle.teg_net.specs.Circuits.{no_place, place_at}
 use Rattle.teg_net.specs.Walks.{Walks, numbers_of, step_time, walk_time}
-use Rattle.teg_dates.proofs.teg_model_proofs.Delays.{delayed_twice, delayed_not}
-use Rattle.teg_dates.proofs.teg_model_proofs.OfNet.{net_ends}
-use Rattle.teg_dates.proofs.teg_model_proofs.WalkSteps.{walk_append, walk_time-append}
+use Rattle.date_rows.proofs.teg_model_proofs.Delays.{delayed_twice, delayed_not}
+use Rattle.date_rows.proofs.teg_model_proofs.OfNet.{net_ends}
+use Rattle.date_rows.proofs.teg_model_proofs.WalkSteps.{walk_append, walk_time-append}
 use Rattle.teg_jit.specs.declared.answers.Onward.{Onward}
 use Rattle.teg_jit.specs.declared.answers.Onward.TheVariants.{Due, By, Next}
 use Rattle.teg_jit.specs.declared.answers.LatestDate.{LatestDate}
@@ -27,7 +27,7 @@ use Rattle.teg_jit.specs.FirstSteps.{IsFirstStep, first_step_of}
 use Rattle.teg_jit.specs.PlansAndLateness.{PlansLead}
 use Rattle.teg_jit.specs.Plans.{date_or_never, dates_of_plan, latest_at, HasOnward, PlanDates, KeepsSizes, IsPlanFor, FollowsPlan}
 use Rattle.teg_jit.proofs.TableCells.{past_last}
-use Rattle.teg_dates.proofs.teg_model_proofs.LiveRanks.{rank_bound, rank_in, ranks_in}
+use Rattle.date_rows.proofs.teg_model_proofs.LiveRanks.{rank_bound, rank_in, ranks_in}
 use Rattle.teg_jit.proofs.Tight.{distance, nearer, number_there}
 
 -- the steps so far lead from firing k of transition t to a firing that is not free, and the dates at both ends are as far apart as their time

@@ -1,12 +1,12 @@
 -- Working definitions of the rows of a due list in the order of their numbers, and of the least dates at them.
 use Rattle.std.specs.Prelude.{ℕ, pos, ◌<◌, ◌≤◌, ◌≡◌, List, length, All, Contains, map, slice_index_or}
 use Rattle.std.specs.List.Sorted.{IsNonDecreasingBy}
-use Rattle.teg_dates.specs.dioid.declared.dates.Date.{Date}
-use Rattle.teg_dates.specs.dioid.declared.dates.Date.TheVariants.{At}
+use Rattle.date_rows.specs.dioid.declared.dates.Date.{Date}
+use Rattle.date_rows.specs.dioid.declared.dates.Date.TheVariants.{At}
 use Rattle.teg_net.specs.Nets.{NetLists}
-use Rattle.teg_dates.specs.DateCells.{date_of_cell}
-use Rattle.teg_dates.specs.DateTables.{most_numbers}
-use Rattle.teg_dates.specs.Streams.{FirstLists, AreFirstRowsOf, IsLeastRow}
+use Rattle.date_rows.specs.DateCells.{date_of_cell}
+use Rattle.date_rows.specs.DateTables.{most_numbers}
+use Rattle.date_rows.specs.Streams.{FirstLists, AreFirstRowsOf, IsLeastRow}
 use Rattle.teg_due.specs.declared.rows.DueRow.{DueRow}
 use Rattle.teg_jit.specs.declared.due_numbers.Numbered.{Numbered}
 use Rattle.teg_jit.specs.DueDates.{NameFirings}

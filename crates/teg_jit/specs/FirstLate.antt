@@ -1,12 +1,12 @@
 -- Working definitions of how the first late row is found, and of where a late walk begins.
 use Rattle.std.specs.Prelude.{ℕ, pos, ◌<◌, ◌≤◌, ◌≡◌, List, length, slice_index_or}
-use Rattle.teg_dates.specs.dioid.declared.dates.Date.{Date}
-use Rattle.teg_dates.specs.dioid.declared.dates.Date.TheVariants.{At}
+use Rattle.date_rows.specs.dioid.declared.dates.Date.{Date}
+use Rattle.date_rows.specs.dioid.declared.dates.Date.TheVariants.{At}
 use Rattle.teg_net.specs.Nets.{NetLists}
-use Rattle.teg_dates.specs.dioid.Dates.{IsAtMostDate}
+use Rattle.date_rows.specs.dioid.Dates.{IsAtMostDate}
 use Rattle.teg_net.specs.Circuits.{place_at}
 use Rattle.teg_net.specs.ReadyDates.{ready_date, start_date}
-use Rattle.teg_dates.specs.teg_model.Datings.{IsLeastUnder}
+use Rattle.date_rows.specs.teg_model.Datings.{IsLeastUnder}
 use Rattle.due_laws.specs.MeetingDueDates.{inputs_at_zero}
 use Rattle.teg_due.specs.declared.rows.DueRow.{DueRow}
 use Rattle.teg_jit.specs.LatestCells.{most_cell_date}

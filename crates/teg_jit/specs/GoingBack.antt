@@ -1,12 +1,12 @@
 -- Working definitions of the passes of one number, going back: how far the latest dates are settled.
 use Rattle.std.specs.Prelude.{ℕ, ◌+◌, ◌*◌, ◌<◌, ◌≤◌, ◌≡◌, List, length, All, slice_index_or, Option, Some, None, nat_lt, if◌then◌else◌}
-use Rattle.teg_dates.specs.dioid.declared.dates.Date.{Date}
-use Rattle.teg_dates.specs.dioid.Dates.{IsAtMostDate, delayed}
+use Rattle.date_rows.specs.dioid.declared.dates.Date.{Date}
+use Rattle.date_rows.specs.dioid.Dates.{IsAtMostDate, delayed}
 use Rattle.teg_net.specs.declared.entries.PlaceId.{PlaceId}
 use Rattle.teg_net.specs.Nets.{NetLists}
 use Rattle.teg_net.specs.Circuits.{place_at}
-use Rattle.teg_dates.specs.teg_model.Datings.{IsFeasibleUnder}
-use Rattle.teg_dates.specs.DateTables.{most_numbers}
+use Rattle.date_rows.specs.teg_model.Datings.{IsFeasibleUnder}
+use Rattle.date_rows.specs.DateTables.{most_numbers}
 use Rattle.teg_due.specs.declared.rows.DueRow.{DueRow}
 use Rattle.due_laws.specs.MeetingDueDates.{KeepsDues, inputs_at_zero}
 use Rattle.teg_jit.specs.declared.answers.Onward.{Onward}

@@ -1,11 +1,11 @@
 -- What a refusal says of the net and the due list.
 use Rattle.std.specs.Prelude.{ℕ, pos, ◌<◌, ◌≡◌, List, All, take, slice_get, IsSomeAnd, ⊤}
-use Rattle.teg_dates.specs.dioid.declared.dates.Date.{Date}
-use Rattle.teg_dates.specs.dioid.declared.dates.Date.TheVariants.{At}
-use Rattle.teg_dates.specs.dioid.Dates.{IsAtMostDate}
+use Rattle.date_rows.specs.dioid.declared.dates.Date.{Date}
+use Rattle.date_rows.specs.dioid.declared.dates.Date.TheVariants.{At}
+use Rattle.date_rows.specs.dioid.Dates.{IsAtMostDate}
 use Rattle.teg_net.specs.declared.entries.TransitionId.{TransitionId}
 use Rattle.teg_net.specs.Nets.{NetLists}
-use Rattle.teg_dates.specs.teg_model.Datings.{IsLeastUnder}
+use Rattle.date_rows.specs.teg_model.Datings.{IsLeastUnder}
 use Rattle.due_laws.specs.MeetingDueDates.{inputs_at_zero}
 use Rattle.due_laws.specs.LatestDates.{IsLateWalk}
 use Rattle.teg_due.specs.declared.rows.DueRow.{DueRow}

@@ -1,7 +1,7 @@
 -- Working definitions of latest dates in eight bytes each: the date times 4,096, and the number of its first step.
 use Rattle.std.specs.Prelude.{ℕ, zero, suc, ◌/◌, ◌%◌, ◌<◌, nat_eq, if◌then◌else◌, ⊤}
 use Rattle.teg_net.specs.Limits.{most_places}
-use Rattle.teg_dates.specs.DateCells.{no_number}
+use Rattle.date_rows.specs.DateCells.{no_number}
 use Rattle.teg_jit.specs.declared.answers.Onward.{Onward}
 use Rattle.teg_jit.specs.declared.answers.Onward.TheVariants.{Due, By, Next}
 use Rattle.teg_jit.specs.declared.answers.LatestDate.{LatestDate}

@@ -1,13 +1,13 @@
 -- Plans: the latest dates of the firings up to the greatest number that is due, each with a first step (chapter 5).
 use Rattle.std.specs.Prelude.{ℕ, pos, ◌+◌, ◌*◌, ◌<◌, ◌≤◌, ◌≡◌, ◌≢◌, List, [], ◌∷◌, length, slice_index_or, Option, Some, ⊤}
-use Rattle.teg_dates.specs.dioid.declared.dates.Date.{Date}
-use Rattle.teg_dates.specs.dioid.declared.dates.Date.TheVariants.{At as on_date, Never}
+use Rattle.date_rows.specs.dioid.declared.dates.Date.{Date}
+use Rattle.date_rows.specs.dioid.declared.dates.Date.TheVariants.{At as on_date, Never}
 use Rattle.teg_net.specs.declared.walks.Step.{Step}
 use Rattle.teg_net.specs.declared.walks.Step.TheVariants.{By as by_place, Next as to_next}
 use Rattle.teg_net.specs.Limits.{most_transitions}
 use Rattle.teg_net.specs.Nets.{NetLists}
 use Rattle.teg_net.specs.Circuits.{place_at, from_of, IsLive}
-use Rattle.teg_dates.specs.DateTables.{most_numbers, firing_position}
+use Rattle.date_rows.specs.DateTables.{most_numbers, firing_position}
 use Rattle.due_laws.specs.LatestDates.{AreLatestDates}
 use Rattle.teg_jit.specs.declared.answers.Onward.{Onward}
 use Rattle.teg_jit.specs.declared.answers.Onward.TheVariants.{Due, By, Next}

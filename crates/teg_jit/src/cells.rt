@@ -1,7 +1,7 @@
 //! Where the dates of firings stand in a list with one row a number.
 ghost use Rattle.std.specs.Prelude.{◌≡◌, ◌<◌, ◌≤◌, ◌*◌};
 ghost use Rattle.teg_net.specs.Limits.{most_transitions};
-ghost use Rattle.teg_dates.specs.DateTables.{firing_position, most_numbers};
+ghost use Rattle.date_rows.specs.DateTables.{firing_position, most_numbers};
 
 use teg_net::TransitionId;
 

@@ -1,21 +1,21 @@
 //! The least dates at the firings of a due list, taken from one row of dates after another.
 ghost use Rattle.std.specs.Prelude.{◌≡◌, ◌≤◌, ℕ, length, All, IfOk};
-ghost use Rattle.teg_dates.specs.dioid.declared.dates.Date.{Date};
+ghost use Rattle.date_rows.specs.dioid.declared.dates.Date.{Date};
 ghost use Rattle.teg_check.specs.Ranks.{IsRanking};
-ghost use Rattle.teg_dates.specs.teg_model.Datings.{IsLeastDating};
-ghost use Rattle.teg_dates.specs.Streams.{AreFirstRowsOf};
-ghost use Rattle.teg_dates.specs.DateTables.{most_numbers};
+ghost use Rattle.date_rows.specs.teg_model.Datings.{IsLeastDating};
+ghost use Rattle.date_rows.specs.Streams.{AreFirstRowsOf};
+ghost use Rattle.date_rows.specs.DateTables.{most_numbers};
 ghost use Rattle.teg_jit.specs.DueDates.{NameFirings};
 ghost use Rattle.teg_jit.specs.DueNumbers.{AreRowsNumbered, AreAsked, HaveRow, HaveLastRow, NoRowsGiven, AreDatesOfRows};
 
+use date_rows::FirstRows;
 use std::alloc::{AllocError, Global};
 use teg_check::Live;
-use teg_dates::FirstRows;
 use teg_due::DueRow;
 use teg_net::{Net, OutOfMemory};
 
 // The number of the firing that a row names, and the index of the row.
-#[derive(Clone, Copy, Debug, Drop)]
+#[derive(Clone, Copy, Drop)]
 pub(crate) struct Numbered {
     pub(crate) number: u32,
     pub(crate) index: usize,

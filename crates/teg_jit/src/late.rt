@@ -1,11 +1,11 @@
 //! Due dates that no inputs can meet.
 ghost use Rattle.std.specs.Prelude.{◌≡◌, ◌≤◌, ℕ, [], ◌∷◌, length, IfOk, IfErr, IfNone, IfSome, All};
-ghost use Rattle.teg_dates.specs.dioid.declared.dates.Date.{Date};
+ghost use Rattle.date_rows.specs.dioid.declared.dates.Date.{Date};
 ghost use Rattle.teg_net.specs.Nets.{IsNet};
 ghost use Rattle.teg_net.specs.ReadyDates.{start_date};
 ghost use Rattle.teg_check.specs.Ranks.{IsRanking};
-ghost use Rattle.teg_dates.specs.teg_model.Datings.{IsLeastUnder};
-ghost use Rattle.teg_dates.specs.DateTables.{most_numbers};
+ghost use Rattle.date_rows.specs.teg_model.Datings.{IsLeastUnder};
+ghost use Rattle.date_rows.specs.DateTables.{most_numbers};
 ghost use Rattle.due_laws.specs.MeetingDueDates.{InputsMeet, inputs_at_zero};
 ghost use Rattle.due_laws.specs.LatestDates.{IsLateWalk};
 ghost use Rattle.teg_due.specs.RowRules.{due_in};

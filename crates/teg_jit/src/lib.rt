@@ -8,10 +8,21 @@
 //! same call for a caller that has the standard form, which it does not read. What latest dates and
 //! latest inputs are stands in `due_laws`, over walks and datings; what plans keep beside it is
 //! proved by functions that do nothing when they run. The crate stands on `teg_net`, on `teg_check`
-//! for ranks, on `teg_form` for the signature of `latest` alone, on `teg_dates` for the least
+//! for ranks, on `teg_form` for the signature of `latest` alone, on `date_rows` for the least
 //! dates, on `teg_due` for due lists, and on `due_laws`, `teg_model` and `dioid` for what the
-//! answers mean.
-//! Its examples stand in `worked_examples`.
+//! answers mean. Its examples stand in `library_examples`, in `chapters_plans.rt` and `plans.rt`.
+//!
+//! ## How it works
+//!
+//! The latest dates are found going back, one number at a time from the greatest that is due. A
+//! number begins with its due dates; each date is lowered to that of the transition's next number,
+//! and then, by one pass over the places in falling order of the ranks of their upstream
+//! transitions, to what each place leaves of the date at its end. A date is lowered only where the
+//! new one comes strictly before, so of equal steps the first stays: Due, then Next, then a place.
+//! That inputs at 0 keep the due dates is tested first, by rows of which only the last are kept; so
+//! the subtractions stay at or above 0. A date and its first step are one number of eight bytes.
+//! Where a row is late, its walk comes from a plan for this row alone, due at its least date: some
+//! firing's latest date is then its start, and the walk of the first steps from there is late.
 //!
 //! ## Call it
 //!

@@ -6,8 +6,7 @@
 //! of walks that `transfer` of `teg_settle` answers for the one are those for the other, moved, in
 //! a form of the same length ([`lagged_times_are_moved`]). The crate stands on `teg_settle` for
 //! times of walks, on `settled_laws` for settled forms, on `teg_net` for nets, and on `dioid` for
-//! dates.
-//! Its examples stand in `worked_examples`.
+//! dates. Whole calls try it, in `worked_examples`.
 #![tactic(auto)]
 
 mod lags;

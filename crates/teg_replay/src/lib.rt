@@ -7,10 +7,18 @@
 //!
 //! The crate stands on `run_laws` for runs and what holds of them, on `teg_net` for nets, on
 //! `teg_due` for the rows of a log, on `teg_outside` for monitors, and on `teg_model` and `dioid`
-//! for the least dating.
-//! Its examples stand in `worked_examples`.
+//! for the least dating. Its examples stand in `library_examples`, in `chapters_plans.rt`.
 //!
 //! A call of [`Game::fire`] that is refused, for want of memory too, changes nothing.
+//!
+//! ## How it works
+//!
+//! A run is a list of firings, and what may follow it is said of the list alone (`run_laws`). A
+//! `Game` keeps such a list and beside it what makes a firing cheap: of each transition the dates
+//! of its firings, the places into it, how many places leave it, and where its input list stands;
+//! and the number of tokens in all places. Its contracts say of these only that they are those of
+//! the list and the net (`IsGameOf`). All memory that a firing needs is found before anything
+//! changes.
 //!
 //! ## Call it
 //!

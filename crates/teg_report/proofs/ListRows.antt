@@ -8,7 +8,7 @@ use Rattle.std.proofs.lemmas.List.FromFn.{get_or-map-range_with_len, length-map-
 use Rattle.dioid.specs.declared.dates.Date.{Date}
 use Rattle.dioid.specs.declared.dates.Date.TheVariants.{Early}
 use Rattle.teg_net.specs.Nets.{NetLists}
-use Rattle.teg_dates.specs.Passes.{IsRowOf}
+use Rattle.date_rows.specs.Passes.{IsRowOf}
 use Rattle.teg_report.specs.DateLists.{dated_firing, number_line, listed_count_line, names_line, list_lines, head_text, row_text}
 use Rattle.teg_text.specs.Lines.{line_then, written}
 use Rattle.teg_text.specs.ValueWords.{date_word}

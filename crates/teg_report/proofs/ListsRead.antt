@@ -5,7 +5,7 @@ use Rattle.std.specs.List.{range_with_len}
 use Rattle.std.specs.Prelude.{⊤}
 use Rattle.dioid.specs.declared.dates.Date.{Date}
 use Rattle.dioid.specs.declared.dates.Date.TheVariants.{Early}
-use Rattle.teg_dates.specs.DateTables.{TableDates, IsDateTable, date_at, most_numbers}
+use Rattle.date_rows.specs.DateTables.{TableDates, IsDateTable, date_at, most_numbers}
 use Rattle.teg_net.specs.declared.entries.Transition.{Transition}
 use Rattle.teg_net.specs.Names.{is_name}
 use Rattle.teg_net.specs.Nets.{NetLists, IsNet}

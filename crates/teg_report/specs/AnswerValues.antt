@@ -2,7 +2,7 @@
 use Rattle.std.specs.Prelude.{ℕ, List, Option}
 use Rattle.dioid.specs.declared.dates.Date.{Date as DateOf}
 use Rattle.teg_critical.specs.declared.slacks.Slack.{Slack as PlaceSlack}
-use Rattle.teg_dates.specs.DateTables.{TableDates}
+use Rattle.date_rows.specs.DateTables.{TableDates}
 use Rattle.teg_due.specs.declared.rows.DueRefusal.{DueRefusal}
 use Rattle.teg_due.specs.declared.rows.LogRefusal.{LogRefusal}
 use Rattle.teg_form.specs.StandardForms.{FormLists}

@@ -4,10 +4,10 @@ use Rattle.std.specs.Fmt.{decimal}
 use Rattle.std.specs.List.{flat_map, range_with_len}
 use Rattle.dioid.specs.declared.dates.Date.{Date}
 use Rattle.teg_net.specs.Nets.{NetLists}
-use Rattle.teg_dates.specs.Passes.{IsRowOf}
+use Rattle.date_rows.specs.Passes.{IsRowOf}
 use Rattle.teg_text.specs.Lines.{line_then, written}
 use Rattle.teg_text.specs.ValueWords.{date_word}
-use Rattle.teg_dates.specs.DateTables.{TableDates}
+use Rattle.date_rows.specs.DateTables.{TableDates}
 use Rattle.teg_text.specs.WordReading.{line_at, word, number_in, date_of_word}
 use Rattle.teg_text.specs.LineBlocks.{cell_in}
 

@@ -1,6 +1,6 @@
 -- What the values of an answer keep, and where an answer is told in the one way that it has.
 use Rattle.std.specs.Prelude.{Option, IfSome, All, ⊤}
-use Rattle.teg_dates.specs.DateTables.{IsDateTable}
+use Rattle.date_rows.specs.DateTables.{IsDateTable}
 use Rattle.teg_net.specs.Nets.{NetLists, IsNet}
 use Rattle.teg_reader.specs.RefusalSpots.{HasPlainSpot}
 use Rattle.teg_report.specs.AnswerValues.{Answer, Usage, Live, Listed, Form, NoCircuit, Cycle, Dates, Date, Jit, Late, Slack, Transfer, Replayed}

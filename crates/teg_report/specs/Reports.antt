@@ -1,6 +1,6 @@
 -- The text of an answer, and what an answer about a net meets.
 use Rattle.std.specs.Prelude.{ℕ, ◌<◌, ◌≡◌, ◌≢◌, List, [], ◌∷◌, ◌++◌, Option, Some, None, IsSomeAnd, length, All, ⊤}
-use Rattle.teg_dates.specs.DateTables.{date_at}
+use Rattle.date_rows.specs.DateTables.{date_at}
 use Rattle.teg_net.specs.Circuits.{AreInRange}
 use Rattle.teg_net.specs.Nets.{NetLists}
 use Rattle.series_form.specs.declared.forms.SeriesRefused.TheVariants.{OutOfMemory as NoRoom}

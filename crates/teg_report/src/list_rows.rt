@@ -5,10 +5,10 @@ ghost use Rattle.teg_report.specs.DateLists.{ListsAreJoined, head_text, row_text
 ghost use Rattle.teg_text.specs.ValueWords.{date_word};
 
 use crate::lists::head;
+use date_rows::DateCell;
 use dioid::Date;
 use itoa::{Buffer, write_digits};
 use std::alloc::Global;
-use teg_dates::DateCell;
 use teg_net::{Net, OutOfMemory};
 
 /// The room that a row of so many dates needs in a block, in bytes: at most 41 for each date, 20

@@ -1,13 +1,13 @@
 //! The text of a list of dates: two lines before the dates, and one line for each number.
 ghost use Rattle.std.specs.Prelude.{ℕ, ◌≡◌, ◌++◌, ◌<◌, ◌≤◌, [], All, IfOk, length, string_bytes};
 ghost use Rattle.teg_net.specs.Limits.{most_transitions};
-ghost use Rattle.teg_dates.specs.DateTables.{IsDateTable, date_at};
+ghost use Rattle.date_rows.specs.DateTables.{IsDateTable, date_at};
 ghost use Rattle.teg_report.specs.DateLists.{listed_count_line, list_lines, names_line, number_line};
 ghost use Rattle.teg_text.specs.Lines.{line_then, written};
 ghost use Rattle.teg_text.specs.ValueWords.{IsDate};
 
+use date_rows::Table;
 use std::alloc::{AllocError, Global};
-use teg_dates::Table;
 use teg_net::{Net, OutOfMemory, TransitionId};
 use teg_text::push_date;
 

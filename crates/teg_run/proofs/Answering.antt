@@ -3,14 +3,14 @@ use Rattle.std.proofs.Common.{◌≡◌, ℕ, List, [], ◌∷◌, Option, Some,
 use Rattle.teg_net.specs.Nets.{NetLists}
 use Rattle.teg_outside.specs.declared.shelf.ShelfFault.{ShelfFault}
 use Rattle.teg_outside.specs.Shelves.{ShelfState}
-use Rattle.teg_run.specs.declared.status.Status.{Status}
-use Rattle.teg_commands.specs.declared.outcome.Verdict.{Verdict}
-use Rattle.teg_commands.specs.CommandOutcomes.{Tells}
+use Rattle.teg_files.specs.declared.status.Status.{Status}
+use Rattle.teg_outcome.specs.declared.outcome.Verdict.{Verdict}
+use Rattle.teg_outcome.specs.CommandOutcomes.{Tells}
 use Rattle.teg_report.specs.declared.answer.Which.{Which}
 use Rattle.teg_report.specs.declared.answer.Which.TheVariants.{Net as NetFile}
-use Rattle.teg_run.specs.Endings.{Ending, Whole, Lost, ending_of}
-use Rattle.teg_run.specs.Openings.{Opening, Accepted, Refused, OpensNet}
-use Rattle.teg_run.specs.Reads.{ReadsOnIfTaken, ReadsAll, OpenedBy}
+use Rattle.teg_files.specs.Endings.{Ending, Whole, Lost, ending_of}
+use Rattle.teg_files.specs.Openings.{Opening, Accepted, Refused, OpensNet}
+use Rattle.teg_files.specs.Reads.{ReadsOnIfTaken, ReadsAll, OpenedBy}
 use Rattle.teg_run.specs.WholeCalls.{Answered}
 use Rattle.teg_run.specs.Says.{SaysFile, SaysOutcome}
 

@@ -9,17 +9,17 @@ use Rattle.teg_outside.specs.declared.monitor.Firing.{Firing}
 use Rattle.teg_outside.specs.declared.shelf.ShelfFault.{ShelfFault}
 use Rattle.teg_outside.specs.declared.shelf.ShelfFault.TheVariants.{Failed, TooLarge, OutOfMemory}
 use Rattle.teg_outside.specs.Shelves.{ShelfState, Reads}
-use Rattle.teg_commands.specs.csv_records.Records.{most_file_bytes}
+use Rattle.teg_report.specs.csv_records.Records.{most_file_bytes}
 use Rattle.teg_report.specs.declared.answer.Which.{Which}
 use Rattle.teg_report.specs.declared.answer.Which.TheVariants.{Net as NetFile}
-use Rattle.teg_run.specs.declared.status.Status.{Status}
-use Rattle.teg_run.specs.declared.status.Status.TheVariants.{Text, ReadFault}
+use Rattle.teg_files.specs.declared.status.Status.{Status}
+use Rattle.teg_files.specs.declared.status.Status.TheVariants.{Text, ReadFault}
 use Rattle.teg_run.specs.Headline.{Opens, Holds, IsSaidOf}
-use Rattle.teg_run.specs.Openings.{Opening, Accepted, Refused, OpensNet, OpensDocument, OpensBytes, read_status}
-use Rattle.teg_run.specs.Reads.{ReadsAll}
-use Rattle.teg_run.specs.declared.request.Request.{Request}
-use Rattle.teg_run.specs.declared.request.Request.TheVariants.{OfNet, OfFiles, ValueOf, TrialOf}
-use Rattle.teg_run.specs.Requests.{files_of, second_of}
+use Rattle.teg_files.specs.Openings.{Opening, Accepted, Refused, OpensNet, OpensDocument, OpensBytes, read_status}
+use Rattle.teg_files.specs.Reads.{ReadsAll}
+use Rattle.teg_request.specs.declared.request.Request.{Request}
+use Rattle.teg_request.specs.declared.request.Request.TheVariants.{OfNet, OfFiles, ValueOf, TrialOf}
+use Rattle.teg_request.specs.Requests.{files_of, second_of}
 use Rattle.teg_run.specs.Says.{Says, SaysFile, SaysFiles, SaysNet, SaysOpening, SaysOutcome, SaysSecond}
 use Rattle.teg_run.proofs.Verdicts.{IsGiven}
 use Rattle.teg_run.proofs.Refusals.{told_file}

@@ -5,11 +5,11 @@ use Rattle.teg_outside.specs.Shelves.{ShelfState, ReadsGrow}
 use Rattle.teg_outside.proofs.Counts.{rose_then, rested_then}
 use Rattle.teg_outside.proofs.Growth.{reads_grow_then}
 use Rattle.teg_report.specs.declared.answer.Which.{Which}
-use Rattle.teg_run.specs.declared.status.Status.{Status}
-use Rattle.teg_run.specs.declared.status.Status.TheVariants.{Text, Net, ReadFault}
+use Rattle.teg_files.specs.declared.status.Status.{Status}
+use Rattle.teg_files.specs.declared.status.Status.TheVariants.{Text, Net, ReadFault}
 use Rattle.teg_run.specs.Calls.{Call}
 use Rattle.teg_run.specs.Headline.{IsAccepted, IsNoText, IsNoNet, CountsAsNoText, HasFault, as_told}
-use Rattle.teg_commands.specs.CommandTexts.{too_large_text, fault_text}
+use Rattle.teg_files.specs.RefusalTexts.{too_large_text, fault_text}
 use Rattle.teg_run.proofs.Refusals.{Refusal, told_file, accepted_told, accepted_not_refused, no_text_not_accepted, no_net_not_accepted}
 use Rattle.teg_run.proofs.Refusals.{no_text_counted, no_text_told, no_net_told, no_text_gives, no_net_gives, refusal_is_said, overlong_told}
 use Rattle.teg_run.proofs.Refusals.{fault_told}

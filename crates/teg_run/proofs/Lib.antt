@@ -1,14 +1,10 @@
 pub mod Answering
 pub mod Causes
-pub mod CommandNames
 pub mod Faults
-pub mod Growing
 pub mod LiveNets
-pub mod WrittenLists
 pub mod Promises
 pub mod ReadOrder
 pub mod Refusals
-pub mod Refusing
 pub mod SecondReads
 pub mod Showing
 pub mod ShownFiles

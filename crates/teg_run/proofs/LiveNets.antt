@@ -9,13 +9,13 @@ use Rattle.teg_outside.specs.declared.shelf.ShelfFault.TheVariants.{Failed, TooL
 use Rattle.teg_outside.specs.Causes.{Rested}
 use Rattle.teg_outside.specs.Shelves.{ShelfState, Reads}
 use Rattle.teg_outside.proofs.Counts.{rose_not_rested, rested_then}
-use Rattle.teg_commands.specs.csv_records.Records.{most_file_bytes}
+use Rattle.teg_report.specs.csv_records.Records.{most_file_bytes}
 use Rattle.teg_report.specs.declared.answer.Which.{Which}
 use Rattle.teg_report.specs.declared.answer.Which.TheVariants.{Net as NetFile}
-use Rattle.teg_run.specs.declared.status.Status.{Status}
+use Rattle.teg_files.specs.declared.status.Status.{Status}
 use Rattle.teg_run.specs.Headline.{Opens, Holds}
-use Rattle.teg_run.specs.Openings.{Opening, Accepted, Refused, OpensNet, OpensDocument, OpensBytes}
-use Rattle.teg_run.specs.Reads.{ReadsAll}
+use Rattle.teg_files.specs.Openings.{Opening, Accepted, Refused, OpensNet, OpensDocument, OpensBytes}
+use Rattle.teg_files.specs.Reads.{ReadsAll}
 use Rattle.teg_run.specs.Says.{SaysFile, SaysOpening}
 use Rattle.teg_run.proofs.ReadOrder.{none_left}
 use Rattle.teg_run.proofs.Refusals.{told_file, told_long, not_long, same_bytes, same_document, live_not_free}

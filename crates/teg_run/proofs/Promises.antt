@@ -6,28 +6,29 @@ use Rattle.teg_outside.specs.Causes.{Rose}
 use Rattle.teg_outside.specs.Sinks.{BytesGrow}
 use Rattle.teg_outside.specs.Shelves.{ShelfState}
 use Rattle.teg_outside.specs.declared.shelf.ShelfFault.{ShelfFault}
-use Rattle.teg_run.specs.Reads.{ReadsAll}
+use Rattle.teg_files.specs.Reads.{ReadsAll}
 use Rattle.std.specs.Prelude.{Result}
 use Rattle.teg_outside.proofs.Counts.{rose_not_rested}
 use Rattle.teg_report.specs.declared.answer.Which.{Which}
-use Rattle.teg_run.specs.declared.status.Status.{Status}
-use Rattle.teg_run.specs.declared.status.Status.TheVariants.{Words, Text, Net, ReadFault, WriteFault, NoMemory}
-use Rattle.teg_commands.specs.declared.outcome.Verdict.{Verdict}
+use Rattle.teg_files.specs.declared.status.Status.{Status}
+use Rattle.teg_files.specs.declared.status.Status.TheVariants.{Words, Text, Net, ReadFault, WriteFault, NoMemory}
+use Rattle.teg_outcome.specs.declared.outcome.Verdict.{Verdict}
 use Rattle.teg_run.specs.Calls.{Call}
-use Rattle.teg_run.specs.Endings.{Ending, Whole, Lost}
+use Rattle.teg_files.specs.Endings.{Ending, Whole, Lost}
 use Rattle.teg_run.specs.Headline.{Ends, EndsLost, IsSaidOf, OwnOnly, EndsWithFault, ComesOnly, CountsAsNoText, ReadsAreCalm, WritesAreCalm}
 use Rattle.teg_run.specs.Headline.{OverlongRose, WroteWhole, WrotePrefix, ReadsFirstOf, NamesLastRead, EndsAsSaid, Concerns, ConcernsBoth, SaysOfNet}
 use Rattle.teg_run.specs.Headline.{SaysOfBoth, SaysOfWords, KeepsPromises}
-use Rattle.teg_run.specs.declared.request.NetCommand.{NetCommand}
-use Rattle.teg_run.specs.declared.request.FileCommand.{FileCommand}
-use Rattle.teg_run.specs.declared.request.Request.{Request}
-use Rattle.teg_run.specs.declared.request.Request.TheVariants.{OfNet, OfFiles, ValueOf, TrialOf}
-use Rattle.teg_run.specs.Requests.{request_of, files_of, asked_files, second_of}
-use Rattle.teg_run.specs.WholeCalls.{Answered, CarriesOut, Finished, Runs}
+use Rattle.teg_request.specs.declared.request.NetCommand.{NetCommand}
+use Rattle.teg_request.specs.declared.request.FileCommand.{FileCommand}
+use Rattle.teg_request.specs.declared.request.Request.{Request}
+use Rattle.teg_request.specs.declared.request.Request.TheVariants.{OfNet, OfFiles, ValueOf, TrialOf}
+use Rattle.teg_request.specs.Requests.{request_of, files_of, asked_files, second_of}
+use Rattle.teg_run.specs.WholeCalls.{Answered, CarriesOut, Runs}
+use Rattle.teg_files.specs.Finishing.{Finished}
 use Rattle.teg_run.specs.Says.{Asked, Says, SaysFiles, SaysNet, SaysOutcome, SaysSecond}
-use Rattle.teg_run.specs.Statuses.{status_of}
+use Rattle.teg_files.specs.Statuses.{status_of}
 use Rattle.teg_run.proofs.Verdicts.{IsGiven, given_of_own}
-use Rattle.teg_commands.specs.CommandTexts.{usage, too_large_text}
+use Rattle.teg_files.specs.RefusalTexts.{usage, too_large_text}
 use Rattle.teg_run.proofs.Causes.{said_of}
 use Rattle.teg_run.proofs.Faults.{IsFaultOf, text_is_fault, net_is_fault, comes_only, counted_only, follows, way_is_said, overlong_way, fault_way}
 use Rattle.teg_run.proofs.LiveNets.{live_goes_on, held_goes_on}

@@ -4,12 +4,12 @@ use Rattle.teg_outside.specs.declared.shelf.ShelfFault.{ShelfFault}
 use Rattle.teg_outside.specs.declared.shelf.ShelfFault.TheVariants.{Failed, TooLarge, OutOfMemory}
 use Rattle.teg_outside.specs.Shelves.{ShelfState, Reads, ReadsGrow}
 use Rattle.teg_outside.proofs.Growth.{reads_grow_none, reads_grow_then}
-use Rattle.teg_commands.specs.csv_records.Records.{most_file_bytes}
+use Rattle.teg_report.specs.csv_records.Records.{most_file_bytes}
 use Rattle.teg_report.specs.declared.answer.Which.{Which}
 use Rattle.teg_report.specs.declared.answer.Which.TheVariants.{Net as NetFile, Due as DueFile, Log as LogFile, Timetable as TimetableFile}
 use Rattle.teg_run.specs.Headline.{as_told, ReadsFirstOf}
-use Rattle.teg_run.specs.Openings.{IsTaken}
-use Rattle.teg_run.specs.Reads.{ReadsOnIfTaken, ReadsAll}
+use Rattle.teg_files.specs.Openings.{IsTaken}
+use Rattle.teg_files.specs.Reads.{ReadsOnIfTaken, ReadsAll}
 
 -- without replies nothing was read
 pub none_left : (old new : ShelfState) (files : List (Which × List ℕ)) (replies : List (Result (List ℕ) ShelfFault)) → replies ≡ [] →

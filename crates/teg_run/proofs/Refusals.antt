@@ -9,13 +9,13 @@ use Rattle.teg_reader.specs.Documents.{document}
 use Rattle.teg_outside.specs.Causes.{Rose, Rested}
 use Rattle.teg_outside.specs.Shelves.{ShelfState, IsFile, IsLongFile, ReadsGrow, file_of}
 use Rattle.teg_outside.proofs.Counts.{rose_not_rested}
-use Rattle.teg_commands.specs.csv_records.Records.{most_file_bytes}
+use Rattle.teg_report.specs.csv_records.Records.{most_file_bytes}
 use Rattle.teg_report.specs.declared.answer.Which.{Which}
 use Rattle.teg_report.specs.declared.answer.Which.TheVariants.{Net as NetFile, Due as DueFile, Log as LogFile, Timetable as TimetableFile}
-use Rattle.teg_run.specs.declared.status.Status.{Status}
-use Rattle.teg_run.specs.declared.status.Status.TheVariants.{Text, Net, ReadFault}
+use Rattle.teg_files.specs.declared.status.Status.{Status}
+use Rattle.teg_files.specs.declared.status.Status.TheVariants.{Text, Net, ReadFault}
 use Rattle.teg_run.specs.Headline.{IsFileTooLong, NetIsNoText, NetIsRefused, IsAccepted, IsNoText, IsNoNet}
-use Rattle.teg_commands.specs.CommandTexts.{read_text, token_free_text, too_large_text, fault_text}
+use Rattle.teg_files.specs.RefusalTexts.{read_text, token_free_text, too_large_text, fault_text}
 use Rattle.teg_run.proofs.Verdicts.{IsSaid}
 
 -- how the file is refused, with this status and text

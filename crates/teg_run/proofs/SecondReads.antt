@@ -4,15 +4,15 @@ use Rattle.std.proofs.lemmas.List.{append_cancel_left, length-map, length-take-l
 use Rattle.teg_net.specs.Nets.{NetLists}
 use Rattle.teg_outside.specs.declared.shelf.ShelfFault.{ShelfFault}
 use Rattle.teg_outside.specs.Shelves.{ShelfState, ReadsGrow}
-use Rattle.teg_commands.specs.csv_records.Records.{most_file_bytes}
+use Rattle.teg_report.specs.csv_records.Records.{most_file_bytes}
 use Rattle.teg_report.specs.declared.answer.Which.{Which}
 use Rattle.teg_report.specs.declared.answer.Which.TheVariants.{Net as NetFile}
 use Rattle.teg_run.specs.Calls.{Call}
-use Rattle.teg_run.specs.Endings.{Ending, Whole, Lost}
+use Rattle.teg_files.specs.Endings.{Ending, Whole, Lost}
 use Rattle.teg_run.specs.Headline.{Opens, ReadsFirstOf, SecondOnlyOfLive, as_told}
-use Rattle.teg_run.specs.Reads.{ReadsAll}
-use Rattle.teg_run.specs.declared.request.Request.{Request}
-use Rattle.teg_run.specs.Requests.{request_of, asked_files, second_of}
+use Rattle.teg_files.specs.Reads.{ReadsAll}
+use Rattle.teg_request.specs.declared.request.Request.{Request}
+use Rattle.teg_request.specs.Requests.{request_of, asked_files, second_of}
 use Rattle.teg_run.specs.WholeCalls.{Answered, Runs}
 use Rattle.teg_run.specs.Says.{Asked}
 use Rattle.teg_run.proofs.Causes.{net_opened}

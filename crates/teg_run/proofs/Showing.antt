@@ -8,24 +8,25 @@ use Rattle.teg_outside.specs.declared.shelf.ShelfFault.{ShelfFault}
 use Rattle.teg_outside.specs.declared.shelf.ShelfFault.TheVariants.{Failed, TooLarge, OutOfMemory}
 use Rattle.teg_outside.specs.Shelves.{ShelfState, Reads}
 use Rattle.teg_outside.specs.Sinks.{SinkState}
-use Rattle.teg_commands.specs.csv_records.Records.{most_file_bytes}
-use Rattle.teg_commands.specs.declared.outcome.CommandOutcome.{CommandOutcome}
-use Rattle.teg_commands.specs.declared.outcome.Verdict.{Verdict}
-use Rattle.teg_commands.specs.CommandOutcomes.{Tells, outcome_of}
-use Rattle.teg_commands.proofs.Replayed.{nothing_shown, replay_unshown}
+use Rattle.teg_report.specs.csv_records.Records.{most_file_bytes}
+use Rattle.teg_outcome.specs.declared.outcome.CommandOutcome.{CommandOutcome}
+use Rattle.teg_outcome.specs.declared.outcome.Verdict.{Verdict}
+use Rattle.teg_outcome.specs.CommandOutcomes.{Tells, outcome_of}
+use Rattle.teg_plan_commands.proofs.Replayed.{nothing_shown, replay_unshown}
 use Rattle.teg_report.specs.declared.answer.Which.{Which}
 use Rattle.teg_report.specs.declared.answer.Which.TheVariants.{Net as NetFile}
-use Rattle.teg_run.specs.declared.request.FileCommand.{FileCommand}
-use Rattle.teg_run.specs.declared.request.FileCommand.TheVariants.{Jit as JitNet, Replay as ReplayNet, Forever as ForeverNet, Timetable as TimetableNet}
-use Rattle.teg_run.specs.declared.request.Request.{Request}
-use Rattle.teg_run.specs.declared.request.Request.TheVariants.{OfNet, OfFiles, ValueOf, TrialOf}
-use Rattle.teg_run.specs.declared.status.Status.{Status}
-use Rattle.teg_run.specs.Endings.{Ending, Whole, Lost, EndsWith, ending_of, is_whole}
-use Rattle.teg_run.specs.Openings.{Opening, Accepted, Refused, OpensNet, OpensBytes}
-use Rattle.teg_run.specs.Reads.{OpenedBy, ReadsAll}
-use Rattle.teg_run.specs.WholeCalls.{Answered, Finished, Serves}
+use Rattle.teg_request.specs.declared.request.FileCommand.{FileCommand}
+use Rattle.teg_request.specs.declared.request.FileCommand.TheVariants.{Jit as JitNet, Replay as ReplayNet, Forever as ForeverNet, Timetable as TimetableNet}
+use Rattle.teg_request.specs.declared.request.Request.{Request}
+use Rattle.teg_request.specs.declared.request.Request.TheVariants.{OfNet, OfFiles, ValueOf, TrialOf}
+use Rattle.teg_files.specs.declared.status.Status.{Status}
+use Rattle.teg_files.specs.Endings.{Ending, Whole, Lost, EndsWith, ending_of, is_whole}
+use Rattle.teg_files.specs.Openings.{Opening, Accepted, Refused, OpensNet, OpensBytes}
+use Rattle.teg_files.specs.Reads.{OpenedBy, ReadsAll}
+use Rattle.teg_run.specs.WholeCalls.{Answered, Serves}
+use Rattle.teg_files.specs.Finishing.{Finished}
 use Rattle.teg_run.specs.Says.{Asked, SaysFile, SaysOutcome}
-use Rattle.teg_run.specs.Requests.{asked_files}
+use Rattle.teg_request.specs.Requests.{asked_files}
 use Rattle.teg_run.specs.ShownFirings.{AnsweredAndShown, ServesAndShows, Shows, ShowsAsked, ShowsBoth, ShowsFiles, ShowsSecond}
 
 -- ---- with and without what was shown

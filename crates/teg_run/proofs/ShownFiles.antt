@@ -7,25 +7,25 @@ use Rattle.teg_outside.specs.declared.shelf.ShelfFault.TheVariants.{Failed, TooL
 use Rattle.teg_outside.specs.Causes.{Rested}
 use Rattle.teg_outside.specs.Shelves.{ShelfState, Reads}
 use Rattle.teg_outside.proofs.Counts.{rose_not_rested, rested_then}
-use Rattle.teg_commands.specs.csv_records.Records.{most_file_bytes}
-use Rattle.teg_commands.specs.declared.outcome.Verdict.{Verdict}
-use Rattle.teg_commands.specs.Replay.{ShowsNothing, ShowsReplay}
-use Rattle.teg_commands.proofs.Replayed.{replay_unshown}
+use Rattle.teg_report.specs.csv_records.Records.{most_file_bytes}
+use Rattle.teg_outcome.specs.declared.outcome.Verdict.{Verdict}
+use Rattle.teg_plan_commands.specs.Replay.{ShowsNothing, ShowsReplay}
+use Rattle.teg_plan_commands.proofs.Replayed.{replay_unshown}
 use Rattle.teg_report.specs.declared.answer.Which.{Which}
 use Rattle.teg_report.specs.declared.answer.Which.TheVariants.{Log as LogFile, Net as NetFile}
-use Rattle.teg_run.specs.declared.request.FileCommand.{FileCommand}
-use Rattle.teg_run.specs.declared.request.FileCommand.TheVariants.{Jit as JitNet, Replay as ReplayNet, Forever as ForeverNet, Timetable as TimetableNet}
-use Rattle.teg_run.specs.declared.request.Request.{Request}
-use Rattle.teg_run.specs.declared.request.Request.TheVariants.{OfNet, OfFiles, ValueOf, TrialOf}
-use Rattle.teg_run.specs.declared.status.Status.{Status}
-use Rattle.teg_run.specs.declared.status.Status.TheVariants.{NoMemory, WriteFault}
+use Rattle.teg_request.specs.declared.request.FileCommand.{FileCommand}
+use Rattle.teg_request.specs.declared.request.FileCommand.TheVariants.{Jit as JitNet, Replay as ReplayNet, Forever as ForeverNet, Timetable as TimetableNet}
+use Rattle.teg_request.specs.declared.request.Request.{Request}
+use Rattle.teg_request.specs.declared.request.Request.TheVariants.{OfNet, OfFiles, ValueOf, TrialOf}
+use Rattle.teg_files.specs.declared.status.Status.{Status}
+use Rattle.teg_files.specs.declared.status.Status.TheVariants.{NoMemory, WriteFault}
 use Rattle.teg_run.specs.Calls.{Call}
-use Rattle.teg_run.specs.Endings.{Ending, Whole, Lost}
+use Rattle.teg_files.specs.Endings.{Ending, Whole, Lost}
 use Rattle.teg_run.specs.Headline.{AcceptsFiles, ConcernsBoth, Holds, Opens}
-use Rattle.teg_run.specs.Openings.{Opening, Accepted, Refused, OpensBytes, OpensNet}
-use Rattle.teg_run.specs.Reads.{ReadsAll}
-use Rattle.teg_run.specs.Requests.{asked_files, request_of, second_of}
-use Rattle.teg_run.specs.WholeCalls.{Finished}
+use Rattle.teg_files.specs.Openings.{Opening, Accepted, Refused, OpensBytes, OpensNet}
+use Rattle.teg_files.specs.Reads.{ReadsAll}
+use Rattle.teg_request.specs.Requests.{asked_files, request_of, second_of}
+use Rattle.teg_files.specs.Finishing.{Finished}
 use Rattle.teg_run.specs.Says.{Asked, SaysFile, SaysFiles, SaysOpening, SaysOutcome, SaysSecond}
 use Rattle.teg_run.specs.ShownFirings.{AnsweredAndShown, ShowsAsked, ShowsBoth, ShowsFiles, ShowsFor, ShowsJust, ShowsSecond, ShowsTold}
 use Rattle.teg_run.proofs.Causes.{net_opened}

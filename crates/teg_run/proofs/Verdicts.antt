@@ -1,12 +1,12 @@
 -- Statuses of commands, and those that the call itself gives.
 use Rattle.std.proofs.Common.{◌≢◌, refl, subst}
-use Rattle.teg_run.specs.declared.status.Status.{Status}
-use Rattle.teg_run.specs.declared.status.Status.TheVariants.{Done, Words, Text, Net, Schedule, Late, TooLong, Log, Calc, Name, ReadFault, WriteFault, NoMemory}
-use Rattle.teg_commands.specs.declared.outcome.Verdict.{Verdict}
-use Rattle.teg_commands.specs.declared.outcome.Verdict.TheVariants.{Done as VerdictDone, TooLong as VerdictTooLong, Name as VerdictName}
-use Rattle.teg_commands.specs.declared.outcome.Verdict.TheVariants.{Schedule as VerdictSchedule, Late as VerdictLate, Log as VerdictLog}
-use Rattle.teg_commands.specs.declared.outcome.Verdict.TheVariants.{Calc as VerdictCalc}
-use Rattle.teg_run.specs.Statuses.{IsOwn, status_of}
+use Rattle.teg_files.specs.declared.status.Status.{Status}
+use Rattle.teg_files.specs.declared.status.Status.TheVariants.{Done, Words, Text, Net, Schedule, Late, TooLong, Log, Calc, Name, ReadFault, WriteFault, NoMemory}
+use Rattle.teg_outcome.specs.declared.outcome.Verdict.{Verdict}
+use Rattle.teg_outcome.specs.declared.outcome.Verdict.TheVariants.{Done as VerdictDone, TooLong as VerdictTooLong, Name as VerdictName}
+use Rattle.teg_outcome.specs.declared.outcome.Verdict.TheVariants.{Schedule as VerdictSchedule, Late as VerdictLate, Log as VerdictLog}
+use Rattle.teg_outcome.specs.declared.outcome.Verdict.TheVariants.{Calc as VerdictCalc}
+use Rattle.teg_files.specs.Statuses.{IsOwn, status_of}
 
 -- the same, status by status
 abbrev pub IsGiven : Status → Type 0

@@ -8,22 +8,22 @@ use Rattle.teg_outside.specs.declared.monitor.Firing.{Firing}
 use Rattle.teg_outside.specs.declared.shelf.ShelfFault.{ShelfFault}
 use Rattle.teg_outside.specs.declared.shelf.ShelfFault.TheVariants.{Failed, TooLarge, OutOfMemory}
 use Rattle.teg_outside.specs.Shelves.{ShelfState, IsFile, Reads}
-use Rattle.teg_commands.specs.csv_records.Records.{most_file_bytes}
+use Rattle.teg_report.specs.csv_records.Records.{most_file_bytes}
 use Rattle.teg_report.specs.declared.answer.Which.{Which}
 use Rattle.teg_report.specs.declared.answer.Which.TheVariants.{Net as NetFile}
-use Rattle.teg_run.specs.declared.status.Status.{Status}
-use Rattle.teg_commands.specs.declared.outcome.Verdict.{Verdict}
-use Rattle.teg_run.specs.Openings.{Opening, Accepted, Refused, OpensNet, OpensDocument, OpensBytes, read_status}
-use Rattle.teg_run.specs.Reads.{ReadsAll}
-use Rattle.teg_run.specs.declared.request.FileCommand.{FileCommand}
-use Rattle.teg_run.specs.declared.request.FileCommand.TheVariants.{Jit as JitNet, Replay as ReplayNet, Forever as ForeverNet, Timetable as TimetableNet}
-use Rattle.teg_run.specs.declared.request.Request.{Request}
-use Rattle.teg_run.specs.declared.request.Request.TheVariants.{OfNet, OfFiles, ValueOf, TrialOf}
-use Rattle.teg_run.specs.Requests.{files_of, second_of}
+use Rattle.teg_files.specs.declared.status.Status.{Status}
+use Rattle.teg_outcome.specs.declared.outcome.Verdict.{Verdict}
+use Rattle.teg_files.specs.Openings.{Opening, Accepted, Refused, OpensNet, OpensDocument, OpensBytes, read_status}
+use Rattle.teg_files.specs.Reads.{ReadsAll}
+use Rattle.teg_request.specs.declared.request.FileCommand.{FileCommand}
+use Rattle.teg_request.specs.declared.request.FileCommand.TheVariants.{Jit as JitNet, Replay as ReplayNet, Forever as ForeverNet, Timetable as TimetableNet}
+use Rattle.teg_request.specs.declared.request.Request.{Request}
+use Rattle.teg_request.specs.declared.request.Request.TheVariants.{OfNet, OfFiles, ValueOf, TrialOf}
+use Rattle.teg_request.specs.Requests.{files_of, second_of}
 use Rattle.teg_run.specs.Says.{Says, SaysFile, SaysFiles, SaysNet, SaysOpening, SaysOutcome, SaysSecond}
-use Rattle.teg_commands.specs.Trial.{SaysTrial}
-use Rattle.teg_commands.specs.Calc.{SaysCalc}
-use Rattle.teg_commands.specs.CommandTexts.{read_text}
+use Rattle.teg_pace_commands.specs.Trial.{SaysTrial}
+use Rattle.teg_net_commands.specs.Calc.{SaysCalc}
+use Rattle.teg_files.specs.RefusalTexts.{read_text}
 use Rattle.teg_run.proofs.ReadOrder.{none_left}
 use Rattle.teg_run.proofs.Refusals.{Accepts, Refusal, Unread, Overlong, NoToml, NoNet, NotLive}
 use Rattle.teg_run.proofs.Verdicts.{IsGiven, verdict_is_own}

@@ -4,7 +4,7 @@ use Rattle.teg_outside.specs.declared.monitor.Firing.{Firing}
 use Rattle.teg_outside.specs.MonitorLines.{firings_line, greatest_lateness, greatest_tokens, high_water_line, lateness_line}
 use Rattle.teg_outside.specs.Shelves.{ShelfState}
 use Rattle.teg_outside.specs.Sinks.{SinkState}
-use Rattle.teg_run.specs.declared.status.Status.{Status}
+use Rattle.teg_files.specs.declared.status.Status.{Status}
 
 -- what a call was given, what it did to the shelf and the sink, and how it ended
 pub record Call : Type 0 where

@@ -12,25 +12,26 @@ use Rattle.teg_outside.specs.Shelves.{ShelfState, ReadsGrow, file_of}
 use Rattle.teg_outside.specs.Sinks.{BytesGrow, PrefixGrows}
 use Rattle.teg_report.specs.declared.answer.Which.{Which}
 use Rattle.teg_report.specs.declared.answer.Which.TheVariants.{Net as NetFile}
-use Rattle.teg_run.specs.declared.status.Status.{Status}
-use Rattle.teg_run.specs.declared.status.Status.TheVariants.{Words, Text, Net, ReadFault, WriteFault, NoMemory}
-use Rattle.teg_commands.specs.declared.outcome.Verdict.{Verdict}
+use Rattle.teg_files.specs.declared.status.Status.{Status}
+use Rattle.teg_files.specs.declared.status.Status.TheVariants.{Words, Text, Net, ReadFault, WriteFault, NoMemory}
+use Rattle.teg_outcome.specs.declared.outcome.Verdict.{Verdict}
 use Rattle.teg_run.specs.Calls.{Call}
-use Rattle.teg_run.specs.Endings.{Whole, Lost}
-use Rattle.teg_run.specs.Reads.{ReadsAll}
-use Rattle.teg_run.specs.declared.request.NetCommand.{NetCommand}
-use Rattle.teg_run.specs.declared.request.FileCommand.{FileCommand}
-use Rattle.teg_run.specs.declared.request.Request.{Request}
-use Rattle.teg_run.specs.declared.request.Request.TheVariants.{OfNet, OfFiles, ValueOf, TrialOf}
-use Rattle.teg_run.specs.Requests.{request_of, files_of, asked_files}
-use Rattle.teg_run.specs.WholeCalls.{Finished, Runs}
+use Rattle.teg_files.specs.Endings.{Whole, Lost}
+use Rattle.teg_files.specs.Reads.{ReadsAll}
+use Rattle.teg_request.specs.declared.request.NetCommand.{NetCommand}
+use Rattle.teg_request.specs.declared.request.FileCommand.{FileCommand}
+use Rattle.teg_request.specs.declared.request.Request.{Request}
+use Rattle.teg_request.specs.declared.request.Request.TheVariants.{OfNet, OfFiles, ValueOf, TrialOf}
+use Rattle.teg_request.specs.Requests.{request_of, files_of, asked_files}
+use Rattle.teg_files.specs.Finishing.{Finished}
+use Rattle.teg_run.specs.WholeCalls.{Runs}
 use Rattle.teg_run.specs.Says.{Asked, Says, SaysFiles, SaysNet}
-use Rattle.teg_run.specs.Statuses.{IsOwn, status_of}
+use Rattle.teg_files.specs.Statuses.{IsOwn, status_of}
 use Rattle.teg_outside.specs.declared.monitor.Firing.{Firing}
-use Rattle.teg_commands.specs.csv_records.Records.{most_file_bytes}
-use Rattle.teg_commands.specs.Trial.{SaysTrial}
-use Rattle.teg_commands.specs.Calc.{SaysCalc}
-use Rattle.teg_commands.specs.CommandTexts.{usage, read_text, token_free_text, too_large_text, fault_text}
+use Rattle.teg_report.specs.csv_records.Records.{most_file_bytes}
+use Rattle.teg_pace_commands.specs.Trial.{SaysTrial}
+use Rattle.teg_net_commands.specs.Calc.{SaysCalc}
+use Rattle.teg_files.specs.RefusalTexts.{usage, read_text, token_free_text, too_large_text, fault_text}
 
 -- ---- how a call ended
 

@@ -3,52 +3,57 @@ use Rattle.std.specs.Prelude.{ℕ, ◌≡◌, true, false, List, [], ◌∷◌, 
 use Rattle.teg_net.specs.Nets.{NetLists}
 use Rattle.teg_outside.specs.declared.shelf.ShelfFault.{ShelfFault}
 use Rattle.teg_outside.specs.declared.monitor.Firing.{Firing}
-use Rattle.teg_run.specs.declared.status.Status.{Status}
-use Rattle.teg_run.specs.declared.status.Status.TheVariants.{Words}
-use Rattle.teg_commands.specs.declared.outcome.Verdict.{Verdict}
-use Rattle.teg_commands.specs.Bound.{SaysBound}
-use Rattle.teg_commands.specs.Cycle.{SaysCycle, SaysRounds}
-use Rattle.teg_commands.specs.Migrate.{SaysMigrate}
-use Rattle.teg_commands.specs.Check.{SaysCheck}
-use Rattle.teg_commands.specs.Form.{SaysForm}
-use Rattle.teg_commands.specs.List.{SaysList}
+use Rattle.teg_files.specs.declared.status.Status.{Status}
+use Rattle.teg_files.specs.declared.status.Status.TheVariants.{Words}
+use Rattle.teg_outcome.specs.declared.outcome.Verdict.{Verdict}
+use Rattle.teg_pace_commands.specs.Bound.{SaysBound}
+use Rattle.teg_pace_commands.specs.Cycle.{SaysCycle, SaysRounds}
+use Rattle.teg_net_commands.specs.Migrate.{SaysMigrate}
+use Rattle.teg_net_commands.specs.Check.{SaysCheck}
+use Rattle.teg_net_commands.specs.Form.{SaysForm}
+use Rattle.teg_files.specs.List.{SaysList}
 use Rattle.teg_commands.specs.Forever.{SaysForever}
-use Rattle.teg_commands.specs.Jit.{SaysJit}
-use Rattle.teg_commands.specs.Replay.{SaysReplay}
-use Rattle.teg_commands.specs.CommandDates.{SaysDate, SaysDates}
-use Rattle.teg_commands.specs.Size.{SaysSize}
-use Rattle.teg_commands.specs.Slack.{SaysSlack}
-use Rattle.teg_commands.specs.Trial.{SaysTrial}
-use Rattle.teg_commands.specs.Timetable.{SaysTimetable}
-use Rattle.teg_commands.specs.Transfer.{SaysTransfer}
-use Rattle.teg_commands.specs.Calc.{SaysCalc}
-use Rattle.teg_run.specs.declared.request.NetCommand.{NetCommand}
-use Rattle.teg_run.specs.declared.request.NetCommand.TheVariants.{Check as CheckNet, List as ListNet, Form as FormNet, Cycle as CycleNet}
-use Rattle.teg_run.specs.declared.request.NetCommand.TheVariants.{Slack as SlackNet, Dates as DatesNet, Date as DateNet, Transfer as TransferNet}
-use Rattle.teg_run.specs.declared.request.NetCommand.TheVariants.{Migrate as MigrateNet, Size as SizeNet, Bound as BoundNet}
-use Rattle.teg_run.specs.declared.request.FileCommand.{FileCommand}
-use Rattle.teg_run.specs.declared.request.FileCommand.TheVariants.{Jit as JitNet, Replay as ReplayNet, Forever as ForeverNet, Timetable as TimetableNet}
-use Rattle.teg_run.specs.declared.request.Request.{Request}
-use Rattle.teg_run.specs.declared.request.Request.TheVariants.{OfNet, OfFiles, ValueOf, TrialOf}
-use Rattle.teg_run.specs.Requests.{second_of}
-use Rattle.teg_run.specs.Openings.{Opening, Accepted, Refused, OpensNet, OpensBytes}
-use Rattle.teg_run.specs.Statuses.{status_of}
-use Rattle.teg_commands.specs.CommandTexts.{usage}
+use Rattle.teg_plan_commands.specs.Jit.{SaysJit}
+use Rattle.teg_plan_commands.specs.Replay.{SaysReplay}
+use Rattle.teg_date_commands.specs.CommandDates.{SaysDate, SaysDates}
+use Rattle.teg_pace_commands.specs.Size.{SaysSize}
+use Rattle.teg_pace_commands.specs.Slack.{SaysSlack}
+use Rattle.teg_pace_commands.specs.Trial.{SaysTrial}
+use Rattle.teg_date_commands.specs.Timetable.{SaysTimetable}
+use Rattle.teg_date_commands.specs.Transfer.{SaysTransfer}
+use Rattle.teg_net_commands.specs.Calc.{SaysCalc}
+use Rattle.teg_request.specs.declared.request.NetCommand.{NetCommand}
+use Rattle.teg_request.specs.declared.request.NetCommand.TheVariants.{List as ListNet, Asks}
+use Rattle.teg_request.specs.declared.request.Question.{Question}
+use Rattle.teg_request.specs.declared.request.Question.TheVariants.{Check as CheckNet, Form as FormNet, Cycle as CycleNet, Slack as SlackNet, Dates as DatesNet}
+use Rattle.teg_request.specs.declared.request.Question.TheVariants.{Date as DateNet, Transfer as TransferNet, Migrate as MigrateNet, Size as SizeNet, Bound as BoundNet}
+use Rattle.teg_request.specs.declared.request.FileCommand.{FileCommand}
+use Rattle.teg_request.specs.declared.request.FileCommand.TheVariants.{Jit as JitNet, Replay as ReplayNet, Forever as ForeverNet, Timetable as TimetableNet}
+use Rattle.teg_request.specs.declared.request.Request.{Request}
+use Rattle.teg_request.specs.declared.request.Request.TheVariants.{OfNet, OfFiles, ValueOf, TrialOf}
+use Rattle.teg_request.specs.Requests.{second_of}
+use Rattle.teg_files.specs.Openings.{Opening, Accepted, Refused, OpensNet, OpensBytes}
+use Rattle.teg_files.specs.Statuses.{status_of}
+use Rattle.teg_files.specs.RefusalTexts.{usage}
+
+-- what a question says of a live net
+abbrev pub SaysQuestion : Question → NetLists → Verdict → List ℕ → Type 0
+SaysQuestion CheckNet = SaysCheck
+SaysQuestion FormNet = SaysForm
+SaysQuestion (CycleNet false) = SaysCycle
+SaysQuestion (CycleNet true) = SaysRounds
+SaysQuestion SlackNet = SaysSlack
+SaysQuestion (DatesNet limit) = SaysDates limit
+SaysQuestion (DateNet word number limit) = SaysDate word number limit
+SaysQuestion (TransferNet limit) = SaysTransfer limit
+SaysQuestion MigrateNet = SaysMigrate
+SaysQuestion (SizeNet word target) = SaysSize word target.0 target.1
+SaysQuestion BoundNet = SaysBound
 
 -- what a command says of a live net
 abbrev pub SaysNet : NetCommand → NetLists → Verdict → List ℕ → Type 0
-SaysNet CheckNet = SaysCheck
 SaysNet (ListNet count) = SaysList count
-SaysNet FormNet = SaysForm
-SaysNet (CycleNet false) = SaysCycle
-SaysNet (CycleNet true) = SaysRounds
-SaysNet SlackNet = SaysSlack
-SaysNet (DatesNet limit) = SaysDates limit
-SaysNet (DateNet word number limit) = SaysDate word number limit
-SaysNet (TransferNet limit) = SaysTransfer limit
-SaysNet MigrateNet = SaysMigrate
-SaysNet (SizeNet word target) = SaysSize word target.0 target.1
-SaysNet BoundNet = SaysBound
+SaysNet (Asks question) = SaysQuestion question
 
 -- the call ends with this status and this text
 abbrev pub Said : Status → List ℕ → Status → List ℕ → Type 0

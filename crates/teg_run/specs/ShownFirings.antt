@@ -6,23 +6,23 @@ use Rattle.teg_outside.specs.declared.monitor.Firing.{Firing}
 use Rattle.teg_outside.specs.declared.shelf.ShelfFault.{ShelfFault}
 use Rattle.teg_outside.specs.Shelves.{ShelfState}
 use Rattle.teg_outside.specs.Sinks.{SinkState}
-use Rattle.teg_commands.specs.Replay.{ShowsNothing, ShowsReplay}
+use Rattle.teg_plan_commands.specs.Replay.{ShowsNothing, ShowsReplay}
 use Rattle.teg_report.specs.declared.answer.Which.{Which}
-use Rattle.teg_run.specs.declared.request.FileCommand.{FileCommand}
-use Rattle.teg_run.specs.declared.request.FileCommand.TheVariants.{Jit as JitNet, Replay as ReplayNet, Forever as ForeverNet, Timetable as TimetableNet}
-use Rattle.teg_run.specs.declared.request.Request.{Request}
-use Rattle.teg_run.specs.declared.request.Request.TheVariants.{OfNet, OfFiles, ValueOf, TrialOf}
-use Rattle.teg_run.specs.declared.status.Status.{Status}
-use Rattle.teg_run.specs.declared.status.Status.TheVariants.{NoMemory, WriteFault}
+use Rattle.teg_request.specs.declared.request.FileCommand.{FileCommand}
+use Rattle.teg_request.specs.declared.request.FileCommand.TheVariants.{Jit as JitNet, Replay as ReplayNet, Forever as ForeverNet, Timetable as TimetableNet}
+use Rattle.teg_request.specs.declared.request.Request.{Request}
+use Rattle.teg_request.specs.declared.request.Request.TheVariants.{OfNet, OfFiles, ValueOf, TrialOf}
+use Rattle.teg_files.specs.declared.status.Status.{Status}
+use Rattle.teg_files.specs.declared.status.Status.TheVariants.{NoMemory, WriteFault}
 use Rattle.teg_run.specs.Calls.{Call}
-use Rattle.teg_run.specs.Endings.{Ending, EndsWith, is_whole}
+use Rattle.teg_files.specs.Endings.{Ending, EndsWith, is_whole}
 use Rattle.teg_run.specs.Headline.{AcceptsFiles, ConcernsBoth}
-use Rattle.teg_run.specs.Openings.{Accepted, OpensNet}
-use Rattle.teg_run.specs.Reads.{ReadsAll}
-use Rattle.teg_run.specs.Requests.{request_of, asked_files}
-use Rattle.teg_run.specs.WholeCalls.{Finished}
+use Rattle.teg_files.specs.Openings.{Accepted, OpensNet}
+use Rattle.teg_files.specs.Reads.{ReadsAll}
+use Rattle.teg_request.specs.Requests.{request_of, asked_files}
+use Rattle.teg_files.specs.Finishing.{Finished}
 use Rattle.teg_run.specs.Says.{Asked}
-use Rattle.teg_run.specs.Statuses.{IsOwn}
+use Rattle.teg_files.specs.Statuses.{IsOwn}
 
 -- what is shown of a live net and the bytes of a second file: the accepted firings of a log, and nothing of another file
 abbrev pub ShowsFiles : FileCommand → NetLists → List ℕ → (before now : List Firing → List (List ℕ)) → (is_told : Bool) → Type 0

@@ -1,19 +1,16 @@
 -- The whole call: from the words to an answer by the files that they name, and its writing.
-use Rattle.std.specs.Prelude.{ℕ, ◌≡◌, ◌⊎◌, List, Option, Result}
+use Rattle.std.specs.Prelude.{ℕ, List, Option, Result}
 use Rattle.teg_outside.specs.declared.shelf.ShelfFault.{ShelfFault}
-use Rattle.teg_outside.specs.Causes.{Rose}
 use Rattle.teg_outside.specs.Shelves.{ShelfState}
-use Rattle.teg_outside.specs.Sinks.{SinkState, BytesGrow, PrefixGrows}
-use Rattle.teg_run.specs.declared.status.Status.{Status}
-use Rattle.teg_run.specs.declared.status.Status.TheVariants.{WriteFault, NoMemory}
+use Rattle.teg_outside.specs.Sinks.{SinkState}
+use Rattle.teg_files.specs.declared.status.Status.{Status}
 use Rattle.teg_report.specs.declared.answer.Which.{Which}
 use Rattle.teg_run.specs.Calls.{Call}
-use Rattle.teg_commands.specs.declared.outcome.Verdict.{Verdict}
-use Rattle.teg_commands.specs.CommandOutcomes.{Tells}
-use Rattle.teg_run.specs.Endings.{Ending, Whole, Lost, ending_of}
-use Rattle.teg_run.specs.Reads.{ReadsAll}
-use Rattle.teg_run.specs.declared.request.Request.{Request}
-use Rattle.teg_run.specs.Requests.{request_of, asked_files}
+use Rattle.teg_files.specs.Endings.{Ending, Whole, Lost}
+use Rattle.teg_files.specs.Finishing.{Finished}
+use Rattle.teg_files.specs.Reads.{ReadsAll}
+use Rattle.teg_request.specs.declared.request.Request.{Request}
+use Rattle.teg_request.specs.Requests.{request_of, asked_files}
 use Rattle.teg_run.specs.Says.{Asked}
 
 -- an ending by reads of these files: what is said by the replies, or want of memory
@@ -21,17 +18,6 @@ abbrev pub Answered : (List (Result (List ℕ) ShelfFault) → Status → List �
 Answered says files old new (Whole status text) =
     (replies : List (Result (List ℕ) ShelfFault)) × ReadsAll old new files replies × says replies status text
 Answered says files old new Lost = (replies : List (Result (List ℕ) ShelfFault)) × ReadsAll old new files replies
-
--- the status of the call, once the text is written: the whole of it, or a first part before a fault
-abbrev pub Finished : SinkState → SinkState → Ending → Status → Type 0
-Finished old new (Whole said text) status =
-    ((status ≡ said) × (new.faults ≡ old.faults) × BytesGrow old.bytes new.bytes text)
-    ⊎ ((status ≡ WriteFault) × Rose old.faults new.faults × PrefixGrows old.bytes new.bytes text)
-Finished old new Lost status = (status ≡ NoMemory) × (new ≡ old)
-
--- what a command comes to, if it found memory, and its writing
-abbrev pub WritesOutcome : (Verdict → List ℕ → Type 0) → SinkState → SinkState → Status → Type 0
-WritesOutcome says old new status = (outcome : Option (Verdict × List ℕ)) × Tells says outcome × Finished old new (ending_of outcome) status
 
 -- an answer by reads of these files, and its writing
 abbrev pub Serves : (List (Result (List ℕ) ShelfFault) → Status → List ℕ → Type 0) → List (Which × List ℕ) → ShelfState → ShelfState → SinkState → SinkState → Status → Type 0

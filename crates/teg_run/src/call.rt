@@ -1,23 +1,21 @@
 //! The top call.
 ghost use Rattle.std.specs.Prelude.{map, string_bytes};
 ghost use Rattle.teg_run.specs.Calls.{call_of};
-ghost use Rattle.teg_run.specs.Endings.{EndsWith};
+ghost use Rattle.teg_files.specs.Endings.{EndsWith};
 ghost use Rattle.teg_run.specs.WholeCalls.{Runs};
-ghost use Rattle.teg_run.specs.CallMeanings.{ended};
-ghost use Rattle.teg_run.specs.Requests.{request_of, asked_files};
+ghost use Rattle.teg_files.specs.CallMeanings.{ended};
+ghost use Rattle.teg_request.specs.Requests.{request_of, asked_files};
 ghost use Rattle.teg_run.specs.ShownFirings.{ServesAndShows, ShowsAsked, ShowsJust, ShowsTold};
 ghost use Rattle.teg_run.specs.Says.{Said, Asked};
-ghost use Rattle.teg_commands.specs.CommandTexts.{usage};
+ghost use Rattle.teg_files.specs.RefusalTexts.{usage};
 ghost use Rattle.teg_outside.specs.Monitors.{lines_by};
 
-use crate::asked::read_request;
 use crate::carry_out::serve_request;
-use crate::ending::Ending;
-use crate::status::Status;
-use crate::writing::finish;
 use std::alloc::Global;
+use teg_files::{Ending, Status, finish};
 use teg_outside::{Monitor, Shelf, Sink};
 use teg_report::{Answer, report};
+use teg_request::read_request;
 
 // The usage, for words that ask for nothing.
 fn refuse_words(alloc: Global) -> Ending

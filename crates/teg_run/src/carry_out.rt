@@ -2,28 +2,24 @@
 //! the answer is written.
 ghost use Rattle.std.specs.Prelude.{[], ◌∷◌};
 ghost use Rattle.teg_outside.specs.Monitors.{lines_by};
-ghost use Rattle.teg_run.specs.CallMeanings.{ended};
-ghost use Rattle.teg_run.specs.Openings.{OpensNet};
-ghost use Rattle.teg_run.specs.Requests.{files_of, second_of};
+ghost use Rattle.teg_files.specs.CallMeanings.{ended};
+ghost use Rattle.teg_files.specs.Openings.{OpensNet};
+ghost use Rattle.teg_request.specs.Requests.{files_of, second_of};
 ghost use Rattle.teg_run.specs.WholeCalls.{Serves};
 ghost use Rattle.teg_run.specs.Says.{Says, SaysFile, SaysNet, SaysOutcome, SaysSecond};
 ghost use Rattle.teg_run.specs.ShownFirings.{AnsweredAndShown, ServesAndShows, Shows, ShowsBoth, ShowsSecond};
 
-use crate::ending::{Ending, closed};
 use crate::file_commands::{of_files, second_of};
-use crate::net_commands::write_net;
-use crate::net_file::open_net;
-use crate::opening::Opened;
-use crate::request::{FileCommand, NetCommand, Request};
-use crate::second_file::open_bytes;
-use crate::status::Status;
-use crate::writing::finish;
+use crate::net_commands::write_answer;
 use std::alloc::Global;
 use teg_check::LiveNet;
-use teg_commands::{tell_calc, tell_trial};
+use teg_files::{Ending, Opened, Status, closed, finish, open_bytes, open_net};
 use teg_net::Label;
+use teg_net_commands::tell_calc;
 use teg_outside::{Monitor, Shelf, Sink};
+use teg_pace_commands::tell_trial;
 use teg_report::Which;
+use teg_request::{FileCommand, NetCommand, Request};
 
 // Carries out a command on the net in the file of that name.
 fn serve_net<S: Shelf, W: Sink>(
@@ -41,7 +37,7 @@ fn serve_net<S: Shelf, W: Sink>(
         result }
 {
     match open_net(alloc, net, shelf) {
-        Opened::Accepted(net) => write_net(alloc, command, &net, out),
+        Opened::Accepted(net) => write_answer(alloc, command, &net, out),
         Opened::Refused(status, text) => finish(out, Ending::Whole { status, text }),
         Opened::Lost => finish(out, Ending::Lost),
     }

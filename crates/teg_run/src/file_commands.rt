@@ -1,19 +1,22 @@
 //! The commands on a net and a second file.
 ghost use Rattle.std.specs.Prelude.{◌≡◌, is_ok};
-ghost use Rattle.teg_commands.specs.CommandOutcomes.{Tells, outcome_of};
+ghost use Rattle.teg_outcome.specs.CommandOutcomes.{Tells, outcome_of};
 ghost use Rattle.teg_outside.specs.Monitors.{lines_by};
-ghost use Rattle.teg_run.specs.Requests.{second_of};
+ghost use Rattle.teg_request.specs.Requests.{second_of};
 ghost use Rattle.teg_run.specs.Says.{SaysFiles};
 ghost use Rattle.teg_run.specs.ShownFirings.{ShowsFiles};
 
-use crate::request::FileCommand;
-use crate::second_file::FileBytes;
 use std::alloc::Global;
 use teg_check::LiveNet;
-use teg_commands::{CommandOutcome, tell_forever, tell_jit, tell_replay, tell_timetable};
+use teg_commands::tell_forever;
+use teg_date_commands::tell_timetable;
+use teg_files::FileBytes;
 use teg_net::OutOfMemory;
+use teg_outcome::CommandOutcome;
 use teg_outside::Monitor;
+use teg_plan_commands::{tell_jit, tell_replay};
 use teg_report::Which;
+use teg_request::FileCommand;
 
 /// What the second file of the command is for.
 pub fn second_of(command: &FileCommand) -> Which

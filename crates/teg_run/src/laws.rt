@@ -1,6 +1,5 @@
-//! The laws of the whole call: what follows of it, and which commands words may ask for. Each is a
-//! function that does nothing when it runs: its contract is the law.
-ghost use Rattle.teg_run.specs.CommandNames.{CommandsAreThoseOfTheUsage};
+//! The law of the whole call: what follows of it. It is a function that does nothing when it runs:
+//! its contract is the law.
 ghost use Rattle.teg_run.specs.Headline.{RunsKeepPromises};
 
 /// The law that a call which runs as [`workbench`] does keeps the promises of the record
@@ -10,10 +9,4 @@ ghost use Rattle.teg_run.specs.Headline.{RunsKeepPromises};
 /// [`workbench`]: crate::workbench
 pub fn runs_keep_promises()
     ensures { RunsKeepPromises }
-{}
-
-/// The law that the usage tells just the commands that there are: with each name that it tells
-/// something can be asked for, and with no other first word. It does nothing when it runs.
-pub fn commands_are_those_of_the_usage()
-    ensures { CommandsAreThoseOfTheUsage }
 {}

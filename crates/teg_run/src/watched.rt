@@ -3,13 +3,13 @@ ghost use Rattle.std.specs.Prelude.{◌≡◌, ◌∷◌, ◌++◌, [], IfErr, I
 ghost use Rattle.std.specs.Process.{exit_status};
 ghost use Rattle.teg_run.specs.Calls.{call_of, program_lines};
 ghost use Rattle.teg_run.specs.WholeCalls.{Runs};
-ghost use Rattle.teg_run.specs.Statuses.{code_of};
-ghost use Rattle.teg_run.specs.declared.status.Status.{Status};
+ghost use Rattle.teg_files.specs.Statuses.{code_of};
+ghost use Rattle.teg_files.specs.declared.status.Status.{Status};
 
 use crate::call::workbench;
-use crate::status::Status;
 use std::alloc::{AllocError, Global};
 use std::process::ExitCode;
+use teg_files::Status;
 use teg_outside::{FiringCount, HighWater, Lateness, Monitor, Shelf, Sink};
 
 // Appends a monitor.

@@ -12,7 +12,7 @@ use Rattle.periodic_laws.specs.settled_laws.SettledForms.{IsTail, SettledForm, r
 use Rattle.periodic_laws.specs.settled_laws.DateDifferences.{between}
 use Rattle.periodic_laws.proofs.settled_laws_proofs.Shortest.{tail_on}
 use Rattle.periodic_laws.proofs.settled_laws_proofs.Telling.{form_tells}
-use Rattle.teg_dates.specs.DateTables.{TableDates, date_at}
+use Rattle.date_rows.specs.DateTables.{TableDates, date_at}
 use Rattle.teg_settle.specs.declared.releases.Repetition.{Repetition}
 use Rattle.teg_settle.specs.KeptForms.{IsFormKept}
 use Rattle.teg_settle.specs.Copies.{AreShownDates}

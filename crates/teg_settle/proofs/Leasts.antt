@@ -21,8 +21,8 @@ use Rattle.periodic_laws.proofs.teg_model_proofs.Tokens.{implicit_gives}
 use Rattle.periodic_laws.proofs.teg_model_proofs.Within.{within_more, least_in_within, net_is_bounded}
 use Rattle.periodic_laws.proofs.teg_model_proofs.ListDates.{first_bound, listed_within}
 use Rattle.periodic_laws.proofs.teg_model_proofs.DateFunctions.{Dating}
-use Rattle.teg_dates.specs.KeptRows.{KeepsShortBounds}
-use Rattle.teg_dates.proofs.Ranking.{rank_of, ranks_of}
+use Rattle.date_rows.specs.KeptRows.{KeepsShortBounds}
+use Rattle.date_rows.proofs.Ranking.{rank_of, ranks_of}
 use Rattle.periodic_laws.proofs.settled_laws_proofs.Everywhere.{Climbing}
 use Rattle.periodic_laws.proofs.settled_laws_proofs.Settling.{HasNoRelease, FollowsRelease}
 use Rattle.periodic_laws.proofs.settled_laws_proofs.Driven.{source_follows}

@@ -6,7 +6,7 @@ use Rattle.teg_net.specs.Nets.{NetLists, IsNet}
 use Rattle.teg_check.specs.Ranks.{IsRanking}
 use Rattle.periodic_laws.proofs.teg_model_proofs.DateFunctions.{Dating}
 use Rattle.periodic_laws.specs.settled_laws.SettledForms.{SettledForm}
-use Rattle.teg_dates.specs.DateTables.{TableDates}
+use Rattle.date_rows.specs.DateTables.{TableDates}
 use Rattle.teg_settle.specs.declared.releases.Releases.{Releases}
 use Rattle.teg_settle.specs.declared.releases.Repetition.{Repetition}
 use Rattle.teg_settle.specs.declared.refusals.SettleRefusal.{SettleRefusal}

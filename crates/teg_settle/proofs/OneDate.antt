@@ -3,7 +3,7 @@ use Rattle.std.proofs.Common.{ℕ, ◌≤◌, ◌<◌, ◌≡◌, length}
 use Rattle.teg_net.specs.Nets.{NetLists}
 use Rattle.periodic_laws.specs.settled_laws.SettledForms.{SettledForm, settled_date}
 use Rattle.periodic_laws.proofs.settled_laws_proofs.Telling.{form_tells}
-use Rattle.teg_dates.specs.DateTables.{TableDates, date_at}
+use Rattle.date_rows.specs.DateTables.{TableDates, date_at}
 use Rattle.teg_settle.specs.declared.releases.Tokens.TheVariants.{Ready}
 use Rattle.teg_settle.specs.declared.releases.Releases.{Releases}
 use Rattle.teg_settle.specs.InitialReleases.{AreWaits, wait_of}

@@ -7,8 +7,8 @@ use Rattle.periodic_laws.proofs.teg_model_proofs.OfNet.{only_least}
 use Rattle.periodic_laws.proofs.teg_model_proofs.DateFunctions.{Dating}
 use Rattle.periodic_laws.proofs.settled_laws_proofs.Everywhere.{same_repeats}
 use Rattle.periodic_laws.specs.LinearSystem.{LeastDatingsRepeat}
-use Rattle.teg_dates.specs.DateTables.{TableDates}
-use Rattle.teg_dates.specs.KeptRows.{IsRows, AreLeastRows}
+use Rattle.date_rows.specs.DateTables.{TableDates}
+use Rattle.date_rows.specs.KeptRows.{IsRows, AreLeastRows}
 use Rattle.teg_settle.specs.declared.releases.Releases.{Releases}
 use Rattle.teg_settle.specs.declared.releases.Repetition.{Repetition}
 use Rattle.teg_settle.specs.ComparedRows.{AreRowsOf, IsReady, IsRefuted, IsSeen, most_window, read_step}

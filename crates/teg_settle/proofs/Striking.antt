@@ -8,7 +8,7 @@ use Rattle.dioid.specs.declared.dates.Date.{Date}
 use Rattle.dioid.specs.declared.dates.Date.TheVariants.{Early, At, Never}
 use Rattle.dioid.specs.Dates.{move}
 use Rattle.teg_net.specs.Nets.{NetLists}
-use Rattle.teg_dates.specs.DateTables.{TableDates, date_at}
+use Rattle.date_rows.specs.DateTables.{TableDates, date_at}
 use Rattle.teg_settle.specs.declared.releases.Releases.{Releases}
 use Rattle.teg_settle.specs.ComparedRows.{IsReady, AreRowsOf, IsRefuted, read_step}
 use Rattle.teg_settle.specs.Prefixes.{AreCommonPrefixes, IsAgreeing, IsCommonPrefix, HasMoves, moved_by, move_back}

@@ -21,12 +21,12 @@ use Rattle.periodic_laws.proofs.settled_laws_proofs.Everywhere.{Repeats, everywh
 use Rattle.periodic_laws.proofs.settled_laws_proofs.Settling.{HasNoRelease, FollowsRelease}
 use Rattle.periodic_laws.proofs.settled_laws_proofs.Seen.{IsRisingAt, accepted_repeats, read_steps, form_is_rising_at, form_is_alike}
 use Rattle.periodic_laws.proofs.settled_laws_proofs.Repeating.{later_form, period_least, after_least}
-use Rattle.teg_dates.specs.DateTables.{TableDates, HasDatesOf, date_at}
+use Rattle.date_rows.specs.DateTables.{TableDates, HasDatesOf, date_at}
 use Rattle.teg_settle.specs.declared.releases.Releases.{Releases}
 use Rattle.teg_settle.specs.InitialReleases.{system_for}
 use Rattle.teg_settle.specs.ComparedRows.{read_step, IsReady, AreComparedRows, AreRowsOf, IsRefuted, IsSeenFrom, IsSeen}
 use Rattle.teg_settle.specs.Witnesses.{AreTested, IsFailed, IsPassed, tested_period}
-use Rattle.teg_dates.proofs.Ranking.{rank_of}
+use Rattle.date_rows.proofs.Ranking.{rank_of}
 use Rattle.teg_settle.proofs.Leasts.{ranks_on, least, least_is, release_outside, outside, climbs, tokens_on, releases_on, dates_on}
 
 same_steps : (c : ℕ) (x : Dating) (after period : ℕ) (s u : ℕ → ℤ) → ((t : ℕ) → t < c → s t ≡ u t) → RepeatsAfter c x after period s → RepeatsAfter c x after period u

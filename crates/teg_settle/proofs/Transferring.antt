@@ -32,7 +32,7 @@ use Rattle.teg_settle.specs.declared.releases.Releases.{Releases}
 use Rattle.teg_settle.specs.InitialReleases.{initial_by, release_as, wait_in, release_by, system_for, AreWaits, wait_from, OnlyInputsWait}
 use Rattle.teg_settle.specs.Alone.{alone, released_alone}
 use Rattle.teg_settle.specs.Transfers.{IsGreatestWalkTime, AreWalkTimes}
-use Rattle.teg_dates.proofs.Ranking.{rank_of, ranks_of}
+use Rattle.date_rows.proofs.Ranking.{rank_of, ranks_of}
 use Rattle.teg_settle.proofs.Owning.{least_same, waits_within}
 
 is_transition : (o : Option Transition) → o ≡ None → IsSomeAnd o (λ x. x.role ≡ Input) → ⊥

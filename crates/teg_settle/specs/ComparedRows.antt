@@ -12,8 +12,8 @@ use Rattle.periodic_laws.specs.teg_model.Systems.{IsLeastIn}
 use Rattle.periodic_laws.specs.teg_model.DateBounds.{IsDateWithin, greatest_least_date}
 use Rattle.periodic_laws.specs.settled_laws.SettledForms.{SettledForm, RepeatsAfter, IsShortestForm}
 use Rattle.periodic_laws.specs.settled_laws.DateDifferences.{between}
-use Rattle.teg_dates.specs.DateTables.{TableDates, HasDatesOf, date_at}
-use Rattle.teg_dates.specs.KeptRows.{IsRows, AreLeastRows}
+use Rattle.date_rows.specs.DateTables.{TableDates, HasDatesOf, date_at}
+use Rattle.date_rows.specs.KeptRows.{IsRows, AreLeastRows}
 use Rattle.teg_settle.specs.declared.releases.Releases.{Releases}
 use Rattle.teg_settle.specs.declared.releases.Repetition.{Repetition}
 use Rattle.teg_settle.specs.InitialReleases.{OnlyInputsWait, release_by, system_for}

@@ -30,5 +30,4 @@ pub use Rattle.slope_laws.specs.teg_loops as teg_loops
 pub use Rattle.periodic_laws.specs.teg_model as teg_model
 pub use Rattle.periodic_laws.specs.settled_laws as settled_laws
 pub use Rattle.periodic_laws.specs as periodic_laws
-pub use Rattle.teg_dates.specs as teg_dates
-pub use Rattle.teg_dates.specs.teg_form as teg_form
+pub use Rattle.date_rows.specs as date_rows

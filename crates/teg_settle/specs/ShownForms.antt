@@ -3,7 +3,7 @@ use Rattle.std.specs.Prelude.{ℕ, ℤ, ◌+◌, ◌≤◌, List, map}
 use Rattle.std.specs.List.{range_with_len}
 use Rattle.dioid.specs.declared.dates.Date.{Date}
 use Rattle.periodic_laws.specs.settled_laws.SettledForms.{SettledForm}
-use Rattle.teg_dates.specs.DateTables.{TableDates, date_at}
+use Rattle.date_rows.specs.DateTables.{TableDates, date_at}
 use Rattle.teg_settle.specs.declared.releases.Repetition.{Repetition}
 use Rattle.teg_settle.specs.KeptForms.{IsFormKept}
 

@@ -6,7 +6,7 @@ use Rattle.teg_net.specs.Nets.{NetLists}
 use Rattle.periodic_laws.specs.teg_model.Datings.{IsLeastDating}
 use Rattle.periodic_laws.specs.settled_laws.SettledForms.{RepeatsAfter}
 use Rattle.periodic_laws.specs.RepeatNumbers.{repeats_past, repeats_in}
-use Rattle.teg_dates.specs.DateTables.{TableDates}
+use Rattle.date_rows.specs.DateTables.{TableDates}
 use Rattle.teg_settle.specs.declared.releases.Tokens.TheVariants.{Ready}
 use Rattle.teg_settle.specs.declared.releases.Releases.{Releases}
 use Rattle.teg_settle.specs.declared.releases.Repetition.{Repetition}

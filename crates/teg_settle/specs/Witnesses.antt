@@ -1,7 +1,7 @@
 -- Working definitions of the tests of a period.
 use Rattle.std.specs.Prelude.{ℕ, ◌+◌, ◌≤◌, All}
 use Rattle.teg_net.specs.Nets.{NetLists}
-use Rattle.teg_dates.specs.DateTables.{TableDates}
+use Rattle.date_rows.specs.DateTables.{TableDates}
 use Rattle.teg_settle.specs.declared.releases.Releases.{Releases}
 use Rattle.teg_settle.specs.Spans.{AreSpans}
 use Rattle.teg_settle.specs.ComparedRows.{AreComparedRows, IsRisingPlace, IsMovedAt, IsMovedPast, AreReleasedAlike}

@@ -13,7 +13,7 @@ pub(crate) fn moved(number: i128, rounds: u64, step: i128) -> i128
 }
 
 // A number of a form's dates, and by how many periods it stands before another number.
-#[derive(Clone, Copy, Debug, Drop)]
+#[derive(Clone, Copy, Drop)]
 pub(crate) struct Back {
     pub(crate) number: u64,
     pub(crate) rounds: u64,

@@ -11,10 +11,10 @@ use crate::releases::Releases;
 use crate::search::{Found, MOST_ROWS, grow, seen};
 use crate::settled::Settled;
 use crate::shown::SettledDates;
+use date_rows::{PlaceOrder, Rows};
 use periodic_laws::least_datings_repeat;
 use std::alloc::Global;
 use teg_check::Live;
-use teg_dates::{PlaceOrder, Rows};
 use teg_net::{Net, OutOfMemory};
 
 // Rows that show the shortest form of the net's least dating, which every live net has: they are

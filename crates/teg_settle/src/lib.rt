@@ -14,11 +14,31 @@
 //!
 //! Rows of dates are made until they show a form: in its last period no step falls along a place,
 //! the dates before move alike, and so do the releases of the inputs. The crate stands on
-//! `teg_dates` for rows, on `periodic_laws` for that there is a settled form, on `slope_laws` for
+//! `date_rows` for rows, on `periodic_laws` for that there is a settled form, on `slope_laws` for
 //! its slopes, on `settled_laws` for what settled forms are and what rows tell, on `teg_check` for
 //! ranks, on `teg_model` for datings, on `teg_net` for nets, on `dioid` for dates, and on
-//! `thiserror`.
-//! Its examples stand in `worked_examples`.
+//! `thiserror`. Its examples stand in `library_examples`, in `chapters_plans.rt`, and in
+//! `date_examples`, in `one_dates.rt` and `own_rows.rt`.
+//!
+//! ## How it works
+//!
+//! The search for a settled form makes rows of one system, that of a table `Releases` in which each
+//! input's list is found once. Rows are doubled until a period is seen in them: by the last
+//! period's steps no step falls along a place, the rows before move alike from the end on, and so
+//! do the input lists at every later number, tested by themselves from where on they go on evenly
+//! (`Span`). A transition whose dates do not go on in the least period that is left strikes off all
+//! in which they do not, at once, so few are tried. What is seen holds at every number, and every form that begins early enough is seen;
+//! so the first period that is seen is the least. With a limit, rows of twice the limit and the
+//! most tokens of a place show each form within it. Without one the search ends by a number of rows
+//! that the lists of the net tell (`periodic_laws`), which stands in no code; past 2 x 10^13 rows
+//! it answers want of memory.
+//!
+//! The times of walks from an input are the same search over the system without initial tokens in
+//! which that input alone is released, at 0, in a part of the net (`src/reached.rt`): the
+//! transitions where such a walk ends, under new numbers, and the places between them. What is left
+//! out has no date, so the least dating of the part tells that of the net (`ReachedPart`). The form
+//! of the part is then told of the whole net (`Settled::spread`): each transition has the number of
+//! its row, and those without dates share one.
 //!
 //! ## Call it
 //!

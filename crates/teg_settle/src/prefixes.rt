@@ -4,9 +4,9 @@ ghost use Rattle.std.specs.Prelude.{◌≡◌, ◌+◌, ◌-◌, ◌<◌, ◌≤
 ghost use Rattle.periodic_laws.specs.teg_model.DateBounds.{IsDateWithin};
 ghost use Rattle.teg_settle.specs.Prefixes.{AreCommonPrefixes, HasMoves, IsAgreeing, IsCommonPrefix, move_back, moved_by};
 
+use date_rows::Rows;
 use dioid::Date;
 use std::alloc::{AllocError, Global};
-use teg_dates::Rows;
 use teg_net::TransitionId;
 
 // By what the early date moves to the late one: 0 where both are Early or both Never, and -1 where

@@ -9,7 +9,7 @@ use std::alloc::{AllocError, Global};
 use teg_net::{DateList, Name, Net, OutOfMemory, Place, Transition, TransitionId};
 
 // The part of a net, whether each transition of the net is in it, and its new number.
-#[derive(Debug, Drop)]
+#[derive(Drop)]
 pub(crate) struct Part {
     pub(crate) net: Net,
     pub(crate) marks: Vec<bool>,
@@ -17,7 +17,7 @@ pub(crate) struct Part {
 }
 
 // The marked transitions in order, and of each of them its place among these.
-#[derive(Debug, Drop)]
+#[derive(Drop)]
 struct Numbers {
     old: Vec<u32>,
     new: Vec<u32>,

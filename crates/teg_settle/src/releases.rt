@@ -9,9 +9,9 @@ ghost use Rattle.teg_settle.specs.Spans.{AreSpans, IsSpan};
 ghost use Rattle.teg_settle.specs.Steps.{AreOwnReleases};
 
 use crate::lists::{Span, date_of_list, list_number, spans_of};
+use date_rows::Source;
 use dioid::Date;
 use std::alloc::{AllocError, Global};
-use teg_dates::Source;
 use teg_net::{Net, PlaceId, Role, TransitionId};
 
 // What the firings of a transition wait for beside tokens.

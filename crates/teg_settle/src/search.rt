@@ -1,6 +1,6 @@
 //! The growing search for the shortest form: rows are made until they show one.
 ghost use Rattle.std.specs.Prelude.{◌≡◌, ◌+◌, ◌-◌, ◌<◌, ◌≤◌, IfOk, MatchOption, MatchResult, ℕ};
-ghost use Rattle.teg_dates.specs.PlaceOrder.{OrdersPlaces};
+ghost use Rattle.date_rows.specs.PlaceOrder.{OrdersPlaces};
 ghost use Rattle.teg_settle.specs.Asked.{IsAsked};
 ghost use Rattle.teg_settle.specs.ShortestForms.{IsSearched};
 ghost use Rattle.teg_settle.specs.ComparedRows.{AreRowsOf, IsReady, IsRefuted, IsSeen, IsSeenFrom, IsTrial, most_window};
@@ -9,8 +9,8 @@ use crate::asked::Asked;
 use crate::releases::Repetition;
 use crate::struck::strike_by;
 use crate::witness::{PeriodTest, Witness, Witnesses};
+use date_rows::{PlaceOrder, Rows};
 use std::alloc::{AllocError, Global};
-use teg_dates::{PlaceOrder, Rows};
 use teg_net::OutOfMemory;
 
 // Where more rows than this show no form, no further ones are made: the dates of so many fill more
@@ -18,14 +18,14 @@ use teg_net::OutOfMemory;
 pub(crate) const MOST_ROWS: u64 = 20_000_000_000_000;
 
 // Rows of dates, and past which of their numbers they go on in each period.
-#[derive(Debug, Drop)]
+#[derive(Drop)]
 pub(crate) struct Found {
     pub(crate) rows: Rows,
     pub(crate) form: Repetition,
 }
 
 // Rows of dates, and past which of their numbers they go on in each period, if they show it.
-#[derive(Debug, Drop)]
+#[derive(Drop)]
 pub(crate) struct Searched {
     pub(crate) rows: Rows,
     pub(crate) form: Option<Repetition>,

@@ -15,10 +15,10 @@ use crate::reached::is_marked;
 use crate::releases::Releases;
 use crate::search::Found;
 use crate::window::steps_of;
+use date_rows::Rows;
 use dioid::Date;
 use std::alloc::{AllocError, Global};
 use std::marker::Model;
-use teg_dates::Rows;
 use teg_net::{Net, TransitionId};
 
 /// A settled form (chapter 3): a number, a period of at least 1, and for each transition of a net

@@ -10,10 +10,10 @@ use crate::back::{back_from, moved};
 use crate::releases::{Releases, Repetition};
 use crate::search::Found;
 use crate::window::steps_of;
+use date_rows::Rows;
 use dioid::Date;
 use std::alloc::{AllocError, Global};
 use std::marker::Model;
-use teg_dates::Rows;
 use teg_net::{Net, TransitionId};
 
 /// A settled form (chapter 3), for callers that ask for some of its dates: the rows of the search

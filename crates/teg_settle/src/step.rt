@@ -1,7 +1,7 @@
 //! The step of a search of one's own: what rows of a net show.
 ghost use Rattle.std.specs.Prelude.{◌≤◌, IfNone, IfOk, IfSome, IsSome};
 ghost use Rattle.teg_check.specs.Ranks.{IsRanking};
-ghost use Rattle.teg_dates.specs.KeptRows.{AreLeastRows};
+ghost use Rattle.date_rows.specs.KeptRows.{AreLeastRows};
 ghost use Rattle.periodic_laws.specs.teg_model.Datings.{listed_releases, system_of};
 ghost use Rattle.teg_settle.specs.Steps.{AreOwnReleases, ShowsForm, ShowsNoForm, showing_rows};
 ghost use Rattle.teg_settle.specs.ComparedRows.{most_window};
@@ -9,10 +9,10 @@ ghost use Rattle.teg_settle.specs.ComparedRows.{most_window};
 use crate::asked::{Asked, ready_tokens};
 use crate::releases::{Releases, Repetition};
 use crate::search::seen_one_by_one;
+use date_rows::Rows;
 use periodic_laws::least_datings_repeat;
 use std::alloc::Global;
 use teg_check::Live;
-use teg_dates::Rows;
 use teg_net::{Net, OutOfMemory};
 
 /// The ready dates and the input lists of the net, each list found once. `OutOfMemory` comes only

@@ -7,8 +7,8 @@ ghost use Rattle.teg_settle.specs.Struck.{AreStruck};
 use crate::asked::Asked;
 use crate::prefixes::common_lengths;
 use crate::witness::Witness;
+use date_rows::Rows;
 use std::alloc::{AllocError, Global};
-use teg_dates::Rows;
 use teg_net::TransitionId;
 
 // Strikes off each period in which the dates of the transition do not move alike in as many of the

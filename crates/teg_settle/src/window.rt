@@ -5,9 +5,9 @@ ghost use Rattle.dioid.specs.Dates.{move};
 ghost use Rattle.periodic_laws.specs.teg_model.DateBounds.{IsDateWithin};
 ghost use Rattle.teg_settle.specs.ComparedRows.{AreComparedRows, read_step};
 
+use date_rows::Rows;
 use dioid::Date;
 use std::alloc::{AllocError, Global};
-use teg_dates::Rows;
 use teg_net::{Net, TransitionId};
 
 // Whether the step leads from one date to the other.

@@ -7,13 +7,13 @@ ghost use Rattle.teg_settle.specs.Witnesses.{IsFailed, IsPassed, IsTestable, tes
 
 use crate::releases::Releases;
 use crate::window::{is_step, step_in};
+use date_rows::Rows;
 use dioid::Date;
 use std::marker::Model;
-use teg_dates::Rows;
 use teg_net::{Net, Place, TransitionId};
 
 // Why a period was refuted.
-#[derive(Clone, Copy, Debug, Drop)]
+#[derive(Clone, Copy, Drop)]
 pub(crate) enum Witness {
     // The step falls along the place of this number.
     Fall(usize),
@@ -24,7 +24,7 @@ pub(crate) enum Witness {
 }
 
 // The last two.
-#[derive(Clone, Copy, Debug, Drop)]
+#[derive(Clone, Copy, Drop)]
 pub(crate) struct Witnesses {
     last: Option<Witness>,
     before: Option<Witness>,

@@ -3,14 +3,23 @@
 //! [`size`] tells the least number of further tokens of a place with which no circuit of the net
 //! has a greater ratio of time to tokens than a target, with a circuit that one token less leaves
 //! above it; or that no number is enough, with a circuit that shows it. [`is_target`] tells which
-//! ratios may be asked. [`enough_potentials`] gives
-//! the potentials that show a number to be enough, as `check_enough` of `teg_certificates` reads
-//! them. [`sizing_text`] is the text of an answer, [`no_place_text`] that of a name that no place
-//! has, and different answers have different texts. The best paths are found in rounds over the
-//! places, with no regard to the limit on tokens. The crate stands on `teg_net`, on
-//! `teg_certificates` for what is enough and what shows it, on `teg_check` for nets that are live,
-//! on `teg_loops` for the laws of paths and circuits, and on `teg_text` for texts.
-//! Its examples stand in `worked_examples`.
+//! ratios may be asked. [`enough_potentials`] gives the potentials that show a number to be enough,
+//! as `check_enough` of `teg_certificates` reads them. [`sizing_text`] is the text of an answer,
+//! [`no_place_text`] that of a name that no place has, and different answers have different texts.
+//! The best paths are found in rounds over the places, with no regard to the limit on tokens. The
+//! crate stands on `teg_net`, on `teg_certificates` for what is enough and what shows it, on
+//! `teg_check` for nets that are live, on `teg_loops` for the laws of paths and circuits, and on
+//! `teg_text` for texts. Its examples stand in `library_examples`, in `calls.rt`.
+//!
+//! ## How it works
+//!
+//! The search goes by the value of a path against the target: the target's tokens times the path's
+//! time, less the target's time times the path's tokens. Rounds over the places give the greatest
+//! values of paths of at most so many places. They stop at one that tells no more than that before
+//! it, since those after it would tell no more either. One such search, from everywhere and without
+//! the place, finds a circuit above the target that avoids the place, or shows that there is none;
+//! another, from the end of the place, finds the best path back to its start, and with it the best
+//! circuit that passes the place.
 //!
 //! ## Call it
 //!

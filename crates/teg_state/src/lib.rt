@@ -18,6 +18,3 @@ mod rest;
 pub use held::{is_fed, live_net_after};
 pub use refusal::NotLeft;
 pub use rest::net_after;
-
-#[cfg(test)]
-mod tests;

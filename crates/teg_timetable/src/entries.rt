@@ -6,7 +6,7 @@ use delay_laws::Delay;
 use teg_net::TransitionId;
 
 // A row: the first departure of a transition, in the user's unit, or a delay.
-#[derive(Clone, Copy, Debug, PartialEq, Eq)]
+#[derive(Clone, Copy)]
 pub(crate) enum TableEntry {
     Departure {
         transition: TransitionId,

@@ -8,11 +8,27 @@
 //! texts. The dates are settled as those of a net in which each departure also waits for an input
 //! of its own. The crate stands on `delay_laws` for what delays are, on `teg_settle` and
 //! `settled_laws` for settled forms, on `teg_due` and `csv_records` for the reader of rows, on
-//! `teg_text` for texts, on `teg_net` and `teg_check` for nets, and on `dioid` for dates.
-//! Its examples stand in `worked_examples`.
+//! `teg_text` for texts, on `teg_net` and `teg_check` for nets, and on `dioid` for dates. Its
+//! examples stand in `date_examples`, in `kept_delays.rt`.
 //!
 //! A refusal of [`spread`] is told by its first cause: a net that is too large, the lowest numbered
 //! place that does not get its time, a form that is longer than the limit.
+//!
+//! ## How it works
+//!
+//! The delayed dates are settled as those of another net: to each transition an input of its own is
+//! added, with a place without hold and token to the transition; the input's list has the releases
+//! of the departures up to a number past all delays of the transition, from where it goes on by the
+//! period. No transition of the net is an input there. The least dating of that net has the delayed
+//! dates in its first half and the releases in its second (`delay_laws`), so its shortest settled
+//! form is the one that is asked for, and a limit is exceeded exactly where it is there. With no
+//! more than 200 transitions, and 4,000 transitions and places together, it keeps the limits of a
+//! net.
+//!
+//! What stays is read off one period past the number: the greatest delay there, if it is above 0,
+//! reaches each transition that has it by a place without spare time from one that has it too. Such
+//! places are followed back until a transition comes again, which gives the circuit. Otherwise the
+//! last number with a delay is the answer.
 #![tactic(auto)]
 
 mod circuits;

@@ -5,8 +5,7 @@
 //! subcommands: a required first positional, any number of others, the option `--limit VALUE` and
 //! the flag `--rounds`, without help and version. Which commands there are, and what each takes, is
 //! the business of the caller. [`number`] is the one reading of a number among the words. It stands
-//! on `clap`.
-//! Its examples stand in `worked_examples`.
+//! on `clap`. Whole calls try it, in `worked_examples`.
 #![tactic(auto)]
 
 mod numbers;

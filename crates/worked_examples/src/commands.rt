@@ -1,12 +1,11 @@
 //! Each command once, with an answer that was worked out by hand, and a call of each other kind.
-use crate::bench::{Case, ending, is_answered, sink_of};
+use crate::bench::{Case, is_answered};
 use crate::nets::{DEAD_LOOP, DRIVEN, KANBAN, LOOP};
-use std::alloc::Global;
 use std::test::Fail;
-use teg_run::Status;
+use teg_run::{Status, make_trial};
 
-// The commands of a net alone.
-const NETS: [Case<'static>; 11] = [
+// The commands of a net, of a second file and of no file, and calls that are refused.
+const COMMANDS: [Case<'static>; 23] = [
     (
         &["check", "net"],
         LOOP,
@@ -84,10 +83,13 @@ const NETS: [Case<'static>; 11] = [
         Status::Done,
         "bound 437\nsettled after 4 period 1\n",
     ),
-];
-
-// The commands of a second file, of no file, and calls that are refused.
-const OTHERS: [Case<'static>; 11] = [
+    (
+        &["migrate", "net"],
+        "[[transition]]\nname = \"a\"\n",
+        "",
+        Status::Done,
+        "version = 2\n\n[[transition]]\nname = \"a\"\nrole = \"internal\"\n",
+    ),
     (
         &["jit", "net", "second"],
         DRIVEN,
@@ -167,49 +169,17 @@ const OTHERS: [Case<'static>; 11] = [
     ),
 ];
 
-// The number of the first case that is not answered as wanted, or the number of cases.
-fn first_other(alloc: Global, cases: &[Case<'_>]) -> Result<usize, Fail> {
-    for (index, case) in cases.iter().enumerate() {
-        if !is_answered(alloc, case)? {
-            return Ok(index);
-        }
+#[test]
+fn each_command_is_answered(rt: HostRuntime) -> Result<(), Fail> {
+    for (index, case) in COMMANDS.iter().enumerate() {
+        assert!(rt; is_answered(rt.alloc(), case)?, "case {index}");
     }
-    Ok(cases.len())
-}
-
-#[test]
-fn commands_of_a_net_are_answered(rt: HostRuntime) -> Result<(), Fail> {
-    assert!(rt; first_other(rt.alloc(), &NETS)? == NETS.len());
     Ok(())
 }
 
 #[test]
-fn other_commands_are_answered(rt: HostRuntime) -> Result<(), Fail> {
-    assert!(rt; first_other(rt.alloc(), &OTHERS)? == OTHERS.len());
-    Ok(())
-}
-
-// Whether the first dates of the net are those of the loop.
-fn has_dates_of_loop(alloc: Global, net: &[u8]) -> Result<bool, Fail> {
-    let mut dates = sink_of(alloc, 65536)?;
-    let ended = ending(alloc, &["list", "net", "2"], net, b"", &mut dates)?;
-    let wanted = "dates of 2 firings\ntransition a b\n1 0 3\n2 5 8\n";
-    Ok(ended == Status::Done && dates.contents() == wanted.as_bytes())
-}
-
-#[test]
-fn a_file_that_is_moved_has_the_same_dates(rt: HostRuntime) -> Result<(), Fail> {
-    let mut moved = sink_of(rt.alloc(), 65536)?;
-    let words = ["migrate", "net"];
-    let ended = ending(rt.alloc(), &words, LOOP.as_bytes(), b"", &mut moved)?;
-    assert!(rt; ended == Status::Done && has_dates_of_loop(rt.alloc(), moved.contents())?);
-    Ok(())
-}
-
-#[test]
-fn no_words_are_told_the_usage(rt: HostRuntime) -> Result<(), Fail> {
-    let mut out = sink_of(rt.alloc(), 65536)?;
-    let ended = ending(rt.alloc(), &[], b"", b"", &mut out)?;
-    assert!(rt; ended == Status::Words && out.contents().starts_with(b"usage: teg check NET\n"));
+fn statuses_are_numbers_and_lines_are_nets(rt: HostRuntime) -> Result<(), Fail> {
+    assert!(rt; Status::Done.code() == 0 && Status::Calc.code() == 9);
+    assert!(rt; make_trial(rt.alloc(), 3)?.transition_count() == 3);
     Ok(())
 }

@@ -117,15 +117,10 @@ fn are_cut(alloc: Global, whole: &Whole<'static>, size: usize) -> Result<bool, F
 }
 
 #[test]
-fn each_write_may_fail(rt: HostRuntime) -> Result<(), Fail> {
+fn each_write_may_fail_and_room_may_end_anywhere(rt: HostRuntime) -> Result<(), Fail> {
     for whole in &WHOLE {
         assert!(rt; are_cut(rt.alloc(), whole, 1)? && are_cut(rt.alloc(), whole, 5)?);
     }
-    Ok(())
-}
-
-#[test]
-fn room_may_end_anywhere(rt: HostRuntime) -> Result<(), Fail> {
     for room in 0..70usize {
         let out = MemorySink::new(rt.alloc(), 7, room, Vec::new(rt.alloc()))?;
         assert!(rt; is_cut(rt.alloc(), &LISTED, out, room)?, "{room} bytes");

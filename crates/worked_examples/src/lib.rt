@@ -1,8 +1,8 @@
 //! Worked examples: whole calls of `workbench` over a shelf and a sink in memory. Each command,
 //! with answers that were worked out by hand; reads and writes that fail, each in turn; monitors in
-//! any mix; files and writers of std; and commands at the limits. The crate has tests alone, since
-//! what it shows is what no contract says: that the texts are the ones that users read, and that
-//! memory is found. It stands on `teg_run` and `teg_outside`.
+//! any mix; and files and writers of std. The crate has tests alone, since what it shows is what no
+//! contract says: that the texts are the ones that users read, and that memory is found. It stands
+//! on `teg_run` and `teg_outside`. Commands at the limits are rows of `tools/rows/limits.rows`.
 #![tactic(auto)]
 
 #[cfg(test)]
@@ -11,8 +11,6 @@ mod bench;
 mod commands;
 #[cfg(test)]
 mod failing_calls;
-#[cfg(test)]
-mod limits;
 #[cfg(test)]
 mod monitor_mixes;
 #[cfg(test)]

@@ -1,5 +1,5 @@
 //! Monitors that are handed in: each is dropped once, whatever the words and the files, and sees
-//! just the firings that a replay accepts; and those that are handed back have seen them.
+//! just the firings that a replay accepts; and those that are lent have seen them.
 ghost use Rattle.std.specs.Prelude.{codes};
 
 use crate::bench::{call, shelf_of, sink_of};

@@ -20,40 +20,19 @@ fn read_from<S: Shelf>(
     shelf.read(alloc, name, limit)
 }
 
-// The number of bytes that are read, or why there are none.
-fn length<S: Shelf>(
+// Whether the read gives these bytes, or this fault where there is one.
+fn gives<S: Shelf>(
     shelf: &mut S,
     alloc: Global,
-    name: &str,
-    limit: usize,
-) -> Result<usize, ShelfFault> {
+    file: (&str, usize),
+    bytes: &[u8],
+    fault: Option<ShelfFault>,
+) -> bool {
+    let (name, limit) = file;
     match read_from(shelf, alloc, name, limit) {
-        Ok(bytes) => Ok(bytes.len()),
-        Err(fault) => Err(fault),
+        Ok(read) => fault.is_none() && read.as_slice() == bytes,
+        Err(why) => fault == Some(why),
     }
-}
-
-#[test]
-fn a_real_file_is_read_whole_up_to_its_limit(rt: HostRuntime) -> Result<(), Fail> {
-    fs::write(&rt, "long", [b'x'; 1_000].as_slice())?;
-    fs::write(&rt, "other", b"another file".as_slice())?;
-    let mut shelf = FileShelf::new(&rt);
-    for (name, limit, answer) in [
-        ("long", 1_000, Ok(1_000)),
-        ("long", 999, Err(ShelfFault::TooLarge)),
-        ("missing", 1_000, Err(ShelfFault::Failed)),
-    ] {
-        assert!(rt;
-            length(&mut shelf, rt.alloc(), name, limit) == answer,
-            "{name} up to {limit}"
-        );
-    }
-    // (no read changes a file, neither the one that it reads nor another)
-    assert!(rt; fs::read(&rt, "long")?.len() == 1_000);
-    assert!(rt; fs::read(&rt, "other")?.as_slice() == b"another file".as_slice());
-    fs::remove_file(&rt, "long")?;
-    fs::remove_file(&rt, "other")?;
-    Ok(())
 }
 
 // So many bytes of all kinds, none like the one before it.
@@ -66,15 +45,23 @@ fn mixed(alloc: Global, count: u32) -> Result<Vec<u8>, Fail> {
 }
 
 #[test]
-fn a_long_file_is_read_as_it_stands(rt: HostRuntime) -> Result<(), Fail> {
+fn a_real_file_is_read_as_it_stands_up_to_its_limit(rt: HostRuntime) -> Result<(), Fail> {
     let bytes = mixed(rt.alloc(), 70_000)?;
     fs::write(&rt, "mixed", bytes.as_slice())?;
+    fs::write(&rt, "other", b"another file".as_slice())?;
     let mut shelf = FileShelf::new(&rt);
-    let is_right = match read_from(&mut shelf, rt.alloc(), "mixed", 70_000) {
-        Ok(read) => read.as_slice() == bytes.as_slice(),
-        Err(_) => false,
-    };
-    assert!(rt; is_right);
+    for (file, fault) in [
+        (("mixed", 70_000), None),
+        (("mixed", 69_999), Some(ShelfFault::TooLarge)),
+        (("missing", 70_000), Some(ShelfFault::Failed)),
+    ] {
+        let is_right = gives(&mut shelf, rt.alloc(), file, bytes.as_slice(), fault);
+        assert!(rt; is_right, "{file:?}");
+    }
+    // (no read changes a file, neither the one that it reads nor another)
+    assert!(rt; fs::read(&rt, "mixed")?.len() == 70_000);
+    assert!(rt; fs::read(&rt, "other")?.as_slice() == b"another file".as_slice());
     fs::remove_file(&rt, "mixed")?;
+    fs::remove_file(&rt, "other")?;
     Ok(())
 }

@@ -29,7 +29,7 @@ fn written<W: Sink>(sink: &mut W, piece: &[u8]) -> Result<usize, SinkFault> {
 }
 
 #[test]
-fn each_write_is_flushed(rt: HostRuntime) {
+fn each_write_is_flushed_and_a_full_writer_is_a_fault(rt: HostRuntime) {
     let mut writer = FlushCount {
         unflushed: 0,
         flushes: 0,
@@ -42,10 +42,6 @@ fn each_write_is_flushed(rt: HostRuntime) {
             "of {piece:?}"
         );
     }
-}
-
-#[test]
-fn a_full_writer_is_a_fault(rt: HostRuntime) {
     let mut full = WriterSink::new(Cursor::new([0u8; 2]));
     assert!(rt; written(&mut full, b"abc") == Ok(2));
     assert!(rt; written(&mut full, b"c") == Err(SinkFault::Failed));

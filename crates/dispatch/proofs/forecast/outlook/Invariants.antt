@@ -1,5 +1,5 @@
 use Rattle.std.proofs.Common.{◌≡◌}
-use Rattle.teg_dates.specs.KeptRows.{AreLeastRows}
+use Rattle.date_rows.specs.KeptRows.{AreLeastRows}
 use Rattle.state_laws.specs.NetsLeft.{system_after}
 use Rattle.dispatch.proofs.forecast.outlook.Given as goal
 

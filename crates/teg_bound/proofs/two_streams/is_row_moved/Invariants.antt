@@ -1,6 +1,6 @@
 use Rattle.std.proofs.Common.{ℕ, ◌≡◌, ◌<◌}
 use Rattle.periodic_laws.specs.settled_laws.DateDifferences.{between}
-use Rattle.teg_dates.specs.Streams.{date_back}
+use Rattle.date_rows.specs.Streams.{date_back}
 use Rattle.teg_bound.proofs.two_streams.is_row_moved.Given as goal
 
 abbrev pub invariant-loop-index : goal.invariant-loop-index

@@ -1,5 +1,5 @@
 use Rattle.std.proofs.Common.{rules, ◌≢◌, ◌∙◌}
-use Rattle.teg_forever.specs.declared.rows.EndlessRefusal.TheVariants.{OutOfMemory}
+use Rattle.endless_due.specs.declared.refusal.EndlessRefusal.TheVariants.{OutOfMemory}
 use Rattle.teg_commands.proofs.forever.refuse_endless.Goals as goal
 
 pub returns-in_ok-text-in-BadRow : goal.returns-in_ok-text-in-BadRow

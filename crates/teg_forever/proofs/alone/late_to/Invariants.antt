@@ -1,6 +1,6 @@
 use Rattle.std.proofs.Common.{◌≡◌, ◌-◌, length}
 use Rattle.teg_net.specs.Nets.{without_inputs}
-use Rattle.teg_dates.specs.Streams.{IsStreamOf, rows_given}
+use Rattle.date_rows.specs.Streams.{IsStreamOf, rows_given}
 use Rattle.forever_laws.specs.Late.{NoneLateTo}
 use Rattle.teg_forever.specs.LateFirings.{InLeastAtZero}
 use Rattle.teg_forever.proofs.alone.late_to.Given as goal

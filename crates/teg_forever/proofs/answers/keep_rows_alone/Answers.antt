@@ -20,11 +20,12 @@ new-requires c =
     let i = c.loop-row.row-index in
     let within : i < length a.rows = rw c.rows-row-items.ensures.value at c.loop-row-test.true in
     let item : r ≡ get_or a.rows i r = rw c.rows-row-items.ensures.value at c.row-item.is in
-    rw c.net-net.ensures.value (record {
+    let stands = ranking_without a.net c.args.plain.now c.requires a.ranks given.stands in
+    rw (c.net-net.ensures.value, c.live-live.ensures) (record {
       live = record { rules = given.rules; is_live = given.is_live; ends = rule_at a given i r within item };
       plain_is = c.requires;
-      plain_live = c.ranked_nets_are_live.ensures c.args.plain.now a.ranks (ranking_without a.net c.args.plain.now c.requires a.ranks given.stands);
-      stands = c.in_ok-form.ensures.form;
+      plain_live = c.ranked_nets_are_live.ensures c.args.plain.now a.ranks stands;
+      stands = stands;
     })
 
 pub returns-in-Late-clause-late : goal.returns-in-Late-clause-late

@@ -8,7 +8,7 @@ use Rattle.forever_laws.specs.series_laws.SeriesForms.{Form, form_with, value_at
 use Rattle.forever_laws.specs.series_laws.Periodic.{Rising}
 use Rattle.teg_net.specs.Limits.{greatest_input_date}
 use Rattle.forever_laws.specs.SeriesColumns.{listed_dates}
-use Rattle.forever_laws.specs.declared.rows.EndlessRow.{EndlessRow}
+use Rattle.endless_due.specs.declared.row.EndlessRow.{EndlessRow}
 use Rattle.teg_forever.proofs.Series.{due_made, due_fits}
 use Rattle.teg_forever.proofs.gains.due_gain.Goals as goal
 

@@ -1,5 +1,5 @@
 use Rattle.std.proofs.Common.{ℕ, ◌≡◌, ◌<◌, ◌≤◌, ◌+◌, ◌*◌, Some}
-use Rattle.forever_laws.specs.EndlessRows.{row_due}
+use Rattle.endless_due.specs.EndlessRows.{row_due}
 use Rattle.teg_forever.proofs.leads.line_over.Given as goal
 
 abbrev pub invariant-loop-place : goal.invariant-loop-place

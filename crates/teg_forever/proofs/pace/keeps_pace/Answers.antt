@@ -1,5 +1,5 @@
 use Rattle.std.proofs.Common.{All, sym, subst}
-use Rattle.forever_laws.specs.declared.rows.EndlessRow.{EndlessRow}
+use Rattle.endless_due.specs.declared.row.EndlessRow.{EndlessRow}
 use Rattle.forever_laws.specs.PacedRows.{KeepsPace}
 use Rattle.teg_forever.specs.Paces.{IsKept}
 use Rattle.teg_forever.proofs.KeepingPace.{paced}

@@ -1,5 +1,5 @@
 use Rattle.std.proofs.Common.{◌≡◌, length}
-use Rattle.teg_dates.specs.Streams.{AreFirstRowsOf}
+use Rattle.date_rows.specs.Streams.{AreFirstRowsOf}
 use Rattle.teg_jit.specs.DueNumbers.{HaveRow}
 use Rattle.teg_jit.proofs.due_numbers.go_on.Given as goal
 

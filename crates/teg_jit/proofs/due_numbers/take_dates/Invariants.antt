@@ -1,4 +1,4 @@
-use Rattle.teg_dates.specs.Streams.{AreFirstRowsOf}
+use Rattle.date_rows.specs.Streams.{AreFirstRowsOf}
 use Rattle.teg_jit.proofs.DueNumbers.{TakenTo}
 use Rattle.teg_jit.proofs.due_numbers.take_dates.Given as goal
 

@@ -1,7 +1,7 @@
 use Rattle.std.proofs.Common.{ℕ, ◌+◌, ◌<◌, ◌≡◌, length, sym, ap, arith, ◌∙◌}
 use Rattle.std.proofs.lemmas.List.{length-set}
 use Rattle.teg_net.specs.Nets.{IsNet}
-use Rattle.teg_dates.specs.DateTables.{firing_position}
+use Rattle.date_rows.specs.DateTables.{firing_position}
 use Rattle.teg_jit.specs.Plans.{latest_in}
 use Rattle.teg_jit.specs.GoingBack.{date_there}
 use Rattle.teg_jit.proofs.Passing.{next_none, next_some}

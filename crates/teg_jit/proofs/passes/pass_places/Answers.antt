@@ -3,7 +3,7 @@ use Rattle.std.proofs.lemmas.List.{get_or_default, length-set}
 use Rattle.teg_net.specs.declared.entries.Place.{Place}
 use Rattle.teg_net.specs.Nets.{IsNet}
 use Rattle.teg_net.specs.Circuits.{place_at}
-use Rattle.teg_dates.specs.DateTables.{firing_position}
+use Rattle.date_rows.specs.DateTables.{firing_position}
 use Rattle.teg_jit.specs.declared.order.Depth.{Depth}
 use Rattle.teg_jit.specs.Plans.{latest_in}
 use Rattle.teg_jit.specs.GoingBack.{date_there}

@@ -1,5 +1,5 @@
 use Rattle.due_laws.proofs.LatestInputs.{latest_dates_are_inputs}
-use Rattle.teg_dates.proofs.teg_model_proofs.OfNet.{net_ends}
+use Rattle.date_rows.proofs.teg_model_proofs.OfNet.{net_ends}
 use Rattle.teg_due.specs.RowRules.{due_in}
 use Rattle.teg_jit.specs.Plans.{dates_of_plan}
 use Rattle.teg_jit.proofs.planning.latest_inputs.Goals as goal

@@ -2,7 +2,7 @@ use Rattle.std.proofs.Common.{subst, ◌≡◌, [], ◌∷◌, ◌++◌, List, �
 use Rattle.std.specs.Fmt.{decimal}
 use Rattle.std.specs.List.{range_with_len}
 use Rattle.dioid.specs.declared.dates.Date.{Date}
-use Rattle.teg_dates.specs.DateTables.{date_at}
+use Rattle.date_rows.specs.DateTables.{date_at}
 use Rattle.teg_report.specs.DateLists.{dated_firing}
 use Rattle.teg_text.specs.Lines.{further_then}
 use Rattle.teg_text.specs.ValueWords.{IsDate, date_word}

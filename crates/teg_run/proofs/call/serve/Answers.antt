@@ -1,5 +1,5 @@
 use Rattle.std.proofs.Common.{map, string_bytes}
-use Rattle.teg_run.specs.Requests.{request_of}
+use Rattle.teg_request.specs.Requests.{request_of}
 use Rattle.teg_run.specs.ShownFirings.{ShowsAsked}
 use Rattle.teg_run.proofs.Showing.{serves_of}
 use Rattle.teg_run.proofs.ShownFiles.{shows_told}

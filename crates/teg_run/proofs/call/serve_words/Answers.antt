@@ -1,5 +1,5 @@
 use Rattle.std.proofs.Common.{map, string_bytes}
-use Rattle.teg_run.specs.Requests.{request_of}
+use Rattle.teg_request.specs.Requests.{request_of}
 use Rattle.teg_run.proofs.Showing.{words_lost}
 use Rattle.teg_run.proofs.call.serve_words.Goals as goal
 

@@ -1,8 +1,8 @@
 use Rattle.std.proofs.Common.{[]}
-use Rattle.teg_commands.specs.Calc.{SaysCalc}
-use Rattle.teg_commands.specs.Trial.{SaysTrial}
-use Rattle.teg_commands.proofs.Replayed.{nothing_shown}
-use Rattle.teg_run.specs.declared.request.Request.TheVariants.{OfNet, ValueOf, TrialOf}
+use Rattle.teg_net_commands.specs.Calc.{SaysCalc}
+use Rattle.teg_pace_commands.specs.Trial.{SaysTrial}
+use Rattle.teg_plan_commands.proofs.Replayed.{nothing_shown}
+use Rattle.teg_request.specs.declared.request.Request.TheVariants.{OfNet, ValueOf, TrialOf}
 use Rattle.teg_run.specs.ShownFirings.{Shows}
 use Rattle.teg_run.proofs.Answering.{closed_with}
 use Rattle.teg_run.proofs.Showing.{serves_with}

@@ -1,5 +1,5 @@
 use Rattle.std.proofs.Common.{refl}
-use Rattle.teg_run.specs.declared.status.Status.TheVariants.{NoMemory}
+use Rattle.teg_files.specs.declared.status.Status.TheVariants.{NoMemory}
 use Rattle.teg_run.proofs.Promises.{lost_runs}
 use Rattle.teg_run.proofs.watched.run_watched.Goals as goal
 

@@ -1,5 +1,5 @@
 use Rattle.std.proofs.Common.{◌<◌, length, subst, sym}
-use Rattle.forever_laws.specs.EndlessRows.{IsEndlessRow}
+use Rattle.endless_due.specs.EndlessRows.{IsEndlessRow}
 use Rattle.teg_forever.proofs.Series.{got}
 use Rattle.teg_forever.proofs.asked.InputRows.row.Goals as goal
 

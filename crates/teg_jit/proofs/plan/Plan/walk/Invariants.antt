@@ -1,4 +1,4 @@
-use Rattle.teg_dates.proofs.teg_model_proofs.LiveRanks.{rank_bound, rank_in}
+use Rattle.date_rows.proofs.teg_model_proofs.LiveRanks.{rank_bound, rank_in}
 use Rattle.teg_jit.proofs.Tight.{distance}
 use Rattle.teg_jit.proofs.Walking.{WalkedTo}
 use Rattle.teg_jit.proofs.plan.Plan.walk.Given as goal

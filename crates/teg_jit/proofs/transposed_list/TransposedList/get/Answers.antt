@@ -1,5 +1,5 @@
 use Rattle.std.proofs.Common.{◌*◌, ◌<◌, ◌≤◌, length, get_or, sym, subst, ap, ◌∙◌, arith}
-use Rattle.teg_dates.proofs.Cells.{rows_below}
+use Rattle.date_rows.proofs.Cells.{rows_below}
 use Rattle.teg_jit.specs.declared.answers.LatestDate.TheVariants.{Free}
 use Rattle.teg_jit.proofs.Transposing.{transposed_at, transposed_in}
 use Rattle.teg_jit.proofs.transposed_list.TransposedList.get.Goals as goal

@@ -4,7 +4,7 @@ use Rattle.std.specs.Int.{w128}
 use Rattle.std.proofs.lemmas.Int.{to_z-of_z}
 use borrow.Author.Count.{below_more}
 use Rattle.dioid.specs.Dates.{move}
-use Rattle.teg_dates.specs.DateTables.{date_at}
+use Rattle.date_rows.specs.DateTables.{date_at}
 use Rattle.teg_settle.specs.ComparedRows.{read_step}
 use Rattle.teg_settle.specs.Witnesses.{TestedPeriod}
 use Rattle.teg_settle.proofs.witness.PeriodTest.is_moved.Goals as goal

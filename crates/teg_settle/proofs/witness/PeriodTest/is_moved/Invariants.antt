@@ -1,6 +1,6 @@
 use Rattle.std.proofs.Common.{ℕ, ◌≡◌, ◌+◌, ◌<◌}
 use Rattle.dioid.specs.Dates.{move}
-use Rattle.teg_dates.specs.DateTables.{date_at}
+use Rattle.date_rows.specs.DateTables.{date_at}
 use Rattle.teg_settle.specs.ComparedRows.{read_step}
 use Rattle.teg_settle.proofs.witness.PeriodTest.is_moved.Given as goal
 

@@ -1,0 +1,36 @@
+use Rattle.std.proofs.Common.{◌+◌, ◌≡◌, ◌++◌, ◌^◌, ◌<◌, length, sym, ap, subst, ◌∙◌, arith}
+use Rattle.std.specs.Prelude.{⊤}
+use Rattle.std.proofs.lemmas.List.{map-id, with_items_is}
+use Rattle.teg_net.specs.Limits.{most_rows}
+use Rattle.date_rows.specs.DateTables.{TableDates}
+use Rattle.date_rows.specs.Sources.{system_by}
+use Rattle.date_rows.specs.KeptRows.{AreLeastRows}
+use Rattle.date_rows.proofs.Earliest.{bounds_stay}
+use Rattle.date_rows.proofs.NextRow.{can_make_next, rows_with_next}
+use Rattle.date_rows.proofs.rows.Rows.with_next.Goals as goal
+
+pub new-requires : goal.new-requires
+new-requires g c =
+    let net = c.args.net.now in
+    let s = system_by g.S.Source c.args.source.now net in
+    let fields = c.rows.inside in
+    let table : TableDates = record { width = fields.width; count = fields.count; dates = fields.dates } in
+    let few : fields.count < most_rows = omega (arith, c.requires.few, ap (λ a. a.count) c.rows.view_is) in
+    rw c.turns.ensures
+    (can_make_next net c.args.order.now s (2 ^ 126) ⊤ table c.rules.ensures c.requires.order (λ _ _. tt)
+    (bounds_stay s (fields.count + 1) c.requires.bounded (omega (arith, few))) few (subst (AreLeastRows net s) (sym c.rows.view_is) c.requires.rows))
+
+pub returns-clause-rows : goal.returns-clause-rows
+returns-clause-rows g c =
+    let net = c.args.net.now in
+    let s = system_by g.S.Source c.args.source.now net in
+    let fields = c.rows.inside in
+    let made = c.fill.new.row in
+    let table : TableDates = record { width = fields.width; count = fields.count; dates = fields.dates } in
+    let before = subst (AreLeastRows net s) (sym c.rows.view_is) c.requires.rows in
+    let full : length made ≡ length net.transitions = rw c.new.ensures at c.fill.ensures.full in
+    let long : length made ≡ c.resize.new.self.len = omega (arith, full, c.in_ok-resize.ensures.len, before.width) in
+    let row = c.deref.ensures.value ∙ with_items_is c.resize.new.self made long in
+    let is : c.extend.new.self ≡ fields.dates ++ made = c.in_ok-extend.ensures ∙ ap (λ r. fields.dates ++ r) row in
+    subst (λ d. AreLeastRows net s (record { width = fields.width; count = fields.count + 1; dates = d })) (sym is)
+    (rows_with_next net s table made c.rows.invariant before (rw (map-id made, c.new.ensures) at c.fill.ensures.least))

@@ -1,8 +1,0 @@
-use Rattle.std.proofs.Common.{◌≡◌, All, map, take}
-use Rattle.teg_report.specs.AnswerMeanings.{times_from}
-use Rattle.teg_commands.specs.Transfer.{IsTimesFrom}
-use Rattle.teg_commands.proofs.transfer.all_times.Given as goal
-
-abbrev pub invariant-loop-input : goal.invariant-loop-input
-invariant-loop-input l =
-    (map (λ from. from.from) (map times_from l.times.items) ≡ take l.input-index l.input-items) × All (IsTimesFrom l.net l.limit) (map times_from l.times.items)

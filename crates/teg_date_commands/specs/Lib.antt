@@ -1,0 +1,3 @@
+pub mod CommandDates
+pub mod Timetable
+pub mod Transfer

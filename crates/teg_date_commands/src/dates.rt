@@ -1,0 +1,166 @@
+//! The dates of a live net for ever, and one of them.
+ghost use Rattle.std.specs.Prelude.{◌≤◌, ◌<◌, IfErr, IfOk, IfSome, Some, length};
+ghost use Rattle.settled_laws.specs.SettledForms.{IsSettledFormOf, NetSettlesPast};
+ghost use Rattle.teg_outcome.specs.CommandOutcomes.{Tells, outcome_of};
+ghost use Rattle.teg_date_commands.specs.CommandDates.{FormExceedsLimit, IsFormWithinLimit, SaysDate, SaysDateOf, SaysDates, SaysTooLong, SettlesWithin, TellsNoTransition};
+ghost use Rattle.teg_net.specs.Limits.{greatest_firing_number};
+ghost use Rattle.teg_settle.specs.LeastDates.{IsLeastDate};
+ghost use Rattle.teg_settle.specs.LimitRefusals.{greatest_limit};
+
+use crate::limits::most_of;
+use dioid::Date;
+use periodic_laws::live_nets_settle;
+use settled_laws::forms_tell_dates;
+use std::alloc::Global;
+use teg_check::LiveNet;
+use teg_net::{FiringNumber, Label, OutOfMemory, TransitionId};
+use teg_outcome::{CommandOutcome, Limit, Verdict};
+use teg_report::{Answer, report};
+use teg_settle::{SettleRefusal, Settled, date_of, settle, settle_dates_within, settle_within};
+
+// That the settled form is longer than the limit.
+fn tell_too_long(
+    alloc: Global,
+    net: &LiveNet,
+    limit: Option<u32>,
+    refusal: SettleRefusal,
+) -> Result<CommandOutcome, OutOfMemory>
+    requires { FormExceedsLimit net.now limit refusal }
+    ensures { Tells (SaysTooLong (NetSettlesPast net.now) limit) (outcome_of result) }
+{
+    match refusal {
+        SettleRefusal::TooLong { limit } => {
+            let text = report(alloc, None, &Answer::TooLong { limit })?;
+            let verdict = Verdict::TooLong;
+            Ok(CommandOutcome { verdict, text })
+        }
+        SettleRefusal::OutOfMemory => Err(OutOfMemory),
+    }
+}
+
+// The shortest settled form of the least dates, of at most this length where there is a limit.
+fn settled(alloc: Global, net: &LiveNet, limit: Option<u32>) -> Result<Settled, SettleRefusal>
+    requires { IfSome limit (λ most. most ≤ greatest_limit) }
+    ensures form { IfOk result (IsSettledFormOf net.now) }
+    ensures within { IfOk result (IsFormWithinLimit limit) }
+    ensures too_long { IfErr result (FormExceedsLimit net.now limit) }
+{
+    match limit {
+        Some(most) => settle_within(alloc, net.net(), net.live(), most),
+        None => Ok(settle(alloc, net.net(), net.live())?),
+    }
+}
+
+// The date of one firing by the least dating: by its settled form where that has a limit, and else
+// by the rows where they go so far.
+fn least_date(
+    alloc: Global,
+    net: &LiveNet,
+    transition: TransitionId,
+    number: u64,
+    limit: Option<u32>,
+) -> Result<Date, SettleRefusal>
+    requires transition { transition.index < length net.now.transitions }
+    requires first { 1 ≤ number }
+    requires last { number ≤ greatest_firing_number }
+    requires limit { IfSome limit (λ most. most ≤ greatest_limit) }
+    ensures date { IfOk result (IsLeastDate net.now transition.index number) }
+    ensures within { IfOk result (λ _. SettlesWithin limit net.now) }
+    ensures too_long { IfErr result (FormExceedsLimit net.now limit) }
+{
+    match limit {
+        Some(most) => {
+            // That the settled form of a dating tells its dates.
+            forms_tell_dates();
+            let settled = settle_dates_within(alloc, net.net(), net.live(), most)?;
+            Ok(settled.date(transition, number))
+        }
+        None => {
+            // That the least dating of a live net has a settled form.
+            live_nets_settle();
+            net.net().rules();
+            Ok(date_of(alloc, net.net(), net.live(), transition, number)?)
+        }
+    }
+}
+
+/// The dates of a live net for ever, as its shortest settled form (chapter 3); or that it is longer
+/// than the limit, where one is given. It takes the time of the search for the settled form.
+pub fn tell_dates(
+    alloc: Global,
+    net: &LiveNet,
+    limit: Option<Limit>,
+) -> Result<CommandOutcome, OutOfMemory>
+    ensures { Tells (SaysDates limit net.now) (outcome_of result) }
+{
+    let limit = most_of(limit);
+    match settled(alloc, net, limit) {
+        Ok(settled) => {
+            let answer = Answer::Dates { settled: &settled };
+            let text = report(alloc, Some(net.net()), &answer)?;
+            let verdict = Verdict::Done;
+            Ok(CommandOutcome { verdict, text })
+        }
+        Err(refusal) => tell_too_long(alloc, net, limit, refusal),
+    }
+}
+
+// The date of one firing of this transition.
+fn tell_date_of(
+    alloc: Global,
+    net: &LiveNet,
+    transition: TransitionId,
+    number: u64,
+    limit: Option<u32>,
+) -> Result<CommandOutcome, OutOfMemory>
+    requires transition { transition.index < length net.now.transitions }
+    requires first { 1 ≤ number }
+    requires last { number ≤ greatest_firing_number }
+    requires limit { IfSome limit (λ most. most ≤ greatest_limit) }
+    ensures { Tells (SaysDateOf transition number limit net.now) (outcome_of result) }
+{
+    match least_date(alloc, net, transition, number, limit) {
+        Ok(date) => {
+            let answer = Answer::Date {
+                transition,
+                number,
+                date,
+            };
+            let text = report(alloc, Some(net.net()), &answer)?;
+            let verdict = Verdict::Done;
+            Ok(CommandOutcome { verdict, text })
+        }
+        Err(refusal) => tell_too_long(alloc, net, limit, refusal),
+    }
+}
+
+// That no transition has the name that was asked for.
+fn tell_no_transition(alloc: Global, word: &str) -> Result<CommandOutcome, OutOfMemory>
+    ensures { Tells (TellsNoTransition word.now) (outcome_of result) }
+{
+    let word = Label::new(alloc, word)?;
+    let text = report(alloc, None, &Answer::NoTransition { word: &word })?;
+    let verdict = Verdict::Name;
+    Ok(CommandOutcome { verdict, text })
+}
+
+/// The date of one firing of a live net, by the name of its transition and its number from 1; or
+/// that no transition has the name, or that the settled form is longer than the limit, where one is
+/// given. It takes the time of the search for the settled form, and without a limit that of so many
+/// rows as the number, where these are fewer.
+pub fn tell_date(
+    alloc: Global,
+    net: &LiveNet,
+    word: &str,
+    number: FiringNumber,
+    limit: Option<Limit>,
+) -> Result<CommandOutcome, OutOfMemory>
+    ensures { Tells (SaysDate word.now number limit net.now) (outcome_of result) }
+{
+    let number = number.get();
+    let limit = most_of(limit);
+    match net.net().find(word) {
+        Some(transition) => tell_date_of(alloc, net, transition, number, limit),
+        None => tell_no_transition(alloc, word),
+    }
+}

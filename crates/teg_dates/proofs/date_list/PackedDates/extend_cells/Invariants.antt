@@ -1,6 +1,0 @@
-use Rattle.std.proofs.Common.{◌≡◌, ◌++◌, map, take}
-use Rattle.teg_dates.specs.DateCells.{date_of_signed_cell}
-use Rattle.teg_dates.proofs.date_list.PackedDates.extend_cells.Given as goal
-
-abbrev pub invariant-loop-index : goal.invariant-loop-index
-invariant-loop-index l = l.self ≡ l.fn.self ++ map date_of_signed_cell (take l.index l.cells)

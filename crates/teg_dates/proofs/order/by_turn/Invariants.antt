@@ -1,5 +1,0 @@
-use Rattle.teg_dates.proofs.Sorting.{OrderUpTo}
-use Rattle.teg_dates.proofs.order.by_turn.Given as goal
-
-abbrev pub invariant-loop-index : goal.invariant-loop-index
-invariant-loop-index l = OrderUpTo l.net l.live l.order.items l.index

@@ -1,5 +1,0 @@
-use Rattle.teg_dates.proofs.Earliest.{ordered_has_least}
-use Rattle.teg_dates.proofs.stream.Stream.of_live.Goals as goal
-
-pub returns-clause-exists : goal.returns-clause-exists
-returns-clause-exists c = ordered_has_least c.args.net.now c.in_ok-order.order c.transitions.ensures.rules c.in_ok-order.ensures.order

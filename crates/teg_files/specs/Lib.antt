@@ -1,0 +1,10 @@
+pub mod CallMeanings
+pub mod Endings
+pub mod Finishing
+pub mod List
+pub mod Openings
+pub mod Reads
+pub mod RefusalTexts
+pub mod Statuses
+pub mod Writing
+pub mod WrittenLists

@@ -1,6 +1,0 @@
-use Rattle.forever_laws.specs.declared.rows.EndlessRow.{EndlessRow}
-use Rattle.teg_net.proofs.Distinct.{ApartUpTo}
-use Rattle.teg_forever.proofs.rules.are_apart.Given as goal
-
-abbrev pub invariant-loop-index : goal.invariant-loop-index
-invariant-loop-index l = ApartUpTo (λ (r : EndlessRow). r.transition.index) l.rows l.index

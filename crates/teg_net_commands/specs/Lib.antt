@@ -1,0 +1,4 @@
+pub mod Calc
+pub mod Check
+pub mod Form
+pub mod Migrate

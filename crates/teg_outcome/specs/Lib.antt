@@ -1,0 +1,2 @@
+pub mod CommandLimits
+pub mod CommandOutcomes

@@ -1,0 +1,5 @@
+pub mod BestRatios
+pub mod CycleTold
+pub mod Rounds
+pub mod RoundsAfter
+pub mod TrialLaws

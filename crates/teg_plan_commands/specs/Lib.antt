@@ -1,0 +1,2 @@
+pub mod Jit
+pub mod Replay

@@ -1,0 +1,3 @@
+pub mod CommandNames
+pub mod Requests
+pub mod UsualLimits

@@ -1,5 +1,0 @@
-use Rattle.teg_run.proofs.CommandNames.{commands_tied}
-use Rattle.teg_run.proofs.laws.commands_are_those_of_the_usage.Goals as goal
-
-pub returns : goal.returns
-returns c = commands_tied

@@ -1,0 +1,2 @@
+pub mod MovedTimes
+pub mod TimesFromInputs

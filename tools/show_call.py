@@ -1,0 +1,115 @@
+#!/usr/bin/env python3
+"""Shows what a caller has to know of a public call: its docstring, its signature, its clauses, the definitions that these
+name, and the lines of `use` that a file with the call and these clauses has.
+
+    tools/show_call.py CRATE::NAME
+    tools/show_call.py CRATE::TYPE::NAME
+
+NAME is a call, or a struct, an enum or a trait, of which the whole text is shown; of a call on a value its type stands
+before it, as teg_check::LiveNet::copy. The crate may hand it on from another one. Definitions are shown with the comment
+above them, those alone that the clauses name (tools/check_definitions.py --below NAME goes on from there); those of std
+are left out. The exit status is 0 where there is such a call, and else 1.
+"""
+import re
+import sys
+
+from check_definitions import Specs, imports_of
+from common import TOP
+
+
+def origin_of(crate, name):
+    """The crate that the name is of, where this one hands it on."""
+    root = TOP / f"crates/{crate}/src/lib.rt"
+    for origin, many, one in re.findall(r"^pub use (\w+)(?:::\w+)*::(?:\{([^}]*)\}|(\w+));", root.read_text() if root.is_file() else "", re.M):
+        if name in {it.strip() for it in (many or one).split(",")} and (TOP / "crates" / origin).is_dir():
+            return origin_of(origin, name)
+    return crate
+
+
+def shown_from(lines, at):
+    """The lines of the item whose first line is this one, with its docstring and attributes, up to a body."""
+    first, last = at, at
+    while first > 0 and lines[first - 1].strip().startswith(("///", "#[")):
+        first -= 1
+    indent, is_call = re.match(r" *", lines[at])[0], "fn " in lines[at]
+    ends = (lambda line: line.endswith((" {", ";")) or line == f"{indent}{{") if is_call else (lambda line: line == "}")
+    if is_call or lines[at].endswith("{"):
+        last = next(it for it in range(at, len(lines)) if ends(lines[it]))
+    last -= lines[last] == f"{indent}{{"
+    shown = [line.removeprefix(indent) for line in lines[first : last + 1]]
+    return shown[:-1] + [shown[-1].removesuffix(" {")] if is_call else shown
+
+
+def item_in(path, kind, name):
+    """Where the item stands in a file, its lines, and what the `ghost use` lines there bring in; nothing where it does not."""
+    lines, block, inner = path.read_text().splitlines(), None, []
+    for at, line in enumerate(lines):
+        opened = re.match(r"(pub trait|impl)\b(?:<[^{]*?>)? ?(?:\w+ for )?(\w+)", line)
+        if opened:
+            block, inner = opened[2], [it for it in inner if it[0] is None]
+            member = "    fn" if opened[1] == "pub trait" else "    pub fn"
+        elif line == "}":
+            block = None
+        if "ghost use " in line:
+            inner.append((block, line.strip()))
+        head = member if kind and block == kind else None if kind else "pub (?:fn|struct|enum|trait|const)"
+        if head and re.match(rf"{head} {name}\b", line):
+            return at + 1, shown_from(lines, at), [it for there, it in inner if there in (None, block)]
+    return None
+
+
+def named_by(use, text):
+    """The line of `ghost use` with the names alone that the text has; nothing where it has none."""
+    many = re.fullmatch(r"ghost use ([\w.]+)\.\{(.*)\};", use)
+    if not many:
+        return use
+    path, names = many.groups()
+    words = set(re.findall(r"[^\W\d][\w'\-]*", text))
+    kept = []
+    for name in (it.strip() for it in names.split(",")):
+        here = name.rpartition(" as ")[2]
+        if here in words if "◌" not in here else all(it in text for it in here.split("◌")):
+            kept.append(name)
+    return f"ghost use {path}.{{{', '.join(kept)}}};" if kept else ""
+
+
+def definition(specs, at):
+    """A definition as it stands, below where that is and the comment above it."""
+    lines = (TOP / f"crates/{at[0]}/specs/{at[1]}.antt").read_text().splitlines()[specs.lines[at] - 1 :]
+    last = next((it for it, line in enumerate(lines) if not line.strip()), len(lines))
+    return [f"-- crates/{at[0]}/specs/{at[1]}.antt:{specs.lines[at]}", f"-- {specs.words[at]}", *lines[:last]]
+
+
+def show(crate, kind, name):
+    """Prints what there is to know of the call; whether there is one."""
+    origin = origin_of(crate, kind or name)
+    for path in sorted((TOP / f"crates/{origin}/src").glob("**/*.rt")):
+        found = item_in(path, kind, name)
+        if not found:
+            continue
+        number, shown, uses = found
+        specs, text = Specs(), "\n".join(line for line in shown if not line.strip().startswith("///"))
+        clauses = re.search(r"^ *(requires|ensures)\b.*", text, re.M | re.S)
+        said = clauses[0] if clauses else ""
+        print("\n".join([f"// {path.relative_to(TOP)}:{number}", *shown]))
+        for at in sorted(specs.named(said, imports_of("\n".join(uses)))):
+            print("\n" + "\n".join(definition(specs, at)))
+        print(f"\nuse {crate}::{kind or name};")
+        for line in filter(None, (named_by(use, said) for use in uses)):
+            print(line)
+        return True
+    return False
+
+
+def main():
+    words = sys.argv[1].split("::") if len(sys.argv) == 2 else []
+    if len(words) not in (2, 3):
+        sys.exit(__doc__)
+    if not show(words[0], words[1] if len(words) == 3 else None, words[-1]):
+        print(f"no public call or type {sys.argv[1]}")
+        return 1
+    return 0
+
+
+if __name__ == "__main__":
+    sys.exit(main())
