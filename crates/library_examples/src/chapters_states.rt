@@ -41,8 +41,8 @@ fn a_net_goes_on_from_now(rt: HostRuntime) -> Result<(), Fail> {
         },
     ];
     let rest = live_net_after(alloc, &held, &run, 8)?;
+    let work = rest.net().find("work").ok_or("no such transition")?;
     let dates = first_dates(alloc, rest.net(), rest.live(), 2)?;
-    assert!(rt; dates.date(entry, 1) == Date::At(8));
     assert!(rt; dates.date(work, 1) == Date::At(9));
     assert!(rt; dates.date(work, 2) == Date::At(12));
     Ok(())

@@ -1,26 +1,23 @@
 -- What is told of the circuits of a net, from what is known of them.
 use Rattle.std.specs.Prelude.{All, IfOk, IfSome, Result, Ok, Err}
-use Rattle.std.proofs.Common.{◌≡◌, ℕ, suc, ◌+◌, ◌<◌, List, [], ◌∷◌, ◌++◌, Option, Some, None, map, length, take, get_or, slice_index_or, refl, sym, subst, ap, arith}
-use Rattle.std.proofs.lemmas.List.{get_or-map, length-map, length-take-le}
+use Rattle.std.proofs.Common.{◌≡◌, ℕ, suc, ◌+◌, ◌<◌, List, [], ◌∷◌, Option, Some, None, map, length, get_or, refl, sym, subst, ap, arith}
+use Rattle.std.proofs.lemmas.List.{get_or-map, length-map}
 use Rattle.std.proofs.lemmas.List.Elements.{All-cons, All-map}
 use Rattle.std.proofs.lemmas.Simd.{map-map}
 use Rattle.std.specs.Global.{Vec}
 use Rattle.teg_net.specs.declared.answers.CycleAnswer.{CycleAnswer}
 use Rattle.teg_net.specs.declared.answers.PartAnswer.{PartAnswer}
 use Rattle.teg_net.specs.declared.answers.PartAnswer.TheVariants.{NoCircuit, Best}
-use Rattle.teg_net.specs.declared.answers.Potential.{Potential}
 use Rattle.teg_net.specs.declared.entries.PlaceId.{PlaceId}
 use Rattle.teg_net.specs.declared.rounds.Choice.{Choice}
 use Rattle.teg_net.specs.declared.rounds.Round.{Round}
-use Rattle.teg_net.specs.declared.circuits.Circuit.{Circuit}
 use Rattle.teg_howard.specs.PolicyRuns.{KeepsLimits}
 use Rattle.teg_net.specs.GreatestRatios.{IsAnyPlace, IsCycleTime, IsFirstGreatest, HasNoCircuit, ratio_at}
-use Rattle.teg_net.specs.Nets.{NetLists, IsNet}
+use Rattle.teg_net.specs.Nets.{NetLists}
 use Rattle.teg_net.specs.Parts.{IsMember}
-use Rattle.teg_net.specs.PartAnswers.{ArePartAnswers, IsPartAnswer}
+use Rattle.teg_net.specs.PartAnswers.{ArePartAnswers}
 use Rattle.teg_parts.specs.Partitions.{AreParts, PartLists}
 use Rattle.teg_cycle.specs.LastRounds.{AreRunsFrom, rounds_of_runs}
-use Rattle.teg_net.specs.Ratios.{Fraction}
 use Rattle.teg_howard.specs.PolicyRounds.{IsRound, IsPolicyRun, choice_of_member, chosen_place}
 use Rattle.teg_report.specs.teg_lines.CycleMeanings.{cycle_lists, part_lists, round_lists, runs_lists}
 use Rattle.teg_report.specs.teg_lines.RoundLines.{RoundLists, IsRoundIn, IsRunIn, IsRunKept, AreRoundsTold, AreRunsTold, circuits_in}

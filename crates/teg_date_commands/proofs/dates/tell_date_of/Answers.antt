@@ -1,4 +1,4 @@
-use Rattle.std.proofs.Common.{subst, ◌≡◌, refl, inl, ap, ◌∙◌, ◌∷◌, []}
+use Rattle.std.proofs.Common.{subst, refl, inl, ap, ◌∙◌, ◌∷◌, []}
 use Rattle.teg_net.specs.Nets.{NetLists}
 use Rattle.teg_report.specs.ShortAnswers.{date_line}
 use Rattle.teg_report.specs.teg_text.WordsOfNames.{name_of_transition}
