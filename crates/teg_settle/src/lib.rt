@@ -23,17 +23,6 @@
 //! ## How it works
 //!
 //! The search for a settled form makes rows of one system, that of a table `Releases` in which each
-<<<<<<< HEAD
-//! input's list is found once. Rows are doubled until a period is seen in them: by the last
-//! period's steps no step falls along a place, the rows before move alike from the end on, and so
-//! do the input lists at every later number, tested by themselves from where on they go on evenly
-//! (`Span`). A transition whose dates do not go on in the least period that is left strikes off all
-//! in which they do not, at once, so few are tried. What is seen holds at every number, and every
-//! form that begins early enough is seen; so the first period that is seen is the least. With a
-//! limit, rows of twice the limit and the most tokens of a place show each form within it. Without
-//! one the search ends by a number of rows that the lists of the net tell (`periodic_laws`), which
-//! stands in no code; past 2 x 10^13 rows it answers want of memory.
-=======
 //! input's list is found once. Rows are doubled until a period is seen in them, where a transition
 //! whose dates do not go on in one period strikes off all in which they do not: by the last period's
 //! steps no step falls along a place, the rows before move alike from the end on, and so do the
@@ -43,7 +32,6 @@
 //! most tokens of a place show each form within it. Without one the search ends by a number of rows
 //! that the lists of the net tell (`periodic_laws`), which stands in no code; past 2 x 10^13 rows
 //! it answers want of memory.
->>>>>>> origin/main
 //!
 //! The times of walks from an input are the same search over the system without initial tokens in
 //! which that input alone is released, at 0, in a part of the net (`src/reached.rt`): the
