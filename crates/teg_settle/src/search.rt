@@ -147,7 +147,7 @@ pub(crate) fn search(alloc: Global, asked: &Asked<'_>, last: u64) -> Result<Sear
     let order = PlaceOrder::new(alloc, asked.net, asked.live)?;
     let mut rows = Rows::new(alloc, asked.net);
     let mut stage = (asked.most + 8).min(last);
-    while rows.count() < last {
+    'search: while rows.count() < last {
         rows = grow(asked, &order, rows, stage)?;
         match seen(alloc, asked, &rows)? {
             Some(form) => {

@@ -14,5 +14,5 @@ search-smaller c =
     let r = c.args.releases.now in
     let most = c.ready_tokens-most in
     let live = ranking_is_live net c.args.live.now c.requires.stands in
-    let fewer = fewer_unseen c.least_datings_repeat.ensures net live r c.requires.own most.result most.ensures.ready c.in_ok-rows.rows.count (rw c.in-None.is at c.seen.ensures) in
+    let fewer = fewer_unseen c.least_datings_repeat.ensures net live r c.requires.own most.result most.ensures.ready c.in_ok-rows.rows.count (rw c.in-None.is at c.in_ok-form.ensures) in
     omega (arith, fewer, c.in_ok-rows.ensures.count, c.search.invariant.more)

@@ -3,8 +3,8 @@ use Rattle.teg_settle.proofs.search.search.Goals as goal
 
 pub returns : goal.returns
 returns c =
-    let all = c.loop-order-test.false in
-    let h = c.loop-order.invariant in
+    let all = c.search-test.false in
+    let h = c.search.invariant in
     record {
       ready = c.requires.asked.ready;
       rows = h.rows;

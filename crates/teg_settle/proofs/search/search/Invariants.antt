@@ -2,8 +2,8 @@ use Rattle.std.proofs.Common.{ℕ, ◌≤◌, ◌<◌, ◌-◌}
 use Rattle.teg_settle.specs.ComparedRows.{AreRowsOf, IsRefuted}
 use Rattle.teg_settle.proofs.search.search.Given as goal
 
-abbrev pub invariant-loop-order : goal.invariant-loop-order
-invariant-loop-order l = record {
+abbrev pub invariant-search : goal.invariant-search
+invariant-search l = record {
   rows : AreRowsOf l.asked.net.now l.asked.releases.now l.rows;
   within : l.rows.count ≤ l.last;
   stage_in : l.stage ≤ l.last;
@@ -11,5 +11,5 @@ invariant-loop-order l = record {
   refuted : (period : ℕ) → IsRefuted l.asked.net.now l.asked.releases.now l.asked.most l.rows.count period;
 }
 
-abbrev pub decreases-loop-order : goal.decreases-loop-order
-decreases-loop-order l = l.last - l.rows.count
+abbrev pub decreases-search : goal.decreases-search
+decreases-search l = l.last - l.rows.count
