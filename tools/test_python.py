@@ -45,6 +45,13 @@ class Plans(unittest.TestCase):
         self.assertEqual(workshop().check(), (4, 6))
         self.assertEqual(workshop().dates(), example("workshop").dates())
 
+    def test_names_that_stand_once_are_told(self):
+        self.assertEqual(workshop().lone(), [])
+        plan = teg.Plan(PROGRAM).ring(("saw", 4)).wait("saw", "drlll", 5).output("ship")
+        with self.assertWarns(UserWarning) as caught:
+            plan.check()
+        self.assertEqual((plan.lone(), str(caught.warning)), (["drlll", "ship"], "drlll is named once: is it another name?"))
+
     def test_rings_cards_and_names(self):
         plan = teg.Plan(PROGRAM).ring(("door_1", 4), ("door_2", 5), ("lid", 4)).ring(("pack_1", 9), ("pack_2", 9))
         plan.wait("door_1", "pack_1", 4).wait("door_2", "pack_2", 4)
@@ -165,4 +172,4 @@ if __name__ == "__main__":
         PROGRAM = os.path.abspath(sys.argv.pop(1))
     if not is_there(PROGRAM):
         sys.exit(1)
-    unittest.main()
+    unittest.main(warnings="ignore")

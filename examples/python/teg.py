@@ -13,6 +13,8 @@ import math
 import os
 import subprocess
 import tempfile
+import warnings
+from collections import Counter
 from fractions import Fraction
 from typing import NamedTuple, Optional
 
@@ -316,7 +318,7 @@ class Plan(Net):
         return self
 
     def cards(self, count, time, *pairs):
-        """Cards of a round: pairs of who gives one back and who takes it `time` later, in the order of the round."""
+        """Cards of a round, each back `time` later: pairs of who gives one back and who takes one, both in their order."""
         for i, (_, taker) in enumerate(pairs):
             more = int(i < count % len(pairs))
             self.wait(pairs[(i - count) % len(pairs)][0], taker, time, count // len(pairs) + more)
@@ -334,8 +336,16 @@ class Plan(Net):
         """An output."""
         return self.event(name, "output")
 
+    def lone(self):
+        """The names that stand once, each of which may be another one misspelt."""
+        said = Counter(place[end] for place in self.places.values() for end in ("from", "to"))
+        said.update(name for name, role in self.roles.items() if role != "internal")
+        return [name for name in self.roles if said[name] == 1]
+
     def text(self):
-        """The text of the plan's file."""
+        """The text of the plan's file. Warns of names that stand once."""
+        for name in self.lone():
+            warnings.warn(f"{name} is named once: is it another name?", stacklevel=2)
         roles = [{"name": name, "role": role} for name, role in self.roles.items()]
         kinds = [("transition", roles), ("place", self.places.values()), ("input", self.lists.values())]
         lines = []

@@ -1,7 +1,7 @@
 # common.awk: what the scripts of this folder share; `run` puts it before each of them.
 #
 # A table has commas. Empty rows and rows that begin with # are passed over, and so are blanks around a cell, empty cells
-# at the end of a row and a carriage return. A row that cannot be read ends the script with status 1 and prints nothing
+# at the end of a row, a carriage return and a byte order mark. A row that cannot be read ends the script with status 1 and prints nothing
 # but, on the standard error, what is wrong and the number of the row, as a spreadsheet counts rows.
 
 BEGIN { FS = "," }
@@ -17,7 +17,7 @@ function refuse(at, what) {
 
 # Whether the line is a row; if so it has `cells` cells, `cell[1]` and so on.
 function is_row(line,  i) {
-    sub(/\r$/, "", line)
+    sub(/^\357\273\277/, "", line); sub(/\r$/, "", line)
     cells = line ~ /^#/ ? 0 : split(line, cell, ",")
     for (i = 1; i <= cells; i++) gsub(/^[ \t]+|[ \t]+$/, "", cell[i])
     while (cells && cell[cells] == "") cells--

@@ -3,9 +3,12 @@
 #     ring,JOB,TIME,JOB,TIME,..           what takes turns at one machine, the first one first, each with the time until
 #                                         the next one may begin
 #     wait,FROM,TO,TIME,TOKENS,READY,..   a way or a wait, with its tokens and their ready dates; what is left out is 0
-#     cards,N,TIME,FROM,TO,FROM,TO,..     N cards of a round: each FROM gives one back to the TO behind it, TIME later
+#     cards,N,TIME,FROM,TO,FROM,TO,..     N cards of a round: the TOs in the order in which they take one, the FROMs in the
+#                                         order in which they give one back, TIME later, first turn of the round first
 #     input,NAME,DATE,..,every,E,GAP      an input, with dates or without, and what they repeat after
 #     output,NAME                         an output
+#
+# A name that is said once, which may be another one misspelt, is told on the standard error; the net is printed all the same.
 
 # Gives a transition its role, once.
 function set_role(name, what) {
@@ -47,6 +50,13 @@ function take_input(  i, text, t) {
     if (i <= cells) list[t] = list[t] sprintf("every = %.0f\ngap = %.0f\n", number(i + 1, "number behind every"), number(i + 2, "gap"))
 }
 
+# Tells each transition that one place joins and that has no role, or that has a role and no place.
+function tell_lone(  i, t, times) {
+    for (t in role) times[t]++
+    for (i = 1; i <= places; i++) { times[from[place[i]]]++; times[to[place[i]]]++ }
+    for (i = 1; i <= transitions; i++) if (times[transition[i]] == 1) print transition[i] " is named once: is it another name?" | "cat 1>&2"
+}
+
 !is_row($0) { next }
 cell[1] == "ring" { take_ring(); next }
 cell[1] == "wait" { take_wait(); next }
@@ -56,5 +66,6 @@ cell[1] == "output" && cells == 2 { set_role(name_of(2, "name"), "output"); next
 { refuse(FNR, "'" cell[1] "' begins none of the rows ring, wait, cards, input and output NAME") }
 END {
     if (!transitions) refuse(0, "there is no row")
+    tell_lone()
     print_net()
 }
