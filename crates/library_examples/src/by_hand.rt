@@ -5,11 +5,10 @@ use dioid_matrix::{Matrix, MatrixRefused};
 use std::alloc::{AllocError, Global};
 use std::test::Fail;
 
-// Whether a sum past the greatest date is told with both its dates, and a difference is a date.
+// Whether a sum past the greatest date is told with both its dates.
 fn keeps_misfits() -> bool {
     let (left, right) = (Date::At(i128::MAX), Date::At(1));
-    let is_told = left.add(right) == Err(Misfit { left, right });
-    is_told && left.earlier(right) == right && right.less(right) == Ok(Date::At(0))
+    left.add(right) == Err(Misfit { left, right })
 }
 
 // Whether a row is not multiplied with a row, and its sum with another is the later of each.
@@ -42,10 +41,14 @@ fn asks_for_four(alloc: Global) -> Result<bool, AllocError> {
 }
 
 // Whether the star of a matrix with a circuit above 0 is never.
-fn star_is_never(alloc: Global) -> Result<bool, Fail> {
-    let entries = [Date::Early, Date::At(2), Date::At(-1), Date::Early];
-    let matrix = square(alloc, &entries)?;
-    Ok(is(matrix.star(alloc), &[Date::Never; 4]))
+fn star_is_never(alloc: Global) -> bool {
+    match square(
+        alloc,
+        &[Date::Early, Date::At(2), Date::At(-1), Date::Early],
+    ) {
+        Some(matrix) => is(matrix.star(alloc), &[Date::Never; 4]),
+        None => false,
+    }
 }
 
 // What was worked out, and whether it is so.
@@ -54,7 +57,7 @@ fn worked_out(alloc: Global) -> Result<Vec<(&'static str, bool)>, Fail> {
         ("a sum past the greatest date", keeps_misfits()),
         ("a row by a row, and a sum", is_a_row(alloc)?),
         ("three entries for four", asks_for_four(alloc)?),
-        ("the star of a circuit above 0", star_is_never(alloc)?),
+        ("the star of a circuit above 0", star_is_never(alloc)),
     ]?)
 }
 
