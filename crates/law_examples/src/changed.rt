@@ -1,10 +1,10 @@
 //! A longer hold and fewer tokens: later dates and a slower pace.
-ghost use Rattle.std.specs.Prelude.{ℕ, ◌*◌, ◌<◌, ◌≤◌, ◌≡◌, ◌++◌, length, OnOk};
+ghost use Rattle.std.specs.Prelude.{ℕ, ◌*◌, ◌<◌, ◌≤◌, ◌≡◌, ◌++◌, length};
 ghost use Rattle.teg_model.specs.Datings.{IsLeastUnder};
 ghost use Rattle.teg_model.specs.dioid.declared.dates.Date.{Date};
 ghost use Rattle.teg_model.specs.dioid.Dates.{IsAtMostDate};
 ghost use Rattle.change_laws.specs.SlowerNets.{IsSlowerNet};
-ghost use Rattle.teg_net.specs.Changes.{MayHaveTokens, with_hold, with_tokens};
+ghost use Rattle.teg_net.specs.Changes.{MayHaveTokens};
 ghost use Rattle.teg_net.specs.Circuits.{place_at};
 ghost use Rattle.teg_net.specs.GreatestRatios.{IsAnyPlace, IsGreatestRatio};
 ghost use Rattle.teg_net.specs.Limits.{greatest_hold};

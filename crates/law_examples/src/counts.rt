@@ -9,7 +9,7 @@ ghost use Rattle.game_laws.specs.EarliestRunsExist.{IsNoLaterUpTo, IsWholeUpTo};
 ghost use Rattle.growth_laws.specs.DateLines.{ArePotentialsInto, AreStartsBelow};
 ghost use Rattle.late_laws.specs.LateLines.{IsLineUnderDues};
 ghost use Rattle.run_laws.specs.EarliestRuns.{IsEarliestRun};
-ghost use Rattle.run_laws.specs.Runs.{dates_of_transition, IsLegalRun};
+ghost use Rattle.run_laws.specs.Runs.{dates_of_transition};
 ghost use Rattle.due_laws.specs.MeetingDueDates.{inputs_at_zero};
 ghost use Rattle.teg_check.specs.Ranks.{IsRanking};
 ghost use Rattle.teg_model.specs.Datings.{IsLeastDating, IsLeastUnder};

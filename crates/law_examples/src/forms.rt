@@ -10,13 +10,11 @@ ghost use Rattle.realization_laws.specs.Realizations.{IsCausalPeriodic, IsRealiz
 ghost use Rattle.slope_laws.specs.Slopes.{IsSlope};
 ghost use Rattle.still_laws.specs.StillNets.{IsStill};
 ghost use Rattle.std.specs.Int.{◌∣◌};
-ghost use Rattle.settled_laws.specs.SettledForms.{settled_date, IsSettledFormOf, IsShortestForm};
+ghost use Rattle.settled_laws.specs.SettledForms.{settled_date, IsSettledFormOf};
 ghost use Rattle.teg_check.specs.Ranks.{IsRanking};
 ghost use Rattle.teg_model.specs.Datings.{IsLeastDating, IsLeastUnder};
-ghost use Rattle.teg_model.specs.LiveRanks.{HasEndsInRange};
 ghost use Rattle.teg_model.specs.dioid.declared.dates.Date.{Date};
 ghost use Rattle.teg_net.specs.Certificates.{IsCertificate};
-ghost use Rattle.teg_net.specs.Circuits.{IsCircuit, time_of};
 ghost use Rattle.teg_net.specs.GreatestRatios.{IsAnyPlace, IsGreatestRatio};
 ghost use Rattle.teg_net.specs.Limits.{greatest_hold, most_place_tokens};
 ghost use Rattle.teg_net.specs.Nets.{IsInput};

@@ -1,12 +1,12 @@
 //! The pace of a net and of its parts, from the answers of calls.
-ghost use Rattle.std.specs.Prelude.{ℕ, ℤ, ◌+ℤ◌, ◌*◌, ◌<◌, ◌≤◌, ◌≡◌, ◌⊎◌, ◌↔◌, length, slice_index_or, All};
+ghost use Rattle.std.specs.Prelude.{ℕ, ℤ, ◌+ℤ◌, ◌*◌, ◌≤◌, ◌≡◌, ◌⊎◌, ◌↔◌, length, All};
 ghost use Rattle.delay_laws.specs.PlannedTimetables.{IsWorkable};
 ghost use Rattle.pace_laws.specs.Eigenspaces.{AreBegunAt, AreInOneCriticalPart, IsSpannedAt};
 ghost use Rattle.pace_laws.specs.TightPotentials.{ArePacedDates, AreTightPotentials, IsCriticalIn, IsTightInto};
 ghost use Rattle.policy_laws.specs.RoundCounts.{most_ratios};
 ghost use Rattle.teg_check.specs.Ranks.{IsRanking};
 ghost use Rattle.teg_howard.specs.PolicyRounds.{IsPolicyRun};
-ghost use Rattle.teg_net.specs.Certificates.{potential_at, ArePotentials};
+ghost use Rattle.teg_net.specs.Certificates.{potential_at};
 ghost use Rattle.teg_net.specs.GreatestRatios.{HasNoCircuit, IsAnyPlace, IsGreatestRatio};
 ghost use Rattle.teg_net.specs.PartAnswers.{IsBestOfPart};
 ghost use Rattle.teg_net.specs.Parts.{to_of, IsMember, IsPlaceOfPart};

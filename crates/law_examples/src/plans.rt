@@ -1,13 +1,14 @@
 //! Plans as datings: the latest dates beside the earliest.
-ghost use Rattle.std.specs.Prelude.{ℕ, pos, ◌+◌, ◌<◌, ◌≤◌, ◌≡◌, ◌↔◌, Option, Some, length};
+ghost use Rattle.std.specs.Prelude.{ℕ, pos, ◌<◌, ◌≤◌, ◌≡◌, ◌↔◌, Some, length};
 ghost use Rattle.due_laws.specs.LatestDates.{AreLatestDates, IsLateWalk, IsTightWalk};
-ghost use Rattle.due_laws.specs.MeetingDueDates.{inputs_at_zero, AreInputs, AreLatestInputs, InputsMeet, KeepsDues};
-ghost use Rattle.latest_laws.specs.BackwardEquations.{AreInTime, IsLeastAhead};
+ghost use Rattle.due_laws.specs.MeetingDueDates.{inputs_at_zero, AreInputs, InputsMeet, KeepsDues};
+ghost use Rattle.latest_laws.specs.BackwardEquations.{IsLeastAhead};
 ghost use Rattle.latest_laws.specs.BackwardSolutions.{AreDueUpTo};
 ghost use Rattle.latest_laws.specs.Floats.{IsAtMostOn};
+ghost use Rattle.latest_laws.specs.MetByStarts.{StartsAreKept};
 ghost use Rattle.latest_laws.specs.ShiftedDues.{later_due};
 ghost use Rattle.teg_check.specs.Ranks.{IsRanking};
-ghost use Rattle.teg_due.specs.RowRules.{due_in, IsDueOf};
+ghost use Rattle.teg_due.specs.RowRules.{due_in};
 ghost use Rattle.teg_jit.specs.Plans.{dates_of_plan, IsPlanFor};
 ghost use Rattle.teg_model.specs.Datings.{IsFeasibleUnder, IsLeastUnder};
 ghost use Rattle.teg_model.specs.dioid.Dates.{delayed, earlier_of, later_of, IsAtMostDate};
@@ -23,6 +24,7 @@ use latest_laws::{
     inputs_meet_by_floats, inputs_meet_together, inputs_meet_up_to_latest, late_due_dates_are_met,
     late_walks_refuse, latest_dates_are_feasible, latest_dates_are_solutions,
     latest_dates_move_with_dues, latest_dates_solve_backwards, tight_walks_bound,
+    zero_inputs_meet_by_starts,
 };
 use teg_check::{Live, ranked_nets_are_live};
 use teg_due::Due;
@@ -115,6 +117,19 @@ pub fn meets_up_to_plan(net: &Net, live: &Live, due: &Due, plan: &Plan)
     net.rules();
     ranked_nets_are_live();
     inputs_meet_up_to_latest();
+}
+
+/// Inputs at 0 meet the due dates just where no date of the plan is before its start.
+pub fn zero_inputs_by_plan(net: &Net, live: &Live, due: &Due, plan: &Plan, last: u64)
+    requires live { IsRanking net.now live.now }
+    requires plan { IsPlanFor net.now (due_in due.now.rows.items) plan.now }
+    requires last { AreDueUpTo net.now (due_in due.now.rows.items) last }
+    ensures { InputsMeet net.now (due_in due.now.rows.items) inputs_at_zero
+        ↔ StartsAreKept net.now last (dates_of_plan plan.now) }
+{
+    net.rules();
+    ranked_nets_are_live();
+    zero_inputs_meet_by_starts();
 }
 
 /// The later of two inputs that meet the due dates meet them.

@@ -7,4 +7,5 @@ pub returns-clause-feasible : goal.returns-clause-feasible
 returns-clause-feasible c =
     let plan = c.in_ok-plan.plan in
     let inputs = c.in_ok-plan.ensures.inputs in
-    (c.latest_dates_are_feasible.ensures.feasible c.args.net.now (net_ends c.args.net.now c.rules.ensures) (due_in c.args.due.now.rows.items) (dates_of_plan plan) (dates_of_plan plan) inputs.meet c.in_ok-plan.ensures.plan.latest).0
+    (c.latest_dates_are_feasible.ensures.feasible c.args.net.now (net_ends c.args.net.now c.rules.ensures)
+    (due_in c.args.due.now.rows.items) (dates_of_plan plan) (dates_of_plan plan) inputs.meet c.in_ok-plan.ensures.plan.latest).0

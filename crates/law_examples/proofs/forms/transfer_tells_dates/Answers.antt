@@ -7,4 +7,5 @@ use Rattle.law_examples.proofs.forms.transfer_tells_dates.Goals as goal
 pub returns : goal.returns
 returns c x u y f g =
     let own : (i : ℕ) → IsInput c.args.net.now i → IsTransferOf c.args.net.now i c.args.transfer.now = λ i is. rw (c.requires.only i is) c.requires.transfer in
-    c.dates_are_outputs.ensures.transfers c.args.net.now (net_ends c.args.net.now c.rules.ensures) (c.ranked_nets_are_live.ensures c.args.net.now c.args.live.now c.requires.live) x u y (λ i. c.args.transfer.now) f g own
+    c.dates_are_outputs.ensures.transfers c.args.net.now (net_ends c.args.net.now c.rules.ensures)
+    (c.ranked_nets_are_live.ensures c.args.net.now c.args.live.now c.requires.live) x u y (λ i. c.args.transfer.now) f g own

@@ -5,4 +5,5 @@ use Rattle.law_examples.proofs.plans.meets_up_to_plan.Goals as goal
 
 pub returns : goal.returns
 returns c v =
-    c.inputs_meet_up_to_latest.ensures c.args.net.now (net_ends c.args.net.now c.rules.ensures) (c.ranked_nets_are_live.ensures c.args.net.now c.args.live.now c.requires.live) (due_in c.args.due.now.rows.items) c.requires.zero v (dates_of_plan c.args.plan.now) c.requires.plan.latest
+    c.inputs_meet_up_to_latest.ensures c.args.net.now (net_ends c.args.net.now c.rules.ensures) (c.ranked_nets_are_live.ensures c.args.net.now c.args.live.now c.requires.live)
+    (due_in c.args.due.now.rows.items) c.requires.zero v (dates_of_plan c.args.plan.now) c.requires.plan.latest

@@ -6,4 +6,5 @@ use Rattle.law_examples.proofs.plans.walk_bounds.Goals as goal
 
 pub returns : goal.returns
 returns c =
-    c.tight_walks_bound.ensures c.args.net.now (net_ends c.args.net.now c.rules.ensures) (due_in c.args.due.now.rows.items) c.args.transition.index c.args.number (At (pos c.args.date)) c.args.walk.now c.requires.tight
+    c.tight_walks_bound.ensures c.args.net.now (net_ends c.args.net.now c.rules.ensures) (due_in c.args.due.now.rows.items)
+    c.args.transition.index c.args.number (At (pos c.args.date)) c.args.walk.now c.requires.tight

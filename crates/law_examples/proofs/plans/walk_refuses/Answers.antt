@@ -4,4 +4,5 @@ use Rattle.law_examples.proofs.plans.walk_refuses.Goals as goal
 
 pub returns : goal.returns
 returns c =
-    c.late_walks_refuse.ensures.refuse c.args.net.now (net_ends c.args.net.now c.rules.ensures) (due_in c.args.due.now.rows.items) c.args.transition.index c.args.number c.args.start c.args.date c.args.row c.args.walk.now c.requires.late c.requires.row c.requires.past
+    c.late_walks_refuse.ensures.refuse c.args.net.now (net_ends c.args.net.now c.rules.ensures) (due_in c.args.due.now.rows.items)
+    c.args.transition.index c.args.number c.args.start c.args.date c.args.row c.args.walk.now c.requires.late c.requires.row c.requires.past

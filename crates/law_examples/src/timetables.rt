@@ -1,0 +1,76 @@
+//! What a timetable keeps besides the places of a net: greatest times, longer jobs, a clock.
+ghost use Rattle.std.specs.Prelude.{ℕ, ◌+◌, ◌*◌, ◌<◌, ◌≤◌, ◌≡◌, ◌↔◌, List, length};
+ghost use Rattle.planning_laws.specs.Clocks.{each_period, HasClock};
+ghost use Rattle.planning_laws.specs.GreatestTimes.{date_by, with_places, without_wait, ArePlacesBack, CanKeepAll, GreatestTime, KeepsGreatestTime};
+ghost use Rattle.planning_laws.specs.LongerJobs.{IsLongerJob, IsWithinSlack};
+ghost use Rattle.teg_check.specs.Ranks.{IsRanking};
+ghost use Rattle.teg_net.specs.GreatestRatios.{IsAnyPlace, IsGreatestRatio};
+ghost use Rattle.workable_laws.specs.WorkablePeriods.{LeavesCircuitsTime, LeavesPlaceTime};
+
+use planning_laws::{
+    clocks_tell_periods, greatest_times_are_places_back, jobs_may_take_longer,
+    periods_between_keep_greatest_times,
+};
+use teg_check::{Live, ranked_nets_are_live};
+use teg_net::{Net, Place, PlaceId, Ratio, TransitionId};
+
+/// Greatest times can be kept just at the periods from the cycle time of the net with their places
+/// back on.
+pub fn times_are_kept_by_ratio(
+    net: &Net,
+    backs: &[Place],
+    backed: &Net,
+    live: &Live,
+    ratio: Ratio,
+    period: u64,
+)
+    requires backed { backed.now ≡ with_places net.now backs.now }
+    requires live { IsRanking backed.now live.now }
+    requires greatest { IsGreatestRatio backed.now IsAnyPlace ratio }
+    ensures { (times : List GreatestTime) → ArePlacesBack period times backs.now
+        → CanKeepAll net.now period times ↔ (ratio.time ≤ period * ratio.tokens) }
+{
+    backed.rules();
+    ranked_nets_are_live();
+    greatest_times_are_places_back();
+}
+
+/// Where the hold of a place is its greatest time too, each token is taken when its hold ends.
+pub fn no_token_waits(place: &Place, period: u64)
+    ensures { (first : ℕ → ℕ) → LeavesPlaceTime period first place.now
+        → KeepsGreatestTime period first (without_wait place.now)
+        → (k : ℕ) → 1 ≤ k → date_by period first place.now.to.index (k + place.now.tokens)
+        ≡ date_by period first place.now.from.index k + place.now.hold }
+{
+    greatest_times_are_places_back();
+}
+
+/// A period between two at which greatest times can be kept is one too.
+pub fn period_between_is_kept(net: &Net, low: u64, between: u64, high: u64)
+    requires low { low ≤ between }
+    requires high { between ≤ high }
+    ensures { (times : List GreatestTime) → CanKeepAll net.now low times
+        → CanKeepAll net.now high times → CanKeepAll net.now between times }
+{
+    periods_between_keep_greatest_times();
+}
+
+/// The cycle time stays just where each place of a job is longer by at most its slack.
+pub fn job_may_take_longer(net: &Net, longer: &Net, job: TransitionId, ratio: Ratio)
+    requires greatest { IsGreatestRatio net.now IsAnyPlace ratio }
+    ensures { (more : ℕ → ℕ) → IsLongerJob net.now longer.now job.index more
+        → ((p : PlaceId) → p.index < length net.now.places → 1 ≤ more p.index
+        → IsWithinSlack net.now ratio p (more p.index))
+        ↔ IsGreatestRatio longer.now IsAnyPlace ratio }
+{
+    jobs_may_take_longer();
+}
+
+/// A net beside a clock has the period of the clock just where it leaves each circuit its time.
+pub fn clock_tells_period(net: &Net, clocked: &Net, clock: TransitionId, period: u64)
+    requires clock { HasClock net.now clocked.now clock.index period }
+    ensures { IsGreatestRatio clocked.now IsAnyPlace (each_period period)
+        ↔ LeavesCircuitsTime net.now period }
+{
+    clocks_tell_periods();
+}
