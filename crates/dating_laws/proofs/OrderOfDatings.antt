@@ -61,7 +61,7 @@ available_either x y p k c d l m =
     (cases_lt p.tokens k)
 
 -- what is feasible under later releases is feasible under earlier ones
-feasible_before : (net : NetLists) (u v y : Dating) → ((t k : ℕ) → 1 ≤ k → IsInput net t → IsAtMostDate (u t k) (v t k)) → IsFeasibleUnder net v y → IsFeasibleUnder net u y
+pub feasible_before : (net : NetLists) (u v y : Dating) → ((t k : ℕ) → 1 ≤ k → IsInput net t → IsAtMostDate (u t k) (v t k)) → IsFeasibleUnder net v y → IsFeasibleUnder net u y
 feasible_before net u v y h f = record {
   places = f.places;
   inputs = λ t k o i. at_most_trans (u t k) (v t k) (y t k) (h t k o i) (f.inputs t k o i);

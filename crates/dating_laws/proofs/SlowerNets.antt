@@ -28,7 +28,7 @@ climb net u x f t k l o (suc n) =
     rw e (at_most_trans (x t k) (x t (k + n)) (x t (k + n + 1)) (climb net u x f t k l o n) (dates_climb net u x f t (k + n) l (omega arith)))
 
 -- a longer hold delays no less
-longer_hold : (g h : ℕ) (d : Date) → g ≤ h → IsAtMostDate (delayed g d) (delayed h d)
+pub longer_hold : (g h : ℕ) (d : Date) → g ≤ h → IsAtMostDate (delayed g d) (delayed h d)
 longer_hold g h d l =
     let e : g + (h - g) ≡ h = omega arith in
     subst (λ n. IsAtMostDate (delayed g d) (delayed n d)) e (rw (delayed_twice g (h - g) d) (delayed_later (h - g) (delayed g d)))

@@ -16,6 +16,7 @@ use Rattle.periodic_laws.specs.teg_net.Parts.{to_of, IsPlaceOfPart}
 use Rattle.periodic_laws.specs.teg_net.ReducedTimes.{reduced_time}
 use Rattle.periodic_laws.specs.teg_net.GreatestRatios.{ratio_in}
 use Rattle.periodic_laws.specs.teg_net.Certificates.{potential_at, IsPartCertificate}
+use Rattle.growth_laws.proofs.Growth.{times_pos}
 use Rattle.growth_laws.specs.CertifiedLines.{floor_over, potential_by, part_at, own_potential, CertificatesDrawLines}
 
 -- ---- products
@@ -38,10 +39,6 @@ times_numbers (suc n) x y =
     let e : suc n * x ≡ n * x + x = grind arith in
     let f : suc n * y ≡ n * y + y = grind arith in
     rw (e, f) (omega (arith, ints, rest))
-
-times_pos : (n x : ℕ) → (pos n *ℤ pos x) ≡ pos (n * x)
-times_pos zero x = let e : 0 * x ≡ 0 = omega arith in rw e (omega (arith, ints))
-times_pos (suc n) x = let rest = times_pos n x in let e : suc n * x ≡ n * x + x = grind arith in rw e (omega (arith, ints, rest))
 
 times_below : (n x : ℕ) → (pos n *ℤ negsuc x) ≡ (pos 0 -ℤ pos (n * x + n))
 times_below zero x = let e : 0 * x ≡ 0 = omega arith in rw e (omega (arith, ints))

@@ -42,11 +42,6 @@ product_low (suc b) s l = let rest = product_low b s l in omega (arith, ints, re
 
 -- ---- below lines
 
-below_more : (b : ℕ) (m n : ℤ) (d : Date) → m ≤ℤ n → IsBelowLine b m d → IsBelowLine b n d
-below_more b m n Early l h = tt
-below_more b m n (At x) l h = omega (arith, ints, l, h)
-below_more b m n Never l h = absurd h
-
 below_delayed : (b w : ℕ) (m n : ℤ) (d : Date) → (pos (b * w) +ℤ m) ≤ℤ n → IsBelowLine b m d → IsBelowLine b n (delayed w d)
 below_delayed b w m n Early l h = tt
 below_delayed b w m n (At x) l h = let e = product_later b x w in omega (arith, ints, l, h, e)

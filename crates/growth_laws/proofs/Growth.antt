@@ -176,7 +176,7 @@ number_from (At (pos a)) l n = (a, refl)
 number_from (At (negsuc a)) l n = absurd (omega (arith, ints, l))
 number_from Never l n = absurd (n refl)
 
-times_pos : (n x : ℕ) → (pos n *ℤ pos x) ≡ pos (n * x)
+pub times_pos : (n x : ℕ) → (pos n *ℤ pos x) ≡ pos (n * x)
 times_pos zero x = let e : 0 * x ≡ 0 = omega arith in rw e (omega (arith, ints))
 times_pos (suc n) x = let rest = times_pos n x in let e : suc n * x ≡ n * x + x = grind arith in rw e (omega (arith, ints, rest))
 

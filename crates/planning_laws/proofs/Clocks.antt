@@ -182,7 +182,8 @@ module _ (net : NetLists) (p : PlaceId) (d : ℕ) (in' : p.index < length net.pl
   ends_stay q = ⊎_elim
       (λ (e : q.index ≡ p.index).
       let is : place_at (raised net p d) q ≡ raised_place d (place_at net q) =
-      ap (λ i. get_or (raised net p d).places i no_place) e ∙ (get_or-set_same net.places p.index (raised_place d (place_at net p)) no_place in' ∙ ap (λ i. raised_place d (get_or net.places i no_place)) (sym e)) in
+      ap (λ i. get_or (raised net p d).places i no_place) e
+      ∙ (get_or-set_same net.places p.index (raised_place d (place_at net p)) no_place in' ∙ ap (λ i. raised_place d (get_or net.places i no_place)) (sym e)) in
       (ap (λ (z : Place). z.from.index) is, ap (λ (z : Place). z.to.index) is))
       (λ (e : q.index ≢ p.index).
       let is : place_at (raised net p d) q ≡ place_at net q = get_or-set_other net.places p.index q.index (raised_place d (place_at net p)) no_place e in
@@ -195,7 +196,8 @@ clock_stays net clocked clock period h p in' d =
     let more : List Place = h.loop ∷ [] in
     let long : length (raised net p d).places ≡ length net.places = length-set net.places p.index (raised_place d (place_at net p)) in
     let own : place_at clocked p ≡ place_at net p = ap (λ (ps : List Place). get_or ps p.index no_place) h.places ∙ get_or_append_left net.places more no_place p.index in' in
-    let first : (raised clocked p d).places ≡ set (net.places ++ more) p.index (raised_place d (place_at clocked p)) = ap (λ (ps : List Place). set ps p.index (raised_place d (place_at clocked p))) h.places in
+    let first : (raised clocked p d).places ≡ set (net.places ++ more) p.index (raised_place d (place_at clocked p)) =
+    ap (λ (ps : List Place). set ps p.index (raised_place d (place_at clocked p))) h.places in
     let second : set (net.places ++ more) p.index (raised_place d (place_at clocked p)) ≡ set (net.places ++ more) p.index (raised_place d (place_at net p)) =
     ap (λ (z : Place). set (net.places ++ more) p.index (raised_place d z)) own in
     record {

@@ -31,7 +31,8 @@ module _ (net : NetLists) (holds : ℕ → ℕ → ℕ) where
   latest_above (suc m) x t k d =
       let more : IsAtMostDate d (latest_to m x t k d) = latest_above m x t k d in
       ⊎_elim
-      (λ (e : eqb (place_of net m).to.index t ≡ true). rw e (at_most_trans d (latest_to m x t k d) (later_of (held_at net holds x m k) (latest_to m x t k d)) more (later_right (held_at net holds x m k) (latest_to m x t k d))))
+      (λ (e : eqb (place_of net m).to.index t ≡ true). rw e
+      (at_most_trans d (latest_to m x t k d) (later_of (held_at net holds x m k) (latest_to m x t k d)) more (later_right (held_at net holds x m k) (latest_to m x t k d))))
       (λ (e : eqb (place_of net m).to.index t ≡ false). rw e more)
       (cases_Bool (eqb (place_of net m).to.index t))
 
@@ -89,7 +90,8 @@ module _ (net : NetLists) (holds : ℕ → ℕ → ℕ) where
       (λ (l : k ≤ (place_of net i).tokens). held_first net holds x i k l ∙ sym (held_first net holds y i k l))
       (cases_lt (place_of net i).tokens k)
 
-  held_below : (x y : Dating) (i k : ℕ) → ((place_of net i).tokens < k → IsAtMostDate (x (place_of net i).from.index (k - (place_of net i).tokens)) (y (place_of net i).from.index (k - (place_of net i).tokens)))
+  held_below : (x y : Dating) (i k : ℕ)
+      → ((place_of net i).tokens < k → IsAtMostDate (x (place_of net i).from.index (k - (place_of net i).tokens)) (y (place_of net i).from.index (k - (place_of net i).tokens)))
       → IsAtMostDate (held_at net holds x i k) (held_at net holds y i k)
   held_below x y i k h = ⊎_elim
       (λ (l : (place_of net i).tokens < k).
@@ -131,7 +133,8 @@ module _ (net : NetLists) (holds : ℕ → ℕ → ℕ) where
     stable zero t k l = absurd (omega arith)
     stable (suc n) t k l =
         let less : (s j : ℕ) → size s j < size t k → round n s j ≡ round (suc n) s j = λ s j m. stable n s j (omega arith) in
-        latest_same (length net.places) (round n) (round (suc n)) t k (own (round n) t k) (own (round (suc n)) t k) (same_held (round n) (round (suc n)) t k less) (same_own (round n) (round (suc n)) t k less)
+        latest_same (length net.places) (round n) (round (suc n)) t k (own (round n) t k) (own (round (suc n)) t k)
+        (same_held (round n) (round (suc n)) t k less) (same_own (round n) (round (suc n)) t k less)
 
     stable_on : (n m t k : ℕ) → size t k < n → round n t k ≡ round (m + n) t k
     stable_on n zero t k l = let e : 0 + n ≡ n = omega arith in rw e refl
@@ -161,7 +164,8 @@ module _ (net : NetLists) (holds : ℕ → ℕ → ℕ) where
     unfolding own
     is_dating = record {
       places = λ i k l one. rw (fixed (place_of net i).to.index k) (latest_upper (length net.places) held (place_of net i).to.index k (own held (place_of net i).to.index k) i l refl);
-      in_turn = λ t k l one. at_most_trans (available_at held (implicit_place t) k) (own held t k) (held t k) (later_left (available_at held (implicit_place t) k) (at_input net t (u t k) Early)) (own_below t k);
+      in_turn = λ t k l one. at_most_trans (available_at held (implicit_place t) k) (own held t k) (held t k)
+          (later_left (available_at held (implicit_place t) k) (at_input net t (u t k) Early)) (own_below t k);
       inputs = λ t k one i.
           let low : IsAtMostDate (at_input net t (u t k) Early) (held t k) =
           at_most_trans (at_input net t (u t k) Early) (own held t k) (held t k) (later_right (available_at held (implicit_place t) k) (at_input net t (u t k) Early)) (own_below t k) in

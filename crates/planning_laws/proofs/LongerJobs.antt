@@ -158,7 +158,8 @@ module _ (net longer : NetLists) (job : ℕ) (more : ℕ → ℕ) (h : IsLongerJ
     below : (ps : List PlaceId) → IsCircuit net ps → Contains ps p → time_of net ps * r.tokens < r.time * tokens_of net ps
     below ps c passes =
         let low = through_it ps c passes in
-        let one : (time_of net ps + 1) * r.tokens ≤ (time_of net ps + more p.index) * r.tokens = mul-le-mul_right r.tokens (let l : time_of net ps + 1 ≤ time_of net ps + more p.index = omega (arith, some) in l) in
+        let longer : time_of net ps + 1 ≤ time_of net ps + more p.index = omega (arith, some) in
+        let one : (time_of net ps + 1) * r.tokens ≤ (time_of net ps + more p.index) * r.tokens = mul-le-mul_right r.tokens longer in
         let is : (time_of net ps + 1) * r.tokens ≡ time_of net ps * r.tokens + r.tokens = grind arith in
         let unit = ratio.some in
         omega (arith, low, one, is, unit)

@@ -94,7 +94,8 @@ module _ (net : NetLists) (n : ℕ) (u y : Dating) (f : IsFeasibleUnder net (num
       rw (available_after initial_date back p k (y p.from.index (k - p.tokens + n)) l refl) there)
       (λ (l : k ≤ p.tokens).
       rw (available_first initial_date back p k l)
-      (at_most_trans (initial_date p k) (y p.to.index k) (y p.to.index (k + n)) (rw (available_first initial_date y p k l) at (keeps k one)) (climb net (numbered_on n u) y f p.to.index k to_in one n)))
+      (at_most_trans (initial_date p k) (y p.to.index k) (y p.to.index (k + n))
+      (rw (available_first initial_date y p k l) at (keeps k one)) (climb net (numbered_on n u) y f p.to.index k to_in one n)))
       (cases_lt p.tokens k)
 
   back_feasible : HasEndsInRange net → IsFeasibleUnder net u back

@@ -1,5 +1,5 @@
 -- Lines of one slope stay within a number of each other, and lines of two slopes do not.
-use Rattle.std.proofs.Common.{ℕ, zero, suc, ◌+◌, ◌*◌, ◌<◌, ◌≤◌, ◌≡◌, ◌++◌, [], ◌∷◌, length, refl, ap, arith, ⊎_elim, ◌*ℤ◌}
+use Rattle.std.proofs.Common.{ℕ, ◌+◌, ◌*◌, ◌<◌, ◌≤◌, ◌≡◌, ◌++◌, [], ◌∷◌, length, refl, ap, arith, ⊎_elim}
 use Rattle.std.specs.Prelude.{pos, negsuc}
 use Rattle.std.proofs.lemmas.Bool.{cases_lt}
 use Rattle.std.proofs.lemmas.Int.{ints}
@@ -19,7 +19,7 @@ use Rattle.teg_model.proofs.OfNet.{feasible_in}
 use Rattle.teg_model.proofs.Tokens.{not_before_zero}
 use Rattle.teg_model.proofs.WalkSteps.{feasible_keeps_in}
 use Rattle.growth_laws.specs.Growth.{IsNearLine, GrowBy, IsEndless, DatesGrowBySlopes}
-use Rattle.growth_laws.proofs.Growth.{cancel}
+use Rattle.growth_laws.proofs.Growth.{cancel, times_pos}
 use Rattle.planning_laws.specs.Stability.{HasBoundedWaits, HasBoundedStock, WaitsLonger, AreWaitsBySlopes, WaitsAreBoundedByEqualSlopes}
 
 -- ---- numbers near lines
@@ -53,10 +53,6 @@ pub record IsNumberNear (a b low high k : ℕ) (date : Date) : Type 0 where
   pub is : date ≡ At (pos value)
   pub below : a * k ≤ b * value + low
   pub above : b * value ≤ a * k + high
-
-times_pos : (n x : ℕ) → (pos n *ℤ pos x) ≡ pos (n * x)
-times_pos zero x = let e : 0 * x ≡ 0 = omega arith in rw e (omega (arith, ints))
-times_pos (suc n) x = let rest = times_pos n x in let e : suc n * x ≡ n * x + x = grind arith in rw e (omega (arith, ints, rest))
 
 number_near : (a b low high k : ℕ) (date : Date) → IsAtMostDate (At (pos 0)) date → IsNearLine a b low high k date → IsNumberNear a b low high k date
 number_near a b low high k Early from near = absurd near
@@ -180,7 +176,8 @@ module _ (net : NetLists) (x : Dating) (f : IsFeasibleUnder net (listed_releases
   to : (k : ℕ) → 1 ≤ k → To k
   to k one =
       let on : 1 ≤ k + place.tokens = omega (arith, one) in
-      number_near c d end.below end.above (k + place.tokens) (x (to_of net p) (k + place.tokens)) (not_before_zero net (listed_releases net) x f (to_of net p) (k + place.tokens) to_in on) (end.near (k + place.tokens) on)
+      number_near c d end.below end.above (k + place.tokens) (x (to_of net p) (k + place.tokens))
+      (not_before_zero net (listed_releases net) x f (to_of net p) (k + place.tokens) to_in on) (end.near (k + place.tokens) on)
 
   held : (k : ℕ) (one : 1 ≤ k) → (from k one).value + place.hold ≤ (to k one).value
   held k one =
@@ -193,13 +190,15 @@ module _ (net : NetLists) (x : Dating) (f : IsFeasibleUnder net (listed_releases
   never_less : a * d ≤ c * b
   never_less = no_more (a * d) (c * b) most (λ k one.
       let l = held k one in
-      start_over a b c d start.below start.above end.below end.above place.tokens k (from k one).value (to k one).value (from k one).below (from k one).above (to k one).below (to k one).above (omega (arith, l)))
+      start_over a b c d start.below start.above end.below end.above place.tokens k (from k one).value (to k one).value
+      (from k one).below (from k one).above (to k one).below (to k one).above (omega (arith, l)))
 
   bounded : a * d ≡ c * b → HasBoundedWaits x place
   bounded same = (
     most,
     λ k one.
-        let l = over a b c d start.below start.above end.below end.above place.tokens k (from k one).value (to k one).value (from k one).below (from k one).above (to k one).below (to k one).above same some some' in
+        let l = over a b c d start.below start.above end.below end.above place.tokens k (from k one).value (to k one).value
+        (from k one).below (from k one).above (to k one).below (to k one).above same some some' in
         number_after (place.hold + most) (from k one).value (to k one).value (x (from_of net p) k) (x (to_of net p) (k + place.tokens)) (from k one).is (to k one).is (omega (arith, l)),
   )
 
@@ -208,7 +207,8 @@ module _ (net : NetLists) (x : Dating) (f : IsFeasibleUnder net (listed_releases
       let h : ℕ = place.hold + w.0 in
       let less : c * b ≤ a * d = no_more (c * b) (a * d) (b * d * h + b * end.below + d * start.above) (λ k one.
       let at : IsAtMostDate (At (pos (to k one).value)) (delayed h (At (pos (from k one).value))) = rw ((from k one).is, (to k one).is) at (w.1 k one) in
-      end_over a b c d start.below start.above end.below end.above place.tokens k (from k one).value (to k one).value (from k one).below (from k one).above (to k one).below (to k one).above h (omega (arith, ints, at))) in
+      end_over a b c d start.below start.above end.below end.above place.tokens k (from k one).value (to k one).value
+      (from k one).below (from k one).above (to k one).below (to k one).above h (omega (arith, ints, at))) in
       let more = never_less in
       omega (arith, less, more)
 
@@ -222,7 +222,8 @@ module _ (net : NetLists) (x : Dating) (f : IsFeasibleUnder net (listed_releases
         one,
         λ l.
             let at : IsAtMostDate (At (pos (to (e + 1) one).value)) (delayed h (At (pos (from (e + 1) one).value))) = rw ((from (e + 1) one).is, (to (e + 1) one).is) at l in
-            let up = end_over a b c d start.below start.above end.below end.above place.tokens (e + 1) (from (e + 1) one).value (to (e + 1) one).value (from (e + 1) one).below (from (e + 1) one).above (to (e + 1) one).below (to (e + 1) one).above h (omega (arith, ints, at)) in
+            let up = end_over a b c d start.below start.above end.below end.above place.tokens (e + 1) (from (e + 1) one).value (to (e + 1) one).value
+            (from (e + 1) one).below (from (e + 1) one).above (to (e + 1) one).below (to (e + 1) one).above h (omega (arith, ints, at)) in
             far (a * d) (c * b) e less up,
       )
 
@@ -232,8 +233,10 @@ module _ (net : NetLists) (x : Dating) (f : IsFeasibleUnder net (listed_releases
     most,
     λ k one.
         let on : 1 ≤ k + most = omega (arith, one) in
-        let l = before_later a b c d start.below end.below end.above place.tokens k most (from (k + most) on).value (to k one).value rise some some' same (from (k + most) on).below (to k one).above refl in
-        number_after place.hold (from (k + most) on).value (to k one).value (x (from_of net p) (k + most)) (x (to_of net p) (k + place.tokens)) (from (k + most) on).is (to k one).is (omega (arith, l)),
+        let l = before_later a b c d start.below end.below end.above place.tokens k most (from (k + most) on).value (to k one).value
+        rise some some' same (from (k + most) on).below (to k one).above refl in
+        number_after place.hold (from (k + most) on).value (to k one).value (x (from_of net p) (k + most)) (x (to_of net p) (k + place.tokens))
+        (from (k + most) on).is (to k one).is (omega (arith, l)),
   )
 
   one_by_stock : HasBoundedStock x place → a * d ≡ c * b

@@ -1,12 +1,12 @@
 -- What waits for less is earlier: by induction on number and rank, and hold by hold.
-use Rattle.std.proofs.Common.{ℕ, zero, suc, ◌+◌, ◌-◌, ◌*◌, ◌<◌, ◌≤◌, ◌≡◌, true, false, ltb, length, get_or, refl, sym, ap, subst, ◌∙◌, arith, ⊎_elim}
+use Rattle.std.proofs.Common.{ℕ, zero, suc, ◌+◌, ◌-◌, ◌*◌, ◌<◌, ◌≤◌, ◌≡◌, true, false, ltb, length, get_or, refl, sym, ap, ◌∙◌, arith, ⊎_elim}
 use Rattle.std.specs.Prelude.{All}
 use Rattle.std.proofs.lemmas.Bool.{cases_lt}
 use Rattle.std.proofs.lemmas.Bool.Decides.{nat_tests}
 use Rattle.std.proofs.lemmas.List.{get_or_default}
 use Rattle.teg_model.specs.dioid.declared.dates.Date.{Date}
 use Rattle.teg_model.specs.dioid.Dates.{IsAtMostDate, delayed}
-use Rattle.teg_model.proofs.dioid_proofs.DateOrder.{at_most_refl, at_most_is, at_most_trans, delayed_later}
+use Rattle.teg_model.proofs.dioid_proofs.DateOrder.{at_most_refl, at_most_is, at_most_trans}
 use Rattle.teg_model.specs.teg_net.declared.entries.Place.{Place}
 use Rattle.teg_model.specs.teg_net.Nets.{NetLists}
 use Rattle.teg_model.specs.teg_net.Circuits.{no_place}
@@ -14,13 +14,15 @@ use Rattle.teg_model.specs.LiveRanks.{AreRanks, HasEndsInRange}
 use Rattle.teg_model.specs.Datings.{extended_places, available_at, initial_date, IsFeasibleUnder}
 use Rattle.teg_model.specs.LeastDatings.{IsTight}
 use Rattle.teg_model.proofs.DateFunctions.{Dating}
-use Rattle.teg_model.proofs.Delays.{delayed_twice}
 use Rattle.teg_model.proofs.LeastOver.{falls}
 use Rattle.teg_model.proofs.LiveRanks.{live_is_ranked}
 use Rattle.teg_model.proofs.OfNet.{all_extended, all_extended_in, ranks_extended, extended_has, implicit_is, tight_of_least}
 use Rattle.teg_model.proofs.TightLeast.{available_below}
 use Rattle.teg_model.proofs.Tokens.{available_after, available_first, place_keeps, implicit_keeps}
-use Rattle.planning_laws.specs.VaryingHolds.{TightDatingsAreEarly, DatesLieBetween, place_of, IsSameButHold, AreHoldsBetween, held_at, IsDatingWithHolds, AreNoLater, VaryingHoldsLieBetween, LeastDatingsHaveHolds}
+use Rattle.dating_laws.proofs.OrderOfDatings.{feasible_before}
+use Rattle.dating_laws.proofs.SlowerNets.{longer_hold}
+use Rattle.planning_laws.specs.VaryingHolds.{TightDatingsAreEarly, DatesLieBetween, place_of, IsSameButHold, AreHoldsBetween, held_at}
+use Rattle.planning_laws.specs.VaryingHolds.{IsDatingWithHolds, AreNoLater, VaryingHoldsLieBetween, LeastDatingsHaveHolds}
 
 -- ---- tight datings are early
 
@@ -56,11 +58,6 @@ lie_between low high ends live same u x y z first f h last t k l o = (
 )
 
 -- ---- holds
-
-longer_hold : (g h : ℕ) (d : Date) → g ≤ h → IsAtMostDate (delayed g d) (delayed h d)
-longer_hold g h d l =
-    let e : g + (h - g) ≡ h = omega arith in
-    subst (λ n. IsAtMostDate (delayed g d) (delayed n d)) e (rw (delayed_twice g (h - g) d) (delayed_later (h - g) (delayed g d)))
 
 pub held_after : (net : NetLists) (holds : ℕ → ℕ → ℕ) (x : Dating) (i k : ℕ) → (place_of net i).tokens < k
     → held_at net holds x i k ≡ delayed (holds i k) (x (place_of net i).from.index (k - (place_of net i).tokens))
@@ -125,13 +122,6 @@ module _ (low high : NetLists) (holds : ℕ → ℕ → ℕ) (b : AreHoldsBetwee
         (λ i. under (rw b.transitions at i));
   }
 
--- what is feasible under later releases is feasible under earlier ones
-feasible_before : (net : NetLists) (u v y : Dating) → AreNoLater net u v → IsFeasibleUnder net v y → IsFeasibleUnder net u y
-feasible_before net u v y h f = record {
-  places = f.places;
-  inputs = λ t k o i. at_most_trans (u t k) (v t k) (y t k) (h t k o i) (f.inputs t k o i);
-}
-
 pub varying_between : VaryingHoldsLieBetween
 varying_between low high holds ends live b u v w x y z early late first h last t k l o =
     let same : length low.transitions ≡ length high.transitions = ap length b.transitions in
@@ -141,9 +131,6 @@ varying_between low high holds ends live b u v w x y z early late first h last t
     )
 
 -- ---- one hold for all firings
-
-held_same : (net : NetLists) (x : Dating) (i k : ℕ) → held_at net (λ j m. (place_of net j).hold) x i k ≡ available_at x (place_of net i) k
-held_same net x i k = refl
 
 pub least_have_holds : LeastDatingsHaveHolds
 least_have_holds net ends live u x h =
