@@ -222,7 +222,8 @@ module _ (net : NetLists) (a b c : ℕ) (greatest : (qs : List PlaceId) → IsCi
         let low = stays.below in
         let left : b * w ≡ b * time_of net h.places = ap (λ z. b * z) h.time in
         let number = h.count in
-        let right : a * m ≡ a * tokens_of net h.places + a * h.nexts = (let s : a * (tokens_of net h.places + h.nexts) ≡ a * tokens_of net h.places + a * h.nexts = grind arith in ap (λ z. a * z) number ∙ s) in
+        let sum : a * (tokens_of net h.places + h.nexts) ≡ a * tokens_of net h.places + a * h.nexts = grind arith in
+        let right : a * m ≡ a * tokens_of net h.places + a * h.nexts = ap (λ z. a * z) number ∙ sum in
         let some : 1 * h.nexts ≤ a * h.nexts = mul-le-mul_right {m = 1} {n = a} h.nexts some_a in
         let none : h.nexts ≡ 0 = omega (arith, low, left, right, some, is) in
         let whole : tokens_of net h.places ≡ m = omega (arith, number, none) in
@@ -301,7 +302,11 @@ module _ (net : NetLists) (a b c : ℕ) (greatest : (qs : List PlaceId) → IsCi
       made =
           let is : (1 + r * M) + 1 * L ≡ 1 + (r * M + L) = omega arith in
           let line : b * (r * T + 1 * s) ≡ a * (r * M + L) =
-          (let e : b * (r * T + 1 * s) ≡ b * (r * T) + b * s = grind arith in let f : a * (r * M + L) ≡ a * (r * M) + a * L = grind arith in let g = on_rate r in let h = rate in omega (arith, e, f, g, h)) in
+          (let e : b * (r * T + 1 * s) ≡ b * (r * T) + b * s = grind arith in
+          let f : a * (r * M + L) ≡ a * (r * M) + a * L = grind arith in
+          let g = on_rate r in
+          let h = rate in
+          omega (arith, e, f, g, h)) in
           let two = on_line (r * M + L) (r * T + 1 * s) (ap (y c) (sym is) ∙ go 1) line in
           let none : b * 0 ≡ a * 0 = omega arith in
           let own : IsCircuitOfCriticalPart net a b c ps =

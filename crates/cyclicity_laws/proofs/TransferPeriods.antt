@@ -126,7 +126,8 @@ module _ (net : NetLists) (a b : ℕ) (s : IsStronglyConnected net a b) (i : ℕ
       let two : length ps * greatest_hold ≤ length net.transitions * greatest_hold = mul-le-mul_right {m = length ps} {n = length net.transitions} greatest_hold (omega (arith, l)) in
       let three : b * time_of net ps ≤ b * most_time net = mul-le-mul_left {m = time_of net ps} {n = most_time net} b (omega (arith, one, two)) in
       omega (arith, three))
-      (λ ps g loop old. added (time_of net ps) (time_of net (loop.before ++ loop.after)) (time_of net loop.loop) (tokens_of net ps) (tokens_of net (loop.before ++ loop.after)) (tokens_of net loop.loop)
+      (λ ps g loop old. added (time_of net ps) (time_of net (loop.before ++ loop.after)) (time_of net loop.loop)
+      (tokens_of net ps) (tokens_of net (loop.before ++ loop.after)) (tokens_of net loop.loop)
       (loop_sum (λ p. (place_at net p).hold) net i t ps loop) (loop_sum (λ p. (place_at net p).tokens) net i t ps loop) old (greatest loop.loop loop.circuit))
       qs h where
         added : (time t1 t2 tokens k1 k2 : ℕ) → time ≡ t1 + t2 → tokens ≡ k1 + k2 → b * t1 ≤ a * k1 + b * most_time net → b * t2 ≤ a * k2 → b * time ≤ a * tokens + b * most_time net

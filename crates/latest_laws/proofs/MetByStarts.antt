@@ -73,7 +73,8 @@ due_kept net due x y ok live h l t k d in' o is kept =
     let back : Date = earlier_by time (At (pos d)) in
     let whole : delayed time back ≡ At (pos d) = earlier_delayed time (At (pos d)) in
     let leads : IsDateToDue net due w.from w.number back = record { to = t; number = k; due_date = d; steps = w.steps; walk = w.walk; is_due = is; is = whole } in
-    let low = at_most_trans start (y w.from w.number) back (kept w.from w.number w.from_in w.from_one (numbers_rise net w.steps w.from w.number t k w.walk)) ((l w.from w.number w.from_in w.from_one).least back leads) in
+    let first : IsAtMostDate start (y w.from w.number) = kept w.from w.number w.from_in w.from_one (numbers_rise net w.steps w.from w.number t k w.walk) in
+    let low = at_most_trans start (y w.from w.number) back first ((l w.from w.number w.from_in w.from_one).least back leads) in
     let reached : x t k ≡ delayed time start = w.is ∙ ap (delayed time) (w.starts ∙ start_at_zero net w.from w.number) in
     rw reached (rw whole at (delayed_rises time start back low))
 
