@@ -55,9 +55,6 @@ told_of net run now transition l dates e h =
 
 -- ---- one transition after the other
 
-pub lists_none : (net : NetLists) (run : List Fired) (now : ℕ) → AreListsLeft net run now 0 []
-lists_none net run now = record { each = λ i d l. absurd (omega (arith, l)); every = λ t l i. absurd (omega (arith, l)) }
-
 pub lists_more : (net : NetLists) (run : List Fired) (now i : ℕ) (lists : List InputList) (l : InputList) → AreListsLeft net run now i lists → l.transition.index ≡ i
     → IsInputDates l (left_dates net run now i) → AreListsLeft net run now (i + 1) (lists ++ l ∷ [])
 lists_more net run now i lists l h e is = record {

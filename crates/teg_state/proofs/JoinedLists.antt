@@ -77,13 +77,6 @@ joined_dates net run now l dates clear is begun joined = record {
 cases_lt' : (k n : ℕ) → (k ≤ n) ⊎ (n < k)
 cases_lt' k n = ⊎_elim (λ (l : n < k). inr l) (λ (l : k ≤ n). inl l) (cases_lt n k)
 
-pub begun_none : (net : NetLists) (run : List Fired) (now t : ℕ) → AreBegun net run now t [] 0
-begun_none net run now t = record {
-  told = λ k o l. absurd (omega (arith, o, l));
-  few = omega arith;
-  late = λ k o l m. absurd (omega (arith, o, l));
-}
-
 pub begun_more : (net : NetLists) (run : List Fired) (now t : ℕ) (dates : List ℕ) (clear more date : ℕ) → AreBegun net run now t dates clear
     → input_date net t (count_in run t + length dates + 1) ≡ Some date → ((more ≡ 0) ⊎ ((more ≡ clear + 1) × (now ≤ date)))
     → AreBegun net run now t (dates ++ max now date ∷ []) more
