@@ -15,7 +15,7 @@ use Rattle.bound_laws.specs.Periods.{FormsKeepTheBound}
 use Rattle.bound_laws.proofs.Bounded.{dates_go_on, factorials_are_common, steps_are_whole}
 
 -- a shortest form has the period that divides all others
-least_divides : (n : ℕ) (x : ℕ → ℕ → Date) (f : SettledForm) (k q : ℕ) (u : ℕ → ℤ) → IsShortestForm n f x → RepeatsAfter n x k q u → f.period ∣ q
+pub least_divides : (n : ℕ) (x : ℕ → ℕ → Date) (f : SettledForm) (k q : ℕ) (u : ℕ → ℤ) → IsShortestForm n f x → RepeatsAfter n x k q u → f.period ∣ q
 least_divides n x f k q u h r =
     let g : HasCommon n x k q f.period = gcd_period n x k (suc (q + f.period)) q f.period (omega arith)
     (record { step = u; repeats = r }) (record { step = step_of_form f; repeats = lowered n x k f.after q f.period u (step_of_form f) r h.stands.repeats }) in

@@ -1,8 +1,6 @@
 -- What the period of the dates of a net divides, and the growth of a strongly connected net.
 use Rattle.std.proofs.Common.{ℕ, ℤ, zero, suc, pos, ◌+◌, ◌-◌, ◌*◌, ◌<◌, ◌≤◌, ◌≡◌, ◌≢◌, ◌⊎◌, inl, inr, length, refl, sym, ap, subst, ◌∙◌, arith, ⊎_elim}
-use Rattle.std.specs.Int.{◌∣◌}
 use Rattle.std.proofs.lemmas.Bool.{cases_lt}
-use Rattle.std.proofs.lemmas.Nat.Gcd.{le_of_dvd}
 use Rattle.bound_laws.specs.dioid.declared.dates.Date.{Date}
 use Rattle.bound_laws.specs.dioid.declared.dates.Date.TheVariants.{Early, At, Never}
 use Rattle.bound_laws.specs.dioid.Dates.{move}
@@ -11,8 +9,7 @@ use Rattle.periodic_laws.proofs.dioid_proofs.Moves.{delayed_is_move}
 use Rattle.bound_laws.specs.teg_net.Nets.{NetLists, IsNet}
 use Rattle.bound_laws.specs.teg_net.Circuits.{IsPathBetween, IsLive, time_of}
 use Rattle.bound_laws.specs.teg_model.Datings.{IsLeastDating}
-use Rattle.bound_laws.specs.settled_laws.SettledForms.{SettledForm, RepeatsAfter, IsShortestForm, step_of_form}
-use Rattle.periodic_laws.proofs.settled_laws_proofs.Repeating.{HasCommon, gcd_period, lowered}
+use Rattle.bound_laws.specs.settled_laws.SettledForms.{RepeatsAfter}
 use Rattle.periodic_laws.specs.RepeatNumbers.{repeats_past, repeats_in, repeats_by}
 use Rattle.periodic_laws.specs.LinearSystem.{LeastDatingsRepeat}
 use Rattle.slope_laws.specs.Slopes.{IsSlope}
@@ -21,6 +18,7 @@ use Rattle.slope_laws.proofs.FormSlopes.{forms_have_slopes}
 use Rattle.slope_laws.proofs.Nevers.{nevers_come_from_ended_lists}
 use Rattle.slope_laws.proofs.WalkPaths.{ends_below}
 use Rattle.bound_laws.proofs.Onward.{start_in}
+use Rattle.bound_laws.proofs.Shortest.{least_divides}
 use Rattle.growth_laws.specs.Growth.{IsEndless}
 use Rattle.growth_laws.proofs.Growth.{dates_grow}
 use Rattle.cyclicity_laws.specs.CriticalParts.{IsStronglyConnected, PeriodsDivideByParts, DatesGrowByCycleTime}
@@ -95,17 +93,6 @@ module _ (repeat : LeastDatingsRepeat) (net : NetLists) (ok : IsNet net) (live :
       let w = one_after (λ t after. (z : ℤ) × Goes t after z) (λ t k m l r. (r.0, λ j past. r.1 j (omega (arith, past, l)))) (length net.transitions) each in
       let s = chosen (λ t z. Goes t w.0 z) (length net.transitions) w.1 in
       (w.0, s.0, record { at_least_one = one; again = λ t k l past. s.1 t l k past })
-
--- a shortest form has the period that divides all others
-pub least_divides : (n : ℕ) (x : ℕ → ℕ → Date) (f : SettledForm) (k q : ℕ) (u : ℕ → ℤ) → IsShortestForm n f x → RepeatsAfter n x k q u → f.period ∣ q
-least_divides n x f k q u h r =
-    let g : HasCommon n x k q f.period = gcd_period n x k (suc (q + f.period)) q f.period (omega arith)
-    (record { step = u; repeats = r }) (record { step = step_of_form f; repeats = lowered n x k f.after q f.period u (step_of_form f) r h.stands.repeats }) in
-    let one = h.stands.repeats.at_least_one in
-    let low : f.period ≤ g.gcd = h.least_period k g.gcd g.form.step g.form.repeats in
-    let high : g.gcd ≤ f.period = le_of_dvd (omega arith) g.is_gcd.1 in
-    let same : g.gcd ≡ f.period = omega arith in
-    subst (λ z. z ∣ q) same g.is_gcd.0
 
 pub periods_divide_of_nets : LeastDatingsRepeat → PeriodsDivideOfNets
 periods_divide_of_nets repeat net ok live x least f h L one common =

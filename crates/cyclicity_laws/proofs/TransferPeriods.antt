@@ -33,7 +33,8 @@ use Rattle.cyclicity_laws.proofs.Rounds.{IsRound, ComesRound, repeated, comes_ro
 use Rattle.cyclicity_laws.proofs.CriticalWalks.{MeetsCritical, LosesMuch, most_tokens, most_time, meets_or_loses}
 use Rattle.cyclicity_laws.proofs.Lines.{outgrown, rise_by}
 use Rattle.cyclicity_laws.proofs.RepeatsTowards.{under, short_walk, less_periods, at_most_numbers, both_some, in_periods}
-use Rattle.cyclicity_laws.proofs.Cyclic.{one_after, chosen, least_divides}
+use Rattle.bound_laws.proofs.Shortest.{least_divides}
+use Rattle.cyclicity_laws.proofs.Cyclic.{one_after, chosen}
 use Rattle.cyclicity_laws.proofs.Reached.{path_steps, path_walks, path_time, waited, waited_walks, waited_time, transfers_are_common, transfers_exist}
 
 module _ (net : NetLists) (a b : ℕ) (s : IsStronglyConnected net a b) (i : ℕ) (i_in : i < length net.transitions) (y : ℕ → ℕ → Date) (times : AreWalkTimes net i y)
