@@ -14,7 +14,7 @@ use Rattle.bound_laws.specs.dioid.Dates.{IsAtMostDate, move}
 use Rattle.periodic_laws.proofs.dioid_proofs.DateOrder.{at_most_is, at_most_refl}
 use Rattle.bound_laws.specs.teg_net.declared.entries.PlaceId.{PlaceId}
 use Rattle.bound_laws.specs.teg_net.declared.walks.Step.{Step}
-use Rattle.bound_laws.specs.teg_net.declared.walks.Step.TheVariants.{By, Next}
+use Rattle.bound_laws.specs.teg_net.declared.walks.Step.TheVariants.{Next}
 use Rattle.bound_laws.specs.teg_net.Nets.{NetLists}
 use Rattle.bound_laws.specs.teg_net.Circuits.{place_at, IsPathBetween, IsLive, time_of, tokens_of}
 use Rattle.bound_laws.specs.teg_net.Walks.{Walks, step_time, walk_time}
@@ -25,6 +25,7 @@ use Rattle.bound_laws.proofs.teg_loops_proofs.Visits.{rounds, rounds_lead, round
 use Rattle.bound_laws.specs.Critical.{IsCriticalAt}
 use Rattle.growth_laws.proofs.number_laws_proofs.Numbers.{some_of}
 use Rattle.growth_laws.proofs.Growth.{cancel}
+use Rattle.growth_laws.proofs.PathSteps.{path_steps, path_walks, path_time}
 use Rattle.slope_laws.specs.teg_loops.Loops.{HasLoop, IsCircuitTowards}
 use Rattle.slope_laws.proofs.WalkPaths.{IsPathOf, walk_path}
 use Rattle.teg_settle.specs.Transfers.{AreWalkTimes}
@@ -42,26 +43,6 @@ use Rattle.cyclicity_laws.specs.CriticalParts.{IsCircuitOfCriticalPart, IsCommon
 use Rattle.cyclicity_laws.specs.Reached.{TransfersAreCommon, TransfersExist}
 
 -- ---- walks of paths
-
-abbrev pub path_steps : List PlaceId → List Step
-path_steps [] = []
-path_steps (p ∷ ps) = By p ∷ path_steps ps
-
-pub path_walks : (net : NetLists) (ps : List PlaceId) (i s j : ℕ) → IsPathBetween net i ps j → Walks net i s (path_steps ps) j (s + tokens_of net ps)
-path_walks net [] i s j h = (h, omega arith)
-path_walks net (p ∷ ps) i s j h =
-    let rest = path_walks net ps (place_at net p).to.index (s + (place_at net p).tokens) j h.2 in
-    let sum = sum_by-cons (λ q. (place_at net q).tokens) p ps in
-    let e : s + (place_at net p).tokens + tokens_of net ps ≡ s + tokens_of net (p ∷ ps) = omega (arith, sum) in
-    (h.0, h.1, subst (λ n. Walks net (place_at net p).to.index (s + (place_at net p).tokens) (path_steps ps) j n) e rest)
-
-pub path_time : (net : NetLists) (ps : List PlaceId) → walk_time net (path_steps ps) ≡ time_of net ps
-path_time net [] = omega arith
-path_time net (p ∷ ps) =
-    let rest = path_time net ps in
-    let one = sum_by-cons (step_time net) (By p) (path_steps ps) in
-    let two = sum_by-cons (λ q. (place_at net q).hold) p ps in
-    omega (arith, rest, one, two)
 
 -- so many firings waited before
 abbrev pub waited : ℕ → List Step → List Step

@@ -35,7 +35,8 @@ use Rattle.cyclicity_laws.proofs.Lines.{outgrown, rise_by}
 use Rattle.cyclicity_laws.proofs.RepeatsTowards.{under, short_walk, less_periods, at_most_numbers, both_some, in_periods}
 use Rattle.bound_laws.proofs.Shortest.{least_divides}
 use Rattle.cyclicity_laws.proofs.Cyclic.{one_after, chosen}
-use Rattle.cyclicity_laws.proofs.Reached.{path_steps, path_walks, path_time, waited, waited_walks, waited_time, transfers_are_common, transfers_exist}
+use Rattle.growth_laws.proofs.PathSteps.{path_steps, path_walks, path_time}
+use Rattle.cyclicity_laws.proofs.Reached.{waited, waited_walks, waited_time, transfers_are_common, transfers_exist}
 
 module _ (net : NetLists) (a b : ℕ) (s : IsStronglyConnected net a b) (i : ℕ) (i_in : i < length net.transitions) (y : ℕ → ℕ → Date) (times : AreWalkTimes net i y)
     (t : ℕ) (lt : t < length net.transitions) (K P : ℕ) (z : ℤ) (some : 1 ≤ P) (again : (k : ℕ) → K < k → y t (k + P) ≡ move z (y t k)) where

@@ -1,42 +1,18 @@
 -- Round and round a circuit a walk takes more time than due dates give.
-use Rattle.std.proofs.Common.{ℕ, ◌+◌, ◌*◌, ◌<◌, ◌≤◌, ◌≡◌, List, [], ◌∷◌, ◌++◌, ap, subst, ◌∙◌, arith, ⊎_elim}
+use Rattle.std.proofs.Common.{ℕ, ◌+◌, ◌*◌, ◌<◌, ◌≤◌, ◌≡◌, List, ◌++◌, ap, ◌∙◌, arith, ⊎_elim}
 use Rattle.std.proofs.lemmas.Bool.{cases_lt}
-use Rattle.std.proofs.lemmas.List.Sums.{sum_by-append, sum_by-cons}
+use Rattle.std.proofs.lemmas.List.Sums.{sum_by-append}
 use Rattle.std.proofs.Math.Nat.{mul-le-mul_left}
 use Rattle.forever_laws.specs.teg_net.declared.entries.PlaceId.{PlaceId}
 use Rattle.forever_laws.specs.teg_net.Limits.{greatest_input_date}
-use Rattle.forever_laws.specs.teg_net.Nets.{NetLists}
 use Rattle.forever_laws.specs.teg_net.Circuits.{place_at, IsPathBetween, time_of, tokens_of}
-use Rattle.forever_laws.specs.teg_net.declared.walks.Step.{Step}
-use Rattle.forever_laws.specs.teg_net.declared.walks.Step.TheVariants.{By}
-use Rattle.forever_laws.specs.teg_net.Walks.{Walks, step_time, walk_time}
 use Rattle.growth_laws.proofs.teg_net_proofs.PathLaws.{IsPathBetween-append}
 use Rattle.growth_laws.proofs.teg_loops_proofs.Visits.{rounds, rounds_lead, rounds_sum}
+use Rattle.growth_laws.proofs.PathSteps.{path_steps, path_walks, path_time}
 use Rattle.late_laws.specs.SlowDues.{SlowDuesAreLate}
 use Rattle.forever_laws.proofs.GoingOn.{due_number, due_slow}
 use Rattle.forever_laws.proofs.Zeros.{least_number, walk_most}
 use Rattle.forever_laws.proofs.Soon.{late_from}
-
--- the steps of a path
-abbrev path_steps : List PlaceId → List Step
-path_steps [] = []
-path_steps (p ∷ ps) = By p ∷ path_steps ps
-
-path_walks : (net : NetLists) (ps : List PlaceId) (a s b : ℕ) → IsPathBetween net a ps b → Walks net a s (path_steps ps) b (s + tokens_of net ps)
-path_walks net [] a s b h = (h, omega arith)
-path_walks net (p ∷ ps) a s b h =
-    let rest = path_walks net ps (place_at net p).to.index (s + (place_at net p).tokens) b h.2 in
-    let sum = sum_by-cons (λ q. (place_at net q).tokens) p ps in
-    let e : s + (place_at net p).tokens + tokens_of net ps ≡ s + tokens_of net (p ∷ ps) = omega (arith, sum) in
-    (h.0, h.1, subst (λ n. Walks net (place_at net p).to.index (s + (place_at net p).tokens) (path_steps ps) b n) e rest)
-
-path_time : (net : NetLists) (ps : List PlaceId) → walk_time net (path_steps ps) ≡ time_of net ps
-path_time net [] = omega arith
-path_time net (p ∷ ps) =
-    let rest = path_time net ps in
-    let one = sum_by-cons (step_time net) (By p) (path_steps ps) in
-    let two = sum_by-cons (λ q. (place_at net q).hold) p ps in
-    omega (arith, rest, one, two)
 
 -- so many rounds take more time than due dates give up to their number
 late_by :
