@@ -1,14 +1,16 @@
 //! Delays that stay and the circuit that shows it, tests of timetables and of due dates without end
 //! that a program makes itself, and the lines of their refusals.
+ghost use Rattle.std.specs.Prelude.{◌≤◌};
+ghost use Rattle.teg_timetable.specs.Spreads.{greatest_period};
+
 use endless_due::{EndlessRefusal, EndlessRow, is_endless_of, read_endless};
-use example_nets::says;
+use example_nets::{held, read, says};
 use std::alloc::{AllocError, Global};
 use std::fmt::Display;
 use std::test::Fail;
-use teg_check::check;
+use teg_check::LiveNet;
 use teg_forever::{ForeverRefusal, forever};
 use teg_net::{DateList, Net, PlaceId, TransitionId};
-use teg_reader::read_net;
 use teg_timetable::{
     Delay, DelayRefusal, Delayed, Outcome, TableRefusal, Timetable, is_table_of,
     paths_pass_delays_on, read_timetable, shows_kept, spread, tight_circuits_keep_delays,
@@ -50,28 +52,65 @@ fn first_delay(delayed: &Delayed) -> Option<u128> {
     Some(delayed.delay(TransitionId { index: 0 }, 1))
 }
 
-#[test]
-fn kept_delays_are_shown(rt: HostRuntime) -> Result<(), Fail> {
-    let alloc = rt.alloc();
+// How the delays of a timetable of the shuttle spread with this period.
+fn delayed(alloc: Global, shuttle: &LiveNet, period: u64) -> Result<Delayed, Fail>
+    requires some { 1 ≤ period }
+    requires period { period ≤ greatest_period }
+{
+    let net = shuttle.net();
+    let table = read_timetable(alloc, net, b"out,0\nhome,3\nhome,2,5\n")?;
+    Ok(spread(alloc, net, shuttle.live(), period, &table, None)?)
+}
+
+// The laws of delays that are kept, or passed on.
+fn laws() {
     tight_circuits_keep_delays();
     paths_pass_delays_on();
-    let net = read_net(alloc, SHUTTLE)?;
-    let live = check(alloc, &net)?;
-    let table = read_timetable(alloc, &net, b"out,0\nhome,3\nhome,2,5\n")?;
-    let tight = spread(alloc, &net, &live, 7, &table, None)?;
-    assert!(rt; is_shown(&net, &tight, 7) == Some(true));
-    let slack = spread(alloc, &net, &live, 8, &table, None)?;
-    assert!(rt; is_shown(&net, &slack, 8).is_none());
-    assert!(rt; first_delay(&slack) == Some(0) && slack.after() == 6);
-    let (there, back) = (PlaceId::new(0), PlaceId::new(1));
-    for (period, places, is_shown) in [
-        (7, [back, there].as_slice(), true),
-        (7, &[there], false),
-        (7, &[there, back, there, back], false),
-        (u64::MAX, &[there, back], false),
-    ] {
-        assert!(rt; shows_kept(&net, period, places) == is_shown, "{period}");
+}
+
+const THERE: PlaceId = PlaceId { index: 0 };
+
+const BACK: PlaceId = PlaceId { index: 1 };
+
+// A period, places of the shuttle, and whether they show that delays are kept.
+const KEPT: [(u64, &[PlaceId], bool); 4] = [
+    (7, &[BACK, THERE], true),
+    (7, &[THERE], false),
+    (7, &[THERE, BACK, THERE, BACK], false),
+    (u64::MAX, &[THERE, BACK], false),
+];
+
+// Whether the delays are kept where the period leaves no spare time, and shown to be.
+fn are_kept(alloc: Global, shuttle: &LiveNet) -> Result<bool, Fail> {
+    let tight = delayed(alloc, shuttle, 7)?;
+    Ok(is_shown(shuttle.net(), &tight, 7) == Some(true))
+}
+
+// Whether they die out where it leaves some.
+fn die_out(alloc: Global, shuttle: &LiveNet) -> Result<bool, Fail> {
+    let slack = delayed(alloc, shuttle, 8)?;
+    Ok(
+        is_shown(shuttle.net(), &slack, 8).is_none()
+            && first_delay(&slack) == Some(0)
+            && slack.after() == 6,
+    )
+}
+
+// Whether all is told so of the shuttle.
+fn is_told(alloc: Global, shuttle: &LiveNet) -> Result<bool, Fail> {
+    for (period, places, is_shown) in &KEPT {
+        if shows_kept(shuttle.net(), *period, places) != *is_shown {
+            return Ok(false);
+        }
     }
+    Ok(are_kept(alloc, shuttle)? && die_out(alloc, shuttle)?)
+}
+
+#[test]
+fn kept_delays_are_shown(rt: HostRuntime) -> Result<(), Fail> {
+    laws();
+    let is_told = is_told(rt.alloc(), &held(rt.alloc(), SHUTTLE)?);
+    assert!(rt; is_told?);
     Ok(())
 }
 
@@ -92,23 +131,24 @@ fn table_of(alloc: Global, firsts: &[u64], delays: &[(u32, u64)]) -> Result<Time
     })
 }
 
-#[test]
-fn timetables_are_tested(rt: HostRuntime) -> Result<(), Fail> {
-    let net = read_net(rt.alloc(), SHUTTLE)?;
-    for (firsts, delays, is_right) in [
-        ([0, 3].as_slice(), [(1, 5), (2, 5)].as_slice(), true),
-        (&[0], &[], false),
-        (&[0, 1_000_000_001], &[], false),
-        (&[0, 3], &[(1, 5), (2, 5), (1, 6)], false),
-        (&[0, 3], &[(1, 0)], false),
-    ] {
-        let table = table_of(rt.alloc(), firsts, delays)?;
-        assert!(rt;
-            is_table_of(&net, &table) == is_right,
-            "{firsts:?} {delays:?}"
-        );
+// First departures, numbers and delays, and whether they are a timetable of the shuttle.
+const TABLES: [(&[u64], &[(u32, u64)], bool); 5] = [
+    (&[0, 3], &[(1, 5), (2, 5)], true),
+    (&[0], &[], false),
+    (&[0, 1_000_000_001], &[], false),
+    (&[0, 3], &[(1, 5), (2, 5), (1, 6)], false),
+    (&[0, 3], &[(1, 0)], false),
+];
+
+// The row of `TABLES` that is told otherwise.
+fn wrong_table(alloc: Global, shuttle: &Net) -> Result<Option<usize>, AllocError> {
+    for (row, (firsts, delays, is_right)) in TABLES.iter().enumerate() {
+        let table = table_of(alloc, firsts, delays)?;
+        if is_table_of(shuttle, &table) != *is_right {
+            return Ok(Some(row));
+        }
     }
-    Ok(())
+    Ok(None)
 }
 
 // A row of this transition by these dates, which goes on by 4 each 2 dates.
@@ -122,35 +162,57 @@ fn row_of(alloc: Global, index: u32, dates: &[u64]) -> Result<EndlessRow, AllocE
     })
 }
 
+// Transitions and dates of a row, and whether it is one of the saw.
+const ROWS: [(u32, &[u64], bool); 5] = [
+    (1, &[10, 12], true),
+    (0, &[10, 12], false),
+    (1, &[12, 10], false),
+    (1, &[10, 15], false),
+    (1, &[10], false),
+];
+
+// The row of `ROWS` that is told otherwise.
+fn wrong_row(alloc: Global, feed: &Net) -> Result<Option<usize>, AllocError> {
+    for (number, (index, dates, is_right)) in ROWS.iter().enumerate() {
+        let row = [row_of(alloc, *index, dates)?];
+        if is_endless_of(feed, &row) != *is_right {
+            return Ok(Some(number));
+        }
+    }
+    Ok(None)
+}
+
+// Whether two rows of the saw may stand in one list.
+fn may_be_twice(alloc: Global, feed: &Net) -> Result<bool, AllocError> {
+    let mut twice = Vec::new(alloc);
+    for _ in 0..2 {
+        twice.push(row_of(alloc, 1, &[10, 12])?)?;
+    }
+    Ok(is_endless_of(feed, &twice))
+}
+
 // How many inputs have latest releases for parts from the saw every 4.
-fn releases_of(alloc: Global, net: &Net) -> Result<usize, Fail> {
-    let live = check(alloc, net)?;
-    let rows = read_endless(alloc, net, b"saw,1,4,10\n")?;
-    Ok(forever(alloc, net, &live, &rows)?.len())
+fn releases(alloc: Global, feed: &LiveNet) -> Result<usize, Fail> {
+    let rows = read_endless(alloc, feed.net(), b"saw,1,4,10\n")?;
+    Ok(forever(alloc, feed.net(), feed.live(), &rows)?.len())
+}
+
+// Whether rows of the saw are told as they are, and parts from it have releases.
+fn is_fed(alloc: Global, feed: &LiveNet) -> Result<bool, Fail> {
+    Ok(
+        wrong_row(alloc, feed.net())?.is_none()
+            && !may_be_twice(alloc, feed.net())?
+            && releases(alloc, feed)? == 1,
+    )
 }
 
 #[test]
-fn endless_dues_are_tested(rt: HostRuntime) -> Result<(), Fail> {
-    let net = read_net(rt.alloc(), FEED)?;
-    for (index, dates, is_right) in [
-        (1, [10, 12].as_slice(), true),
-        (0, &[10, 12], false),
-        (1, &[12, 10], false),
-        (1, &[10, 15], false),
-        (1, &[10], false),
-    ] {
-        let row = row_of(rt.alloc(), index, dates)?;
-        assert!(rt;
-            is_endless_of(&net, &[row]) == is_right,
-            "{index} {dates:?}"
-        );
-    }
-    let twice = [
-        row_of(rt.alloc(), 1, &[10, 12])?,
-        row_of(rt.alloc(), 1, &[10, 12])?,
-    ];
-    assert!(rt; !is_endless_of(&net, &twice));
-    assert!(rt; releases_of(rt.alloc(), &net)? == 1);
+fn rows_of_a_program_are_tested(rt: HostRuntime) -> Result<(), Fail> {
+    let alloc = rt.alloc();
+    let table = wrong_table(alloc, &read(alloc, SHUTTLE)?);
+    assert!(rt; table?.is_none());
+    let is_fed = is_fed(alloc, &held(alloc, FEED)?);
+    assert!(rt; is_fed?);
     Ok(())
 }
 

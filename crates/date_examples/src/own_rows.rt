@@ -6,12 +6,11 @@ ghost use Rattle.date_rows.specs.KeptRows.{AreLeastRows};
 ghost use Rattle.date_rows.specs.teg_model.Datings.{listed_releases, system_of};
 
 use date_rows::{NetInputs, PlaceOrder, Rows, nets_keep_bounds, nets_keep_short_bounds};
-use example_nets::LOOP;
+use example_nets::{LOOP, held};
 use std::alloc::Global;
 use std::test::Fail;
-use teg_check::check;
+use teg_check::LiveNet;
 use teg_net::{Net, OutOfMemory};
-use teg_reader::read_net;
 use teg_settle::{Repetition, own_releases, shown_form};
 
 // The rows with one more.
@@ -43,22 +42,27 @@ fn with_next_in_cells(net: &Net, order: &PlaceOrder, rows: Rows) -> Result<Rows,
 }
 
 // The form that the first rows of a net show.
-fn form_of(alloc: Global, net: &Net) -> Result<Option<Repetition>, Fail> {
-    let live = check(alloc, net)?;
-    let order = PlaceOrder::new(alloc, net, &live)?;
+fn form_of(alloc: Global, held: &LiveNet) -> Result<Option<Repetition>, Fail> {
+    let (net, live) = (held.net(), held.live());
+    let order = PlaceOrder::new(alloc, net, live)?;
     let releases = own_releases(alloc, net)?;
     let one = with_next(net, &order, Rows::new(alloc, net))?;
     let two = with_next(net, &order, one)?;
     let three = with_next_in_cells(net, &order, two)?;
-    Ok(shown_form(net, &live, &releases, &three))
+    Ok(shown_form(net, live, &releases, &three))
+}
+
+// The number and the period of that form.
+fn told_form(alloc: Global, held: &LiveNet) -> Result<Option<(u64, u64)>, Fail> {
+    Ok(match form_of(alloc, held)? {
+        Some(form) => Some((form.after, form.period)),
+        None => None,
+    })
 }
 
 #[test]
 fn rows_show_a_form(rt: HostRuntime) -> Result<(), Fail> {
-    let net = read_net(rt.alloc(), LOOP)?;
-    let Some(form) = form_of(rt.alloc(), &net)? else {
-        panic!(rt; "three rows are enough");
-    };
-    assert!(rt; form.after == 0 && form.period == 1);
+    let told = told_form(rt.alloc(), &held(rt.alloc(), LOOP)?);
+    assert!(rt; told? == Some((0, 1)));
     Ok(())
 }

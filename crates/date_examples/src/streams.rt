@@ -5,14 +5,13 @@ ghost use Rattle.teg_form.specs.StandardForms.{IsStandardFormOf};
 ghost use Rattle.date_rows.specs.Streams.{IsStreamOf, rows_given};
 
 use dioid::Date;
-use example_nets::LOOP;
+use example_nets::{LOOP, held};
 use std::alloc::Global;
 use std::test::Fail;
-use teg_check::check;
+use teg_check::LiveNet;
 use teg_dates::Stream;
 use teg_form::{Form, standard_form};
 use teg_net::Net;
-use teg_reader::read_net;
 
 // The loop, with a place from b to itself that has as many tokens as a place may have.
 const MANY_TOKENS: &[u8] =
@@ -33,11 +32,11 @@ fn next_of(stream: &mut Stream, net: &Net, form: &Form) -> (Date, Date)
 }
 
 // The first two rows of a net of two transitions.
-fn two_rows(alloc: Global, net: &Net) -> Result<[(Date, Date); 2], Fail>
-    requires two { length net.now.transitions ≡ 2 }
+fn two_rows(alloc: Global, held: &LiveNet) -> Result<[(Date, Date); 2], Fail>
+    requires two { length held.now.transitions ≡ 2 }
 {
-    let live = check(alloc, net)?;
-    let form = standard_form(alloc, net, &live)?;
+    let net = held.net();
+    let form = standard_form(alloc, net, held.live())?;
     let mut stream = Stream::new(alloc, net, &form)?;
     let first = next_of(&mut stream, net, &form);
     let second = next_of(&mut stream, net, &form);
@@ -45,25 +44,31 @@ fn two_rows(alloc: Global, net: &Net) -> Result<[(Date, Date); 2], Fail>
 }
 
 // The first row of such a net, of a stream without the form, and how many it then gave and keeps.
-fn first_row(alloc: Global, net: &Net) -> Result<(Date, Date, u64, u64), Fail>
-    requires two { length net.now.transitions ≡ 2 }
+fn first_row(alloc: Global, held: &LiveNet) -> Result<(Date, Date, u64, u64), Fail>
+    requires two { length held.now.transitions ≡ 2 }
 {
-    let live = check(alloc, net)?;
-    let mut stream = Stream::of_live(alloc, net, &live)?;
+    let net = held.net();
+    let mut stream = Stream::of_live(alloc, net, held.live())?;
     let mut row = [Date::Early; 2];
     stream.write_next(net, &mut row);
     Ok((row[0], row[1], stream.number(), stream.kept()))
 }
 
+// Whether the first two rows of the net are these, by both streams.
+fn gives_rows(alloc: Global, held: &LiveNet) -> Result<bool, Fail> {
+    if held.net().transitions().len() != 2 {
+        return Ok(false);
+    }
+    let (first, second) = ((Date::At(0), Date::At(3)), (Date::At(5), Date::At(8)));
+    let rows = two_rows(alloc, held)?;
+    Ok(rows == [first, second] && first_row(alloc, held)? == (first.0, first.1, 1, 1))
+}
+
 #[test]
 fn a_stream_gives_row_after_row(rt: HostRuntime) -> Result<(), Fail> {
-    let first = (Date::At(0), Date::At(3));
-    let second = (Date::At(5), Date::At(8));
     for file in [LOOP, MANY_TOKENS] {
-        let net = read_net(rt.alloc(), file)?;
-        assert!(rt; net.transitions().len() == 2);
-        assert!(rt; two_rows(rt.alloc(), &net)? == [first, second]);
-        assert!(rt; first_row(rt.alloc(), &net)? == (Date::At(0), Date::At(3), 1, 1));
+        let gives_rows = gives_rows(rt.alloc(), &held(rt.alloc(), file)?);
+        assert!(rt; gives_rows?);
     }
     Ok(())
 }
