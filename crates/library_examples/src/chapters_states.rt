@@ -1,18 +1,22 @@
 //! Chapters of the page on the library: what a run leaves, and what a change is worth.
+ghost use Rattle.std.specs.Prelude.{◌≡◌, ◌<◌, ◌≤◌, ◌^◌, IfOk, length};
+ghost use Rattle.teg_due.specs.RowRules.{IsDueOf};
+
 use dioid::Date;
 use dispatch::Dispatcher;
+use example_nets::{due_rows, held, place_named, read, transition_named};
 use run_laws::Fired;
+use std::alloc::Global;
 use std::test::Fail;
 use teg_check::LiveNet;
 use teg_dates::first_dates;
-use teg_due::read_due;
-use teg_net::Ratio;
-use teg_reader::read_net;
+use teg_due::Due;
+use teg_net::{Net, Ratio, TransitionId};
 use teg_state::live_net_after;
-use whatif::{Cut, best_of, may_add_tokens, pace_with_tokens};
+use whatif::{BestCut, Cut, best_of, may_add_tokens, pace_with_tokens};
 
-// A part comes in every 4 units, and a machine works 3 units on it.
-const NET: &[u8] = b"transition = [{name = 'in', role = 'input'}, {name = 'work'}]
+/// A part comes in every 4 units, and a machine works 3 units on it.
+pub const NET: &[u8] = b"transition = [{name = 'in', role = 'input'}, {name = 'work'}]
 place = [
   {name = 'belt', from = 'in', to = 'work', hold = 2},
   {name = 'busy', from = 'work', to = 'work', hold = 3, tokens = 1},
@@ -20,52 +24,122 @@ place = [
 input = [{transition = 'in', dates = [0], every = 1, gap = 4}]
 ";
 
+/// A firing of the transition at this date.
+pub fn fired(transition: TransitionId, date: u32) -> Fired
+    ensures { result.date ≤ 10 ^ 18 }
+{
+    Fired {
+        transition,
+        date: u64::from(date),
+    }
+}
+
+// The shop at 8: two parts came in, the second late.
+fn left_at_8(alloc: Global, shop: &LiveNet) -> Result<LiveNet, Fail> {
+    let entry = transition_named(shop.net(), "in")?;
+    let work = transition_named(shop.net(), "work")?;
+    let run = [fired(entry, 0), fired(work, 2), fired(entry, 7)];
+    Ok(live_net_after(alloc, shop, &run, 8)?)
+}
+
+/// The shop as it is at 8.
+pub fn shop_at_8(alloc: Global) -> Result<LiveNet, Fail> {
+    left_at_8(alloc, &held(alloc, NET)?)
+}
+
+// The first dates from now on.
+fn dates_from_now(alloc: Global, rest: &LiveNet) -> Result<[Date; 4], Fail> {
+    let entry = transition_named(rest.net(), "in")?;
+    let work = transition_named(rest.net(), "work")?;
+    let dates = first_dates(alloc, rest.net(), rest.live(), 3)?;
+    Ok([
+        dates.date(entry, 1),
+        dates.date(work, 1),
+        dates.date(work, 2),
+        dates.date(work, 3),
+    ])
+}
+
 #[test]
 fn a_net_goes_on_from_now(rt: HostRuntime) -> Result<(), Fail> {
-    let alloc = rt.alloc();
-    let held = LiveNet::new(alloc, read_net(alloc, NET)?)?;
-    let entry = held.net().find("in").ok_or("no such transition")?;
-    let work = held.net().find("work").ok_or("no such transition")?;
-    let run = [
-        Fired {
-            transition: entry,
-            date: 0,
-        },
-        Fired {
-            transition: work,
-            date: 2,
-        },
-        Fired {
-            transition: entry,
-            date: 7,
-        },
-    ];
-    let rest = live_net_after(alloc, &held, &run, 8)?;
-    let work = rest.net().find("work").ok_or("no such transition")?;
-    let dates = first_dates(alloc, rest.net(), rest.live(), 2)?;
-    assert!(rt; dates.date(work, 1) == Date::At(9));
-    assert!(rt; dates.date(work, 2) == Date::At(12));
+    let told = dates_from_now(rt.alloc(), &shop_at_8(rt.alloc())?);
+    assert!(rt; told? == [Date::At(8), Date::At(9), Date::At(12), Date::At(15)]);
     Ok(())
+}
+
+// Takes down what happened up to 8.
+fn take_down(
+    alloc: Global,
+    shop: &mut Dispatcher,
+    entry: TransitionId,
+    work: TransitionId,
+) -> Result<(), Fail>
+    ensures { shop.new.net ≡ shop.old.net }
+{
+    shop.fire(alloc, entry, 0)?;
+    shop.fire(alloc, work, 2)?;
+    shop.fire(alloc, entry, 7)?;
+    Ok(())
+}
+
+// At 8, the earliest dates of the first four firings of the transition.
+fn dates_at_8(alloc: Global, shop: &Dispatcher, transition: TransitionId) -> Result<[Date; 4], Fail>
+    requires { transition.index < length shop.now.net.transitions }
+{
+    let rows = shop.outlook(alloc, 8, 4)?;
+    Ok([
+        rows.date(transition, 1),
+        rows.date(transition, 2),
+        rows.date(transition, 3),
+        rows.date(transition, 4),
+    ])
+}
+
+// How many due dates are missed at 8.
+fn missed_at_8(alloc: Global, shop: &Dispatcher, due: &Due) -> Result<usize, Fail>
+    requires { IsDueOf shop.now.net due.now.rows.items }
+{
+    let rows = shop.outlook(alloc, 8, 4)?;
+    Ok(shop.missed(alloc, &rows, due)?.len())
+}
+
+// The shop before anything happened in it.
+fn open(alloc: Global, net: Net) -> Result<Dispatcher, Fail>
+    ensures { IfOk result (λ shop. shop.net ≡ net) }
+{
+    Ok(Dispatcher::new(alloc, LiveNet::new(alloc, net)?)?)
+}
+
+// The dates of work and how many due dates are missed, as they are told at 8.
+fn told_at_8(
+    alloc: Global,
+    shop: &mut Dispatcher,
+    due: &Due,
+    entry: TransitionId,
+    work: TransitionId,
+) -> Result<([Date; 4], usize), Fail>
+    requires work { work.index < length shop.old.net.transitions }
+    requires due { IsDueOf shop.old.net due.now.rows.items }
+{
+    take_down(alloc, shop, entry, work)?;
+    let dates = dates_at_8(alloc, shop, work)?;
+    Ok((dates, missed_at_8(alloc, shop, due)?))
+}
+
+// The same of the shop that this net is.
+fn seen_at_8(alloc: Global, net: Net) -> Result<([Date; 4], usize), Fail> {
+    let entry = transition_named(&net, "in")?;
+    let work = transition_named(&net, "work")?;
+    let due = due_rows(alloc, &net, b"work,1,2\nwork,2,9\nwork,3,11\nwork,4,14\n")?;
+    let mut shop = open(alloc, net)?;
+    told_at_8(alloc, &mut shop, &due, entry, work)
 }
 
 #[test]
 fn a_late_part_is_seen(rt: HostRuntime) -> Result<(), Fail> {
-    let alloc = rt.alloc();
-    let net = read_net(alloc, NET)?;
-    let due = read_due(alloc, &net, b"work,1,2\nwork,2,9\nwork,3,11\nwork,4,14\n")?;
-    let entry = net.find("in").ok_or("no such transition")?;
-    let work = net.find("work").ok_or("no such transition")?;
-    let mut shop = Dispatcher::new(alloc, LiveNet::new(alloc, net)?)?;
-    shop.fire(alloc, entry, 0)?;
-    shop.fire(alloc, work, 2)?;
-    shop.fire(alloc, entry, 7)?;
-    let rows = shop.outlook(alloc, 8, 4)?;
-    assert!(rt; rows.date(work, 1) == Date::At(2));
-    assert!(rt; rows.date(work, 2) == Date::At(9));
-    assert!(rt; rows.date(work, 3) == Date::At(12));
-    assert!(rt; rows.date(work, 4) == Date::At(15));
-    let missed = shop.missed(alloc, &rows, &due)?;
-    assert!(rt; missed.len() == 2);
+    let (dates, missed) = seen_at_8(rt.alloc(), read(rt.alloc(), NET)?)?;
+    assert!(rt; dates == [Date::At(2), Date::At(9), Date::At(12), Date::At(15)]);
+    assert!(rt; missed == 2);
     Ok(())
 }
 
@@ -80,12 +154,10 @@ place = [
 ]
 ";
 
-#[test]
-fn a_change_is_tried(rt: HostRuntime) -> Result<(), Fail> {
-    let alloc = rt.alloc();
-    let mut held = LiveNet::new(alloc, read_net(alloc, CARDS)?)?;
-    let first = held.net().find_place("ab").ok_or("no such place")?;
-    let second = held.net().find_place("bc").ok_or("no such place")?;
+// The better of two cuts by 1.
+fn best_cut(alloc: Global, held: &LiveNet) -> Result<BestCut, Fail> {
+    let first = place_named(held.net(), "ab")?;
+    let second = place_named(held.net(), "bc")?;
     let cuts = [
         Cut {
             place: first,
@@ -96,16 +168,45 @@ fn a_change_is_tried(rt: HostRuntime) -> Result<(), Fail> {
             less: 1,
         },
     ];
-    let best = best_of(alloc, &held, &cuts)?.ok_or("no cut")?;
-    assert!(rt; best.cut.place == second);
-    assert!(rt; best.pace == Some(Ratio::of(5, 1)));
-    let cards = held.net().find_place("cb").ok_or("no such place")?;
-    assert!(rt; may_add_tokens(&held, cards, 1));
-    let with_a_card = pace_with_tokens(alloc, &held, cards, 1)?;
-    assert!(rt; with_a_card == Some(Ratio::of(5, 1)));
-    let before = held.copy(alloc)?;
-    held.add_tokens(cards, 1);
-    assert!(rt; held.net().place(cards).tokens == 2);
-    assert!(rt; before.net().place(cards).tokens == 1);
+    Ok(best_of(alloc, held, &cuts)?.ok_or("no cut")?)
+}
+
+// The pace with a further card between b and c; none where there may be none.
+fn pace_with_card(alloc: Global, held: &LiveNet) -> Result<Option<Ratio>, Fail> {
+    let cards = place_named(held.net(), "cb")?;
+    if !may_add_tokens(held, cards, 1) {
+        return Ok(None);
+    }
+    Ok(pace_with_tokens(alloc, held, cards, 1)?)
+}
+
+// Lays a further card between b and c in a copy, and tells how many there are then.
+fn with_card(alloc: Global, held: &LiveNet) -> Result<u32, Fail> {
+    let cards = place_named(held.net(), "cb")?;
+    let mut trial = held.copy(alloc)?;
+    if !may_add_tokens(&trial, cards, 1) {
+        return Err(Fail::new("no card may be laid"));
+    }
+    trial.add_tokens(cards, 1);
+    Ok(trial.net().place(cards).tokens)
+}
+
+// Whether the changes come to what was worked out, and the net stays as it is.
+fn is_tried(alloc: Global, held: &LiveNet) -> Result<bool, Fail> {
+    let best = best_cut(alloc, held)?;
+    let pace = Some(Ratio::of(5, 1));
+    Ok(
+        best.cut.place.index() == 2
+            && best.pace == pace
+            && pace_with_card(alloc, held)? == pace
+            && with_card(alloc, held)? == 2
+            && with_card(alloc, held)? == 2,
+    )
+}
+
+#[test]
+fn a_change_is_tried(rt: HostRuntime) -> Result<(), Fail> {
+    let is_tried = is_tried(rt.alloc(), &held(rt.alloc(), CARDS)?);
+    assert!(rt; is_tried?);
     Ok(())
 }

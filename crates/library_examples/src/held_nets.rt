@@ -1,14 +1,13 @@
 //! Nets that are copied, held, changed and asked again, and the checkers of what answers show.
 use dating_certificates::check_rows;
 use dioid::Date;
-use example_nets::LOOP;
+use example_nets::{LOOP, held, place_named, read};
 use scheduler_loop::Scheduler;
 use std::alloc::Global;
 use std::test::Fail;
 use teg_certificates::{check_enough, is_ranking, shows_deadlock, shows_too_few};
 use teg_check::{CheckRefusal, LiveNet};
 use teg_net::{Circuit, Net, PlaceId, Ratio};
-use teg_reader::read_net;
 use teg_sizing::{Sizing, enough_potentials, size};
 
 // An input before a machine.
@@ -19,85 +18,68 @@ place = [
 ]
 ";
 
-/// The loop, held.
-pub fn held_loop(alloc: Global) -> Result<LiveNet, Fail> {
-    Ok(LiveNet::new(alloc, read_net(alloc, LOOP)?)?)
-}
-
-// The place of the loop that has its token.
-fn back() -> PlaceId {
-    PlaceId::new(1)
-}
-
-// Gives a place without ready dates so many tokens.
-fn give(
-    alloc: Global,
-    held: &mut LiveNet,
-    place: PlaceId,
-    tokens: u32,
-) -> Result<(), CheckRefusal> {
-    if 1_000 < tokens || !held.net().contains_place(place) {
-        return Ok(());
+// Gives the place that has the token of the loop so many; it answers the circuit without tokens
+// where that is refused.
+fn give(alloc: Global, held: &mut LiveNet, tokens: u32) -> Result<Option<Circuit>, Fail> {
+    let back = place_named(held.net(), "ba")?;
+    if 1_000 < tokens || !held.net().place(back).ready.as_slice().is_empty() {
+        return Err(Fail::new("other tokens"));
     }
-    if !held.net().place(place).ready.as_slice().is_empty() {
-        return Ok(());
-    }
-    held.set_tokens(alloc, place, tokens)
-}
-
-// The circuit without tokens that refuses the place as many.
-fn circuit_of_refusal(
-    alloc: Global,
-    held: &mut LiveNet,
-    place: PlaceId,
-    tokens: u32,
-) -> Option<Circuit> {
-    match give(alloc, held, place, tokens) {
-        Err(CheckRefusal::TokenFree { circuit }) => Some(circuit),
-        _ => None,
+    match held.set_tokens(alloc, back, tokens) {
+        Ok(()) => Ok(None),
+        Err(CheckRefusal::TokenFree { circuit }) => Ok(Some(circuit)),
+        Err(CheckRefusal::OutOfMemory) => Err(Fail::new("no memory")),
     }
 }
 
-// The tokens of a place.
-fn tokens(net: &Net, place: PlaceId) -> Option<u32> {
-    if net.contains_place(place) {
-        Some(net.place(place).tokens)
-    } else {
-        None
+// How many tokens that place has.
+fn tokens(net: &Net) -> Result<u32, Fail> {
+    let back = place_named(net, "ba")?;
+    Ok(net.place(back).tokens)
+}
+
+// Whether the place of the net that is held takes 2 tokens, and keeps them where 0 are refused.
+fn takes_tokens(alloc: Global, held: &mut LiveNet) -> Result<bool, Fail> {
+    if give(alloc, held, 2)?.is_some() {
+        return Ok(false);
     }
+    let circuit = give(alloc, held, 0)?.ok_or("it is not live")?;
+    Ok(circuit.places.len() == 2 && tokens(held.net())? == 2)
+}
+
+// Whether a copy of its net stays as it is where tokens are changed.
+fn keeps_copy(alloc: Global, held: &mut LiveNet) -> Result<bool, Fail> {
+    let copy = held.net().copy(alloc)?;
+    Ok(takes_tokens(alloc, held)? && tokens(&copy)? == 1)
 }
 
 #[test]
 fn tokens_are_changed_where_the_net_stays_live(rt: HostRuntime) -> Result<(), Fail> {
-    let mut held = held_loop(rt.alloc())?;
-    let copy = held.net().copy(rt.alloc())?;
-    give(rt.alloc(), &mut held, back(), 2)?;
-    let Some(circuit) = circuit_of_refusal(rt.alloc(), &mut held, back(), 0) else {
-        panic!(rt; "without a token the net is not live");
-    };
-    assert!(rt; circuit.places.len() == 2);
-    assert!(rt; tokens(held.net(), back()) == Some(2));
-    assert!(rt; tokens(&copy, back()) == Some(1));
-    assert!(rt; held.into_net().places().len() == 2);
+    let keeps_copy = keeps_copy(rt.alloc(), &mut held(rt.alloc(), LOOP)?);
+    assert!(rt; keeps_copy?);
+    assert!(rt; held(rt.alloc(), LOOP)?.into_net().place_count() == 2);
     Ok(())
 }
 
-#[test]
-fn ranks_and_a_deadlock_are_checked(rt: HostRuntime) -> Result<(), Fail> {
-    let net = read_net(rt.alloc(), LOOP)?;
-    assert!(rt; is_ranking(&net, &[0, 1]));
-    assert!(rt; !is_ranking(&net, &[1, 0]));
-    assert!(rt; !shows_deadlock(&net, &[PlaceId::new(0), PlaceId::new(1)]));
-    Ok(())
-}
-
-#[test]
-fn rows_are_checked(rt: HostRuntime) -> Result<(), Fail> {
-    let net = read_net(rt.alloc(), LOOP)?;
+// Whether these rows and no others are told to be right, ranks too, and that nothing shows a
+// deadlock.
+fn are_checked(alloc: Global, net: &Net) -> Result<bool, Fail> {
+    let (there, back) = (PlaceId::new(0), PlaceId::new(1));
     let rows = [Date::At(0), Date::At(3), Date::At(5), Date::At(8)];
-    assert!(rt; check_rows(rt.alloc(), &net, &rows)?);
     let others = [Date::At(0), Date::At(3), Date::At(5), Date::At(9)];
-    assert!(rt; !check_rows(rt.alloc(), &net, &others)?);
+    Ok(
+        is_ranking(net, &[0, 1])
+            && !is_ranking(net, &[1, 0])
+            && !shows_deadlock(net, &[there, back])
+            && check_rows(alloc, net, &rows)?
+            && !check_rows(alloc, net, &others)?,
+    )
+}
+
+#[test]
+fn ranks_a_deadlock_and_rows_are_checked(rt: HostRuntime) -> Result<(), Fail> {
+    let are_checked = are_checked(rt.alloc(), &read(rt.alloc(), LOOP)?);
+    assert!(rt; are_checked?);
     Ok(())
 }
 
@@ -105,7 +87,7 @@ fn rows_are_checked(rt: HostRuntime) -> Result<(), Fail> {
 // too few for, and potentials that show that so many are enough.
 fn further(alloc: Global, held: &LiveNet) -> Result<Option<(u64, Circuit, Vec<i128>)>, Fail> {
     let (net, target) = (held.net(), Ratio::of(2, 1));
-    let place = net.find_place("ba").ok_or("no such place")?;
+    let place = place_named(net, "ba")?;
     match size(alloc, net, held.live(), place, &target)? {
         Sizing::Enough {
             extra,
@@ -118,20 +100,29 @@ fn further(alloc: Global, held: &LiveNet) -> Result<Option<(u64, Circuit, Vec<i1
     }
 }
 
+// Whether what was found shows that 2 more are enough, and one too few.
+fn is_shown(net: &Net, circuit: &Circuit, potentials: &[i128]) -> bool {
+    let (back, target) = (PlaceId::new(1), Ratio::of(2, 1));
+    shows_too_few(net, &target, back, 1, &circuit.places)
+        && !shows_too_few(net, &target, back, 2, &circuit.places)
+        && check_enough(net, &target, back, 2, potentials)
+        && !check_enough(net, &target, back, 1, potentials)
+}
+
+// Whether 2 more are told to be enough, and shown to be.
+fn is_sized(alloc: Global, held: &LiveNet) -> Result<bool, Fail> {
+    Ok(match further(alloc, held)? {
+        Some((extra, circuit, potentials)) => {
+            extra == 2 && is_shown(held.net(), &circuit, &potentials)
+        }
+        None => false,
+    })
+}
+
 #[test]
 fn further_tokens_are_checked(rt: HostRuntime) -> Result<(), Fail> {
-    let held = held_loop(rt.alloc())?;
-    let target = Ratio::of(2, 1);
-    let Some((extra, circuit, potentials)) = further(rt.alloc(), &held)? else {
-        panic!(rt; "one token is too few");
-    };
-    assert!(rt; extra == 2);
-    for (extra, is_enough) in [(1, false), (2, true)] {
-        let is_less = shows_too_few(held.net(), &target, back(), extra, &circuit.places);
-        assert!(rt; is_less != is_enough, "{extra}");
-        let is_shown = check_enough(held.net(), &target, back(), extra, &potentials);
-        assert!(rt; is_shown == is_enough, "{extra}");
-    }
+    let is_sized = is_sized(rt.alloc(), &held(rt.alloc(), LOOP)?);
+    assert!(rt; is_sized?);
     Ok(())
 }
 
@@ -143,15 +134,31 @@ fn has_pace(alloc: Global, scheduler: &Scheduler, time: u64) -> Result<bool, Fai
     })
 }
 
+// Whether the place of this name takes this holding time.
+fn takes(scheduler: &mut Scheduler, place: &str, hold: u64) -> bool {
+    scheduler.set_hold(place, hold).is_ok()
+}
+
+// How many firings a plan for work that is due at 12 has.
+fn planned(alloc: Global, scheduler: &Scheduler) -> Result<u32, Fail> {
+    Ok(scheduler.latest(alloc, b"work,2,12\n")?.numbers())
+}
+
+// Whether the service takes another holding time of the machine, and of no other.
+fn is_asked_again(alloc: Global, scheduler: &mut Scheduler) -> Result<bool, Fail> {
+    Ok(
+        has_pace(alloc, scheduler, 3)?
+            && takes(scheduler, "busy", 5)
+            && has_pace(alloc, scheduler, 5)?
+            && !takes(scheduler, "none", 5)
+            && !takes(scheduler, "busy", 1_000_000_001)
+            && planned(alloc, scheduler)? == 2,
+    )
+}
+
 #[test]
 fn a_service_is_asked_again(rt: HostRuntime) -> Result<(), Fail> {
-    let mut scheduler = Scheduler::new(rt.alloc(), LINE)?;
-    assert!(rt; has_pace(rt.alloc(), &scheduler, 3)?);
-    scheduler.set_hold("busy", 5)?;
-    assert!(rt; has_pace(rt.alloc(), &scheduler, 5)?);
-    assert!(rt; scheduler.set_hold("none", 5).is_err());
-    assert!(rt; scheduler.set_hold("busy", 1_000_000_001).is_err());
-    let plan = scheduler.latest(rt.alloc(), b"work,2,12\n")?;
-    assert!(rt; plan.numbers() == 2);
+    let is_right = is_asked_again(rt.alloc(), &mut Scheduler::new(rt.alloc(), LINE)?);
+    assert!(rt; is_right?);
     Ok(())
 }

@@ -21,6 +21,8 @@ mod chapters_states;
 #[cfg(test)]
 mod held_nets;
 #[cfg(test)]
+mod left_nets;
+#[cfg(test)]
 mod lines_alone;
 #[cfg(test)]
 mod made_nets;

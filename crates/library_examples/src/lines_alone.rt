@@ -1,15 +1,14 @@
 //! The texts of cycle times and of a circuit without tokens, written on `teg_lines` without the
 //! other crates of answers.
-use crate::held_nets::held_loop;
+use example_nets::{LOOP, held, read};
 use std::alloc::Global;
 use std::test::Fail;
 use teg_certificates::check_cycle;
-use teg_check::{CheckRefusal, LiveNet};
+use teg_check::{CheckRefusal, LiveNet, NotHeld};
 use teg_cycle::cycle;
 use teg_lines::{certificates_can_be_told, cycle_text, token_free_text};
-use teg_net::{Circuit, CycleAnswer, Net, OutOfMemory, is_circuit};
+use teg_net::{CycleAnswer, Net, OutOfMemory, is_circuit};
 use teg_parts::split;
-use teg_reader::read_net;
 
 // Two transitions that follow each other by 3 and by 2, without a token.
 const STUCK: &[u8] = b"transition = [{name = 'a'}, {name = 'b'}]
@@ -35,34 +34,36 @@ fn told(alloc: Global, net: &Net, answer: &CycleAnswer) -> Result<Vec<u8>, OutOf
     }
 }
 
-// The text of a circuit of the net; of other places nothing.
-fn told_circuit(alloc: Global, net: &Net, circuit: &Circuit) -> Result<Vec<u8>, OutOfMemory> {
-    if is_circuit(net, &circuit.places) {
-        token_free_text(alloc, net, circuit)
-    } else {
-        Ok(Vec::new(alloc))
+// The text of the circuit of the refusal; of another refusal nothing.
+fn told_refusal(alloc: Global, refused: &NotHeld) -> Result<Vec<u8>, OutOfMemory> {
+    match &refused.refusal {
+        CheckRefusal::TokenFree { circuit } if is_circuit(&refused.net, &circuit.places) => {
+            token_free_text(alloc, &refused.net, circuit)
+        }
+        _ => Ok(Vec::new(alloc)),
+    }
+}
+
+// The text of the cycle times of a net that is held.
+fn cycle_times(alloc: Global, held: &LiveNet) -> Result<Vec<u8>, OutOfMemory> {
+    let answer = answer_of(alloc, held)?;
+    told(alloc, held.net(), &answer)
+}
+
+// The text of why a net is not held; nothing where it is.
+fn refused(alloc: Global, net: Net) -> Result<Vec<u8>, OutOfMemory> {
+    match LiveNet::new(alloc, net) {
+        Ok(_) => Ok(Vec::new(alloc)),
+        Err(refused) => told_refusal(alloc, &refused),
     }
 }
 
 #[test]
-fn cycle_times_are_told(rt: HostRuntime) -> Result<(), Fail> {
-    let held = held_loop(rt.alloc())?;
-    let answer = answer_of(rt.alloc(), &held)?;
-    let text = told(rt.alloc(), held.net(), &answer)?;
-    assert!(rt; !text.as_slice().is_empty());
-    Ok(())
-}
-
-#[test]
-fn a_circuit_without_tokens_is_told(rt: HostRuntime) -> Result<(), Fail> {
-    let Err(refused) = LiveNet::new(rt.alloc(), read_net(rt.alloc(), STUCK)?) else {
-        panic!(rt; "without a token the net is not live");
-    };
-    let CheckRefusal::TokenFree { circuit } = &refused.refusal else {
-        panic!(rt; "memory is found");
-    };
-    let text = told_circuit(rt.alloc(), &refused.net, circuit)?;
-    let wanted = "refused: token-free circuit ab ba\n";
-    assert!(rt; text.as_slice() == wanted.as_bytes());
+fn cycle_times_and_a_circuit_without_tokens_are_told(rt: HostRuntime) -> Result<(), Fail> {
+    let alloc = rt.alloc();
+    let text = cycle_times(alloc, &held(alloc, LOOP)?);
+    assert!(rt; text?.starts_with(b"cycle time 5/1\ncircuit ab ba\n"));
+    let text = refused(alloc, read(alloc, STUCK)?);
+    assert!(rt; text?.as_slice() == b"refused: token-free circuit ab ba\n".as_slice());
     Ok(())
 }

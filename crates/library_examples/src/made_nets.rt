@@ -1,7 +1,7 @@
 //! Nets that a program makes from lists of its own: names that are looked up, and rows that are
 //! tested. The rules that lists may break are told in `net_examples`.
 use example_nets::{place, transitions};
-use std::alloc::{AllocError, Global};
+use std::alloc::Global;
 use std::test::Fail;
 use teg_due::{Due, DueRow, LogRow, is_due_of, is_log_of};
 use teg_net::{Names, Net, Place, PlaceEnd, PlaceId, PlacesOf, Ratio, TransitionId, is_net};
@@ -21,57 +21,77 @@ fn net_of(alloc: Global, ends: &[(&str, u32, u32)]) -> Result<Net, Fail> {
     Ok(Net::checked(transitions(alloc)?, places, Vec::new(alloc))?)
 }
 
+// Whether the lists of an input and a machine with a place of its own are those of a net.
+fn are_lists_of_a_net(alloc: Global) -> Result<bool, Fail> {
+    let places = places_of(alloc, &[("busy", 1, 1)])?;
+    Ok(is_net(&transitions(alloc)?, &places, &[]))
+}
+
+// The name of the first transition of a net, a ratio, and how many places it has, as they are
+// written.
+fn written(alloc: Global, net: &Net) -> Result<String, Fail> {
+    let first = net.transitions().first().ok_or("no transition")?;
+    let places = net.places().len();
+    Ok(format!(in alloc; "{} {} {places}", first.name, Ratio::of(6, 4))?)
+}
+
 #[test]
 fn lists_become_a_net(rt: HostRuntime) -> Result<(), Fail> {
-    let alloc = rt.alloc();
-    let places = places_of(alloc, &[("busy", 1, 1)])?;
-    let lists = transitions(alloc)?;
-    assert!(rt; is_net(&lists, &places, &[]));
-    let net = Net::checked(lists, places, Vec::new(alloc))?;
-    assert!(rt; net.places().len() == 1);
+    assert!(rt; are_lists_of_a_net(rt.alloc())?);
+    let line = written(rt.alloc(), &net_of(rt.alloc(), &[("busy", 1, 1)])?);
+    assert!(rt; line?.as_str() == "in 3/2 1");
     Ok(())
 }
 
-#[test]
-fn names_are_looked_up(rt: HostRuntime) -> Result<(), Fail> {
-    let alloc = rt.alloc();
-    let mut net = net_of(alloc, &[("belt", 0, 1), ("busy", 1, 1)])?;
-    let names = Names::of(alloc, &net)?;
-    if net.contains_place(PlaceId::new(1)) {
-        net.set_hold(PlaceId::new(1), 7);
-    }
-    for (name, transition, place) in [
-        ("work", Some(TransitionId::new(1)), None),
-        ("busy", None, Some(PlaceId::new(1))),
-        ("", None, None),
-    ] {
-        assert!(rt; names.transition(name) == transition, "{name}");
-        assert!(rt; names.place(name) == place, "{name}");
-    }
-    Ok(())
+// The transition and the place of this name.
+fn named(names: &Names, name: &str) -> (Option<TransitionId>, Option<PlaceId>) {
+    (names.transition(name), names.place(name))
 }
 
-#[test]
-fn names_and_ratios_are_written(rt: HostRuntime) -> Result<(), Fail> {
-    let lists = transitions(rt.alloc())?;
-    let first = lists.first().ok_or("no transition")?;
-    let line = format!(in rt.alloc(); "{} {}", first.name, Ratio::of(6, 4))?;
-    assert!(rt; line.as_str() == "in 3/2");
-    Ok(())
-}
-
-#[test]
-fn places_stand_by_their_ends(rt: HostRuntime) -> Result<(), Fail> {
-    let alloc = rt.alloc();
-    let net = net_of(alloc, &[("belt", 0, 1), ("busy", 1, 1), ("side", 0, 1)])?;
-    assert!(rt; net.place_count() == 3);
-    let leaving = PlacesOf::new(alloc, &net, PlaceEnd::From)?;
-    let entering = PlacesOf::new(alloc, &net, PlaceEnd::To)?;
+// How many places stand at each transition by this end.
+fn counts(alloc: Global, net: &Net, end: PlaceEnd) -> Result<Vec<usize>, Fail> {
+    let places = PlacesOf::new(alloc, net, end)?;
+    let mut counts = Vec::new(alloc);
     for index in 0..net.transition_count() {
-        let id = TransitionId::new(index);
-        let expected = if index == 0 { (2, 0) } else { (1, 3) };
-        assert!(rt; (leaving.of(id).len(), entering.of(id).len()) == expected);
+        counts.push(places.of(TransitionId::new(index)).len())?;
     }
+    Ok(counts)
+}
+
+// Whether the names of the net are looked up, which stay where a holding time is changed.
+fn has_names(alloc: Global, net: &mut Net) -> Result<bool, Fail> {
+    let names = Names::of(alloc, net)?;
+    let (work, busy) = (TransitionId::new(1), PlaceId::new(1));
+    if net.contains_place(busy) {
+        net.set_hold(busy, 7);
+    }
+    Ok(
+        named(&names, "work") == (Some(work), None)
+            && named(&names, "busy") == (None, Some(busy))
+            && named(&names, "") == (None, None),
+    )
+}
+
+// Whether so many places stand at the two transitions of the net by this end.
+fn has_counts(alloc: Global, net: &Net, end: PlaceEnd, wanted: &[usize]) -> Result<bool, Fail> {
+    Ok(counts(alloc, net, end)?.as_slice() == wanted)
+}
+
+// Whether names and ends of the net are looked up.
+fn is_looked_up(alloc: Global, net: &mut Net) -> Result<bool, Fail> {
+    Ok(
+        has_names(alloc, net)?
+            && net.place_count() == 3
+            && has_counts(alloc, net, PlaceEnd::From, &[2, 1])?
+            && has_counts(alloc, net, PlaceEnd::To, &[0, 3])?,
+    )
+}
+
+#[test]
+fn names_and_ends_are_looked_up(rt: HostRuntime) -> Result<(), Fail> {
+    let ends = [("belt", 0, 1), ("busy", 1, 1), ("side", 0, 1)];
+    let is_right = is_looked_up(rt.alloc(), &mut net_of(rt.alloc(), &ends)?);
+    assert!(rt; is_right?);
     Ok(())
 }
 
@@ -86,29 +106,23 @@ fn due_row(row: (u32, u32, u64)) -> DueRow {
     }
 }
 
-// Two rows that are due.
-fn dues(alloc: Global, first: DueRow, second: DueRow) -> Result<Due, AllocError> {
-    let rows = vec![in alloc; first, second]?;
-    Ok(Due { rows })
+// Whether a due row of this transition, number and date may stand beside one of the machine's
+// first firing.
+fn may_be_due(alloc: Global, net: &Net, row: (u32, u32, u64)) -> Result<bool, Fail> {
+    let rows = vec![in alloc; due_row((1, 1, 5)), due_row(row)]?;
+    Ok(is_due_of(net, &Due { rows }))
 }
 
-#[test]
-fn due_rows_of_a_program_are_tested(rt: HostRuntime) -> Result<(), Fail> {
-    let net = net_of(rt.alloc(), &[])?;
-    for (first, second, is_right) in [
-        ((1, 1, 5), (1, 2, 5), true),
-        ((1, 1, 5), (1, 1, 6), false),
-        ((1, 1, 5), (0, 1, 5), false),
-        ((1, 1, 5), (2, 1, 5), false),
-        ((1, 0, 5), (1, 2, 5), false),
-        ((1, 1, 5), (1, 10_001, 5), false),
-        ((1, 1, 5), (1, 2, 1_000_000_000_001), false),
-    ] {
-        let due = dues(rt.alloc(), due_row(first), due_row(second))?;
-        assert!(rt; is_due_of(&net, &due) == is_right, "{first:?} {second:?}");
-    }
-    Ok(())
-}
+// Such rows, and whether they may.
+const DUES: [((u32, u32, u64), bool); 7] = [
+    ((1, 2, 5), true),
+    ((1, 1, 6), false),
+    ((0, 1, 5), false),
+    ((2, 1, 5), false),
+    ((1, 0, 5), false),
+    ((1, 10_001, 5), false),
+    ((1, 2, 1_000_000_000_001), false),
+];
 
 // A row of a log, of this transition and date.
 fn log_row(transition: u32, date: u64) -> LogRow {
@@ -119,16 +133,39 @@ fn log_row(transition: u32, date: u64) -> LogRow {
     }
 }
 
-#[test]
-fn rows_of_a_log_are_tested(rt: HostRuntime) -> Result<(), Fail> {
-    let net = net_of(rt.alloc(), &[])?;
-    for (transition, date, is_right) in [
-        (1, 4, true),
-        (2, 5, false),
-        (1, 1_000_000_000_000_000_001, false),
-    ] {
-        let rows = [log_row(0, 5), log_row(transition, date)];
-        assert!(rt; is_log_of(&net, &rows) == is_right, "{transition} {date}");
+// Transitions and dates of a row behind one of the input at 5, and whether it is one of a log.
+const LOGS: [(u32, u64, bool); 3] = [
+    (1, 4, true),
+    (2, 5, false),
+    (1, 1_000_000_000_000_000_001, false),
+];
+
+// The row of `DUES` that is told otherwise.
+fn wrong_due(alloc: Global, net: &Net) -> Result<Option<usize>, Fail> {
+    for (number, (row, is_right)) in DUES.iter().enumerate() {
+        if may_be_due(alloc, net, *row)? != *is_right {
+            return Ok(Some(number));
+        }
     }
+    Ok(None)
+}
+
+// The row of `LOGS` that is told otherwise.
+fn wrong_log(net: &Net) -> Option<usize> {
+    for (number, (transition, date, is_right)) in LOGS.iter().enumerate() {
+        let rows = [log_row(0, 5), log_row(*transition, *date)];
+        if is_log_of(net, &rows) != *is_right {
+            return Some(number);
+        }
+    }
+    None
+}
+
+#[test]
+fn rows_of_a_program_are_tested(rt: HostRuntime) -> Result<(), Fail> {
+    let alloc = rt.alloc();
+    let due = wrong_due(alloc, &net_of(alloc, &[])?);
+    assert!(rt; due?.is_none());
+    assert!(rt; wrong_log(&net_of(alloc, &[])?).is_none());
     Ok(())
 }

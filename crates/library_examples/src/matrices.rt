@@ -2,6 +2,7 @@
 use dioid::{Date, Dioid, Flag, Kleene, Residuated};
 use dioid_matrix::{Matrix, MatrixRefused};
 use std::alloc::Global;
+use std::test::Fail;
 
 // Whether these are the entries of the matrix, by rows.
 fn holds<D: Dioid>(matrix: &Matrix<D>, wanted: &[D]) -> bool {
@@ -45,31 +46,13 @@ fn solves<D: Kleene>(alloc: Global, a: &Matrix<D>, b: &Matrix<D>, star: &[D], le
 }
 
 /// The square of four entries.
-pub fn square<D: Dioid + Copy>(alloc: Global, entries: &[D; 4]) -> Option<Matrix<D>> {
-    let entries = Vec::from_slice(alloc, entries).ok()?;
-    Matrix::new(2, 2, entries).ok()
+pub fn square<D: Dioid + Copy>(alloc: Global, entries: &[D; 4]) -> Result<Matrix<D>, Fail> {
+    Ok(Matrix::new(2, 2, Vec::from_slice(alloc, entries)?)?)
 }
 
 // The column of two entries.
-fn column<D: Dioid + Copy>(alloc: Global, entries: &[D; 2]) -> Option<Matrix<D>> {
-    let entries = Vec::from_slice(alloc, entries).ok()?;
-    Matrix::new(2, 1, entries).ok()
-}
-
-#[test]
-fn flags_through_the_bounds(rt: HostRuntime) {
-    let alloc = rt.alloc();
-    let (no, yes) = (Flag::No, Flag::Yes);
-    let (a, b) = (square(alloc, &[no, yes, no, no]), column(alloc, &[no, yes]));
-    let is_right = match (a, b) {
-        (Some(a), Some(b)) => {
-            is(a.plus(alloc, &a), &[no, yes, no, no])
-                && multiplies(alloc, &a, &b, &[yes, no], &[yes, no])
-                && solves(alloc, &a, &b, &[yes, yes, no, yes], &[yes, yes])
-        }
-        _ => false,
-    };
-    assert!(rt; is_right);
+fn column<D: Dioid + Copy>(alloc: Global, entries: &[D; 2]) -> Result<Matrix<D>, Fail> {
+    Ok(Matrix::new(2, 1, Vec::from_slice(alloc, entries)?)?)
 }
 
 // The date at this time.
@@ -78,37 +61,29 @@ fn at(time: i64) -> Date {
 }
 
 #[test]
-fn dates_through_the_bounds(rt: HostRuntime) {
+fn flags_and_dates_through_the_bounds(rt: HostRuntime) -> Result<(), Fail> {
     let alloc = rt.alloc();
-    let early = Date::Early;
+    let (no, yes) = (Flag::No, Flag::Yes);
     let (a, b) = (
-        square(alloc, &[early, at(2), at(-3), early]),
-        column(alloc, &[at(0), at(10)]),
+        square(alloc, &[no, yes, no, no])?,
+        column(alloc, &[no, yes])?,
     );
-    let is_right = match (a, b) {
-        (Some(a), Some(b)) => {
-            is(b.plus(alloc, &b), &[at(0), at(10)])
-                && multiplies(alloc, &a, &b, &[at(12), at(-3)], &[at(13), at(-2)])
-                && solves(
-                    alloc,
-                    &a,
-                    &b,
-                    &[at(0), at(2), at(-3), at(0)],
-                    &[at(12), at(10)],
-                )
-        }
-        _ => false,
-    };
-    assert!(rt; is_right);
+    assert!(rt; is(a.plus(alloc, &a), &[no, yes, no, no]));
+    assert!(rt; multiplies(alloc, &a, &b, &[yes, no], &[yes, no]));
+    assert!(rt; solves(alloc, &a, &b, &[yes, yes, no, yes], &[yes, yes]));
+    let early = Date::Early;
+    let a = square(alloc, &[early, at(2), at(-3), early])?;
+    let b = column(alloc, &[at(0), at(10)])?;
+    assert!(rt; is(b.plus(alloc, &b), &[at(0), at(10)]));
+    assert!(rt; multiplies(alloc, &a, &b, &[at(12), at(-3)], &[at(13), at(-2)]));
+    let star = [at(0), at(2), at(-3), at(0)];
+    assert!(rt; solves(alloc, &a, &b, &star, &[at(12), at(10)]));
+    Ok(())
 }
 
 // The flag `Yes` so many times.
-fn many(alloc: Global, count: usize) -> Option<Vec<Flag>> {
-    let mut entries = Vec::new(alloc);
-    for _place in 0..count {
-        entries.push(Flag::Yes).ok()?;
-    }
-    Some(entries)
+fn many(alloc: Global, count: usize) -> Result<Vec<Flag>, Fail> {
+    Ok(vec![in alloc; Flag::Yes; count]?)
 }
 
 // Whether the answer is a matrix of this many rows whose entries are all `Yes`.
@@ -127,29 +102,23 @@ fn is_full(answer: Result<Matrix<Flag>, MatrixRefused>, rows: usize) -> bool {
 }
 
 #[test]
-fn matrices_of_the_greatest_sizes(rt: HostRuntime) {
+fn matrices_of_the_greatest_sizes(rt: HostRuntime) -> Result<(), Fail> {
     let alloc = rt.alloc();
-    let (Some(high), Some(wide)) = (many(alloc, 4096), many(alloc, 4096)) else {
-        panic!(rt; "memory is found");
-    };
-    let (Ok(column), Ok(row)) = (Matrix::new(4096, 1, high), Matrix::new(1, 4096, wide)) else {
-        panic!(rt; "they are matrices");
-    };
+    let column = Matrix::new(4096, 1, many(alloc, 4096)?)?;
+    let row = Matrix::new(1, 4096, many(alloc, 4096)?)?;
     assert!(rt; is_full(column.plus(alloc, &column), 4096));
     assert!(rt; is_full(row.times(alloc, &column), 1));
     assert!(rt; is_full(column.times(alloc, &row), 4096));
     assert!(rt; is_full(column.left_residual(alloc, &column), 1));
+    Ok(())
 }
 
 #[test]
-fn stars_of_long_rows(rt: HostRuntime) {
+fn stars_of_long_rows(rt: HostRuntime) -> Result<(), Fail> {
     let alloc = rt.alloc();
-    let (Some(all), Some(few)) = (many(alloc, 10_000), many(alloc, 100)) else {
-        panic!(rt; "memory is found");
-    };
-    let (Ok(square), Ok(right)) = (Matrix::new(100, 100, all), Matrix::new(100, 1, few)) else {
-        panic!(rt; "they are matrices");
-    };
+    let square = Matrix::new(100, 100, many(alloc, 10_000)?)?;
+    let right = Matrix::new(100, 1, many(alloc, 100)?)?;
     assert!(rt; is_full(square.star(alloc), 100));
     assert!(rt; is_full(square.solve_least(alloc, &right), 100));
+    Ok(())
 }

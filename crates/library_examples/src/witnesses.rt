@@ -1,17 +1,15 @@
 //! Answers of the guide, checked by what they print alone; with one digit changed they show
 //! nothing.
-use example_nets::SHOP;
+use example_nets::{SHOP, due_rows, read};
 use std::alloc::Global;
 use std::test::Fail;
-use teg_due::read_due;
-use teg_net::{PlaceId, Ratio, TransitionId};
-use teg_reader::read_net;
+use teg_net::{Net, PlaceId, Ratio, TransitionId};
 use witness_check::{
     ShownLate, ShownLatest, ShownSize, shown_late, shown_latest, shown_pace, shown_size,
     shows_deadlock, shows_live,
 };
 
-const LINE: &str = "transition = [{ name = \"cut\" }, { name = \"drill\" }, { name = \"paint\" }]
+const LINE: &[u8] = b"transition = [{ name = \"cut\" }, { name = \"drill\" }, { name = \"paint\" }]
 place = [
  { name = \"cut_free\", from = \"cut\", to = \"cut\", hold = 4, tokens = 1 },
  { name = \"drill_free\", from = \"drill\", to = \"drill\", hold = 7, tokens = 1 },
@@ -23,7 +21,7 @@ place = [
 ]
 ";
 
-const NO_CARDS: &str = "transition = [{ name = \"a\" }, { name = \"b\" }]
+const NO_CARDS: &[u8] = b"transition = [{ name = \"a\" }, { name = \"b\" }]
 place = [
  { name = \"parts\", from = \"a\", to = \"b\", hold = 3 },
  { name = \"cards\", from = \"b\", to = \"a\", hold = 1 },
@@ -77,59 +75,57 @@ potential paint 8
 
 // The cycle time that the text shows of the line.
 fn pace_shown(alloc: Global, text: &str) -> Result<Option<Ratio>, Fail> {
-    let net = read_net(alloc, LINE.as_bytes())?;
-    Ok(shown_pace(alloc, &net, text)?)
+    let shown = shown_pace(alloc, &read(alloc, LINE)?, text);
+    Ok(shown?)
 }
 
 #[test]
 fn a_pace_is_shown(rt: HostRuntime) -> Result<(), Fail> {
-    for (text, pace) in [
-        (PACE, Some(Ratio::of(8, 1))),
-        (SLOWER, None),
-        (LIFTED, None),
-    ] {
-        assert!(rt; pace_shown(rt.alloc(), text)? == pace, "{text}");
-    }
+    assert!(rt; pace_shown(rt.alloc(), PACE)? == Some(Ratio::of(8, 1)));
+    assert!(rt; pace_shown(rt.alloc(), SLOWER)?.is_none());
+    assert!(rt; pace_shown(rt.alloc(), LIFTED)?.is_none());
     Ok(())
 }
 
-// Whether the text shows that the net of the file is live.
-fn live_shown(alloc: Global, file: &str, text: &str) -> Result<bool, Fail> {
-    let net = read_net(alloc, file.as_bytes())?;
-    Ok(shows_live(alloc, &net, text)?)
+// Whether the text shows that the net is live, and whether that it is not.
+fn life_shown(alloc: Global, net: &Net, text: &str) -> Result<(bool, bool), Fail> {
+    let is_live = shows_live(alloc, net, text)?;
+    Ok((is_live, shows_deadlock(alloc, net, text)?))
 }
 
-// Whether the text shows that the net of the file is not live.
-fn deadlock_shown(alloc: Global, file: &str, text: &str) -> Result<bool, Fail> {
-    let net = read_net(alloc, file.as_bytes())?;
-    Ok(shows_deadlock(alloc, &net, text)?)
-}
+// Nets, texts, and whether these show that the net is live, and that it is not.
+const LIVES: [(&[u8], &str, bool, bool); 5] = [
+    (LINE, "live\ntransitions 3\nplaces 7\n", true, false),
+    (LINE, "live\ntransitions 3\nplaces 6\n", false, false),
+    (NO_CARDS, "live\ntransitions 2\nplaces 2\n", false, false),
+    (
+        NO_CARDS,
+        "refused: token-free circuit parts cards\n",
+        false,
+        true,
+    ),
+    (
+        NO_CARDS,
+        "refused: token-free circuit parts\n",
+        false,
+        false,
+    ),
+];
 
 #[test]
 fn it_is_shown_whether_a_net_is_live(rt: HostRuntime) -> Result<(), Fail> {
-    for (file, text, is_shown) in [
-        (LINE, "live\ntransitions 3\nplaces 7\n", true),
-        (LINE, "live\ntransitions 3\nplaces 6\n", false),
-        (NO_CARDS, "live\ntransitions 2\nplaces 2\n", false),
-    ] {
-        assert!(rt; live_shown(rt.alloc(), file, text)? == is_shown, "{text}");
-    }
-    for (text, is_shown) in [
-        ("refused: token-free circuit parts cards\n", true),
-        ("refused: token-free circuit parts\n", false),
-    ] {
-        assert!(rt;
-            deadlock_shown(rt.alloc(), NO_CARDS, text)? == is_shown,
-            "{text}"
-        );
+    let alloc = rt.alloc();
+    for (file, text, is_live, is_dead) in &LIVES {
+        let shown = life_shown(alloc, &read(alloc, file)?, text);
+        assert!(rt; shown? == (*is_live, *is_dead), "{text}");
     }
     Ok(())
 }
 
 // What the text shows of the size of a place of the line.
 fn size_shown(alloc: Global, text: &str) -> Result<Option<ShownSize>, Fail> {
-    let net = read_net(alloc, LINE.as_bytes())?;
-    Ok(shown_size(alloc, &net, text)?)
+    let shown = shown_size(alloc, &read(alloc, LINE)?, text);
+    Ok(shown?)
 }
 
 // So many further tokens of `paint_room` for a cycle time of so much.
@@ -141,66 +137,74 @@ fn enough(time: u64, extra: u64) -> Option<ShownSize> {
     })
 }
 
+// Texts that show nothing of it: of one too many, of a target that more tokens reach alone, of a
+// circuit to which they come.
+const NO_SIZES: [&str; 3] = [
+    "size paint_room 7/1 extra 2\ncircuit to_paint paint_room\n",
+    "size paint_room 7/1 extra 0\n",
+    "size paint_room 6/1 impossible\ncircuit to_paint paint_room\n",
+];
+
 #[test]
 fn sizes_are_shown(rt: HostRuntime) -> Result<(), Fail> {
-    let impossible = Some(ShownSize::Impossible {
+    let alloc = rt.alloc();
+    let more = "size paint_room 7/1 extra 1\ncircuit to_paint paint_room\n";
+    assert!(rt; size_shown(alloc, more)? == enough(7, 1));
+    assert!(rt; size_shown(alloc, "size paint_room 8/1 extra 0\n")? == enough(8, 0));
+    let never = Some(ShownSize::Impossible {
         place: PlaceId::new(6),
         target: Ratio::of(6, 1),
     });
-    for (text, shown) in [
-        (
-            "size paint_room 7/1 extra 1\ncircuit to_paint paint_room\n",
-            enough(7, 1),
-        ),
-        (
-            "size paint_room 7/1 extra 2\ncircuit to_paint paint_room\n",
-            None,
-        ),
-        ("size paint_room 7/1 extra 0\n", None),
-        ("size paint_room 8/1 extra 0\n", enough(8, 0)),
-        (
-            "size paint_room 6/1 impossible\ncircuit drill_free\n",
-            impossible,
-        ),
-        (
-            "size paint_room 6/1 impossible\ncircuit to_paint paint_room\n",
-            None,
-        ),
-    ] {
-        assert!(rt; size_shown(rt.alloc(), text)? == shown, "{text}");
+    let text = "size paint_room 6/1 impossible\ncircuit drill_free\n";
+    assert!(rt; size_shown(alloc, text)? == never);
+    for text in &NO_SIZES {
+        assert!(rt; size_shown(alloc, text)?.is_none(), "{text}");
     }
     Ok(())
 }
 
-// What the line shows by the plan and this row of the due file.
-fn latest_shown(alloc: Global, row: usize, line: &str) -> Result<Option<ShownLatest>, Fail> {
-    let net = read_net(alloc, SHOP)?;
-    let due = read_due(alloc, &net, b"ship,2,40\ndrill,3,36\n")?;
-    let asked = due.rows.get(row).ok_or("no such row")?;
-    Ok(shown_latest(alloc, &net, asked, line, PLAN)?)
+// What the line shows of the shop by the plan and this row of the due file.
+fn latest_shown(
+    alloc: Global,
+    shop: &Net,
+    row: usize,
+    line: &str,
+) -> Result<Option<ShownLatest>, Fail> {
+    let due = due_rows(alloc, shop, b"ship,2,40\ndrill,3,36\n")?;
+    match due.rows.get(row) {
+        Some(asked) => Ok(shown_latest(alloc, shop, asked, line, PLAN)?),
+        None => Ok(None),
+    }
 }
 
-// That the first firing of this transition comes at this date at the latest.
-fn first(transition: u32, date: u64) -> Option<ShownLatest> {
-    Some(ShownLatest {
-        transition: TransitionId::new(transition),
-        number: 1,
-        date,
-    })
-}
+// That the first part comes in at 15 at the latest.
+const MATERIAL: ShownLatest = ShownLatest {
+    transition: TransitionId { index: 0 },
+    number: 1,
+    date: 15,
+};
+
+// That the first part is shipped at 40 at the latest.
+const SHIP: ShownLatest = ShownLatest {
+    transition: TransitionId { index: 3 },
+    number: 1,
+    date: 40,
+};
+
+// Rows of the due file, lines, and what these show.
+const LATEST: [(usize, &str, Option<ShownLatest>); 4] = [
+    (1, "input material 1 15 by feed\n", Some(MATERIAL)),
+    (1, "input material 1 14 by feed\n", None),
+    (0, "input material 1 15 by feed\n", None),
+    (0, "latest ship 1 40 next\n", Some(SHIP)),
+];
 
 #[test]
 fn latest_dates_are_shown(rt: HostRuntime) -> Result<(), Fail> {
-    for (row, line, shown) in [
-        (1, "input material 1 15 by feed\n", first(0, 15)),
-        (1, "input material 1 14 by feed\n", None),
-        (0, "input material 1 15 by feed\n", None),
-        (0, "latest ship 1 40 next\n", first(3, 40)),
-    ] {
-        assert!(rt;
-            latest_shown(rt.alloc(), row, line)? == shown,
-            "{row} {line}"
-        );
+    let alloc = rt.alloc();
+    for (row, line, wanted) in &LATEST {
+        let shown = latest_shown(alloc, &read(alloc, SHOP)?, *row, line);
+        assert!(rt; shown? == *wanted, "{row} {line}");
     }
     Ok(())
 }
@@ -216,8 +220,8 @@ path material 1 by feed saw 1 by to_drill drill 1 by drill_free drill 2 by to_sh
 
 // The firing of the shop that the text shows to be late.
 fn late_shown(alloc: Global, text: &str) -> Result<Option<ShownLate>, Fail> {
-    let net = read_net(alloc, SHOP)?;
-    Ok(shown_late(alloc, &net, text)?)
+    let shown = shown_late(alloc, &read(alloc, SHOP)?, text);
+    Ok(shown?)
 }
 
 #[test]

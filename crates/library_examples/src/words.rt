@@ -19,25 +19,25 @@ fn reads(alloc: Global, dates: &[Date], label: &str, wanted: &str) -> bool {
     }
 }
 
-#[test]
-fn dates_are_words(rt: HostRuntime) {
-    let alloc = rt.alloc();
-    assert!(rt;
-        reads(
-            alloc,
-            &[Date::At(-3), Date::Never, Date::Early],
-            "x",
-            " -3 never epsilonx"
-        )
-    );
-    let least = " -170141183460469231731687303715884105728";
-    assert!(rt; reads(alloc, &[Date::At(i128::MIN)], "", least));
-    let greatest = " 170141183460469231731687303715884105727";
-    assert!(rt; reads(alloc, &[Date::At(i128::MAX)], "", greatest));
-}
+// Dates and labels with their words.
+const WORDS: [(&[Date], &str, &str); 4] = [
+    (
+        &[Date::At(-3), Date::Never, Date::Early],
+        "x",
+        " -3 never epsilonx",
+    ),
+    (
+        &[Date::At(i128::MIN), Date::At(i128::MAX)],
+        "",
+        " -170141183460469231731687303715884105728 170141183460469231731687303715884105727",
+    ),
+    (&[], "\\ \n", "\\\\\\x20\\x0a"),
+    (&[], "\u{e9}", "\\xc3\\xa9"),
+];
 
 #[test]
-fn labels_are_words(rt: HostRuntime) {
-    assert!(rt; reads(rt.alloc(), &[], "\\ \n", "\\\\\\x20\\x0a"));
-    assert!(rt; reads(rt.alloc(), &[], "\u{e9}", "\\xc3\\xa9"));
+fn dates_and_labels_are_words(rt: HostRuntime) {
+    for (dates, label, wanted) in &WORDS {
+        assert!(rt; reads(rt.alloc(), dates, label, wanted), "{wanted}");
+    }
 }
