@@ -1,68 +1,74 @@
 //! Answers on nets that were worked out by hand, where no command shows them.
-use example_nets::LOOP;
+use example_nets::{LOOP, read};
 use std::alloc::{AllocError, Global};
 use std::test::Fail;
 use teg_certificates::check_cycle;
 use teg_net::{
-    Circuit, CycleAnswer, Net, PartAnswer, PlaceId, Potential, Ratio, Role, TransitionId,
+    Circuit, CycleAnswer, Net, OutOfMemory, PartAnswer, PlaceId, Potential, Ratio, TransitionId,
 };
-use teg_reader::read_net;
 
 // An input whose list of two dates ends, and a transition that follows it by 2.
 const ENDED_LIST: &[u8] =
     b"transition = [{name = 'u', role = 'input'}, {name = 'a'}]\nplace = [{name = 'ua', from = 'u', to = 'a', hold = 2}]\ninput = [{transition = 'u', dates = [0, 4]}]\n";
 
+// The potential of the transition of this number.
+fn potential(number: u32, value: i128) -> Potential {
+    Potential {
+        transition: TransitionId { index: number },
+        value,
+    }
+}
+
+// The circuit of the loop.
+fn circuit(alloc: Global) -> Result<Circuit, AllocError> {
+    let places = Vec::from_slice(alloc, &[PlaceId { index: 0 }, PlaceId { index: 1 }])?;
+    Ok(Circuit { places })
+}
+
 // The answer on the loop, with this potential of b.
 fn answer_of(alloc: Global, value: i128) -> Result<CycleAnswer, AllocError> {
-    let places = vec![in alloc; PlaceId { index: 0 }, PlaceId { index: 1 }]?;
-    let potentials = vec![in alloc;
-        Potential {
-            transition: TransitionId { index: 0 },
-            value: 0
-        },
-        Potential {
-            transition: TransitionId { index: 1 },
-            value
-        },
-    ]?;
-    let mut parts = Vec::new(alloc);
-    parts.push(PartAnswer::Best {
+    let part = PartAnswer::Best {
         ratio: Ratio::of(5, 1),
-        circuit: Circuit { places },
-        potentials,
-    })?;
+        circuit: circuit(alloc)?,
+        potentials: vec![in alloc; potential(0, 0), potential(1, value)]?,
+    };
     Ok(CycleAnswer {
         part_of: Vec::from_slice(alloc, &[0, 0])?,
-        parts,
+        parts: vec![in alloc; part]?,
         best: Some(0),
     })
+}
+
+// Whether the answer with this potential is told to be a certificate.
+fn is_certificate(alloc: Global, net: &Net, value: i128) -> Result<bool, AllocError> {
+    Ok(check_cycle(net, &answer_of(alloc, value)?))
 }
 
 // Whether the first transition is an input whose first three firings are at 0.
 fn begins_at_zero(net: &Net) -> bool {
     let first = TransitionId { index: 0 };
-    match net.transitions().first() {
-        Some(transition) => match transition.role {
-            Role::Input => {
-                net.input_date(first, 1) == Some(0)
-                    && net.input_date(first, 2) == Some(0)
-                    && net.input_date(first, 3) == Some(0)
-            }
-            Role::Internal | Role::Output => false,
-        },
-        None => false,
-    }
+    net.is_input(first)
+        && net.input_date(first, 1) == Some(0)
+        && net.input_date(first, 2) == Some(0)
+        && net.input_date(first, 3) == Some(0)
+}
+
+// Whether the right potential alone is told to be one.
+fn are_told(alloc: Global, ring: &Net) -> Result<bool, AllocError> {
+    Ok(is_certificate(alloc, ring, 3)? && !is_certificate(alloc, ring, 0)?)
+}
+
+// Whether the net begins at 0 without its input lists alone.
+fn loses_list(alloc: Global, net: &Net) -> Result<bool, OutOfMemory> {
+    Ok(!begins_at_zero(net) && begins_at_zero(&net.without_inputs(alloc)?))
 }
 
 #[test]
 fn answers_that_were_worked_out(rt: HostRuntime) -> Result<(), Fail> {
-    let net = read_net(rt.alloc(), LOOP)?;
-    for (value, is_right) in [(3, true), (0, false)] {
-        let answer = answer_of(rt.alloc(), value)?;
-        assert!(rt; check_cycle(&net, &answer) == is_right, "potential {value}");
-    }
-    let net = read_net(rt.alloc(), ENDED_LIST)?;
-    assert!(rt; !begins_at_zero(&net));
-    assert!(rt; begins_at_zero(&net.without_inputs(rt.alloc())?));
+    let alloc = rt.alloc();
+    let are_told = are_told(alloc, &read(alloc, LOOP)?);
+    assert!(rt; are_told?);
+    let loses_list = loses_list(alloc, &read(alloc, ENDED_LIST)?);
+    assert!(rt; loses_list?);
     Ok(())
 }

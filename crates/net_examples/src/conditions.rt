@@ -1,11 +1,11 @@
 //! Conditions of calls, tested before the calls are made.
-use example_nets::LOOP;
+use example_nets::{LOOP, held};
+use std::alloc::Global;
 use std::test::Fail;
 use teg_check::LiveNet;
 use teg_form::{is_standard_form_of, standard_form};
-use teg_net::Ratio;
+use teg_net::{Net, Ratio};
 use teg_parts::{are_parts, split};
-use teg_reader::read_net;
 use teg_sizing::is_target;
 
 // Two transitions, of which one goes before the other.
@@ -15,41 +15,60 @@ place = [
 ]
 ";
 
-#[test]
-fn parts_are_those_of_one_net(rt: HostRuntime) -> Result<(), Fail> {
-    let ring = read_net(rt.alloc(), LOOP)?;
-    let path = read_net(rt.alloc(), PATH)?;
-    let parts = split(rt.alloc(), &ring)?;
-    assert!(rt; parts.count() == 1);
+// Whether the parts of the ring are told to be its own, with a circuit, and not those of the path.
+fn parts_are_told(alloc: Global, ring: &Net, path: &Net) -> Result<bool, Fail> {
+    let parts = split(alloc, ring)?;
     for part in 0..parts.count() {
-        assert!(rt; parts.has_circuit(part));
+        if !parts.has_circuit(part) {
+            return Ok(false);
+        }
     }
-    assert!(rt; are_parts(rt.alloc(), &ring, &parts)?);
-    assert!(rt; !are_parts(rt.alloc(), &path, &parts)?);
+    let are_own = parts.count() == 1 && are_parts(alloc, ring, &parts)?;
+    Ok(are_own && !are_parts(alloc, path, &parts)?)
+}
+
+// Whether the form of the ring is told to be its own, and not that of the path.
+fn form_is_told(alloc: Global, ring: &LiveNet, path: &LiveNet) -> Result<bool, Fail> {
+    let form = standard_form(alloc, ring.net(), ring.live())?;
+    let is_small = form.stars().len() == 1 && form.entries().len() == 2;
+    let is_own = is_standard_form_of(alloc, ring.net(), ring.live(), &form)?;
+    let is_other = is_standard_form_of(alloc, path.net(), path.live(), &form)?;
+    Ok(is_small && is_own && !is_other)
+}
+
+// Whether both are so told.
+fn are_told(alloc: Global, ring: &LiveNet, path: &LiveNet) -> Result<bool, Fail> {
+    Ok(parts_are_told(alloc, ring.net(), path.net())? && form_is_told(alloc, ring, path)?)
+}
+
+#[test]
+fn parts_and_forms_are_those_of_one_net(rt: HostRuntime) -> Result<(), Fail> {
+    let ring = held(rt.alloc(), LOOP)?;
+    let are_told = are_told(rt.alloc(), &ring, &held(rt.alloc(), PATH)?);
+    assert!(rt; are_told?);
     Ok(())
+}
+
+// Times and tokens, and whether they are those of a target.
+const TARGETS: [(u64, u64, bool); 5] = [
+    (0, 1, true),
+    (1_000_000_000_000, 1, true),
+    (1_000_000_000_001, 1, false),
+    (1, 1_000_000, true),
+    (1, 1_000_001, false),
+];
+
+// Whether so much time for so many tokens is a target; for none it is not.
+fn may_be_target(time: u64, tokens: u64) -> bool {
+    1 <= tokens && is_target(&Ratio::of(time, tokens))
 }
 
 #[test]
 fn targets_keep_their_limits(rt: HostRuntime) {
-    for (time, tokens, is_right) in [
-        (0, 1, true),
-        (1_000_000_000_000, 1, true),
-        (1_000_000_000_001, 1, false),
-        (1, 1_000_000, true),
-        (1, 1_000_001, false),
-    ] {
-        assert!(rt; is_target(&Ratio::of(time, tokens)) == is_right);
+    for (time, tokens, is_right) in &TARGETS {
+        assert!(rt;
+            may_be_target(*time, *tokens) == *is_right,
+            "{time} {tokens}"
+        );
     }
-}
-
-#[test]
-fn a_form_is_that_of_its_net(rt: HostRuntime) -> Result<(), Fail> {
-    let alloc = rt.alloc();
-    let ring = LiveNet::new(alloc, read_net(alloc, LOOP)?)?;
-    let path = LiveNet::new(alloc, read_net(alloc, PATH)?)?;
-    let form = standard_form(alloc, ring.net(), ring.live())?;
-    assert!(rt; form.stars().len() == 1 && form.entries().len() == 2);
-    assert!(rt; is_standard_form_of(alloc, ring.net(), ring.live(), &form)?);
-    assert!(rt; !is_standard_form_of(alloc, path.net(), path.live(), &form)?);
-    Ok(())
 }

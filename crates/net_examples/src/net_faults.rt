@@ -1,6 +1,6 @@
 //! Nets that a program makes from lists of its own: the first rule that lists break.
 use example_nets::{place, transition, transitions};
-use std::alloc::Global;
+use std::alloc::{AllocError, Global};
 use std::test::Fail;
 use teg_net::{
     Again, DateList, InputFault, InputList, Net, NetFault, Place, PlaceFault, PlaceId, Role,
@@ -29,20 +29,14 @@ fn fault_of_names(alloc: Global, transitions: u32, places: u32) -> Result<Option
     Ok(fault(made, between, Vec::new(alloc)))
 }
 
-#[test]
-fn entries_are_counted_and_named_once(rt: HostRuntime) -> Result<(), Fail> {
-    for (transitions, places, expected) in [
-        (0, 0, NetFault::NoTransition),
-        (401, 0, NetFault::ManyTransitions),
-        (400, 0, NetFault::SameTransition(TransitionId::new(1))),
-        (1, 4_001, NetFault::ManyPlaces),
-        (1, 4_000, NetFault::SamePlace(PlaceId::new(1))),
-    ] {
-        let told = fault_of_names(rt.alloc(), transitions, places)?;
-        assert!(rt; told == Some(expected), "{transitions} {places}");
-    }
-    Ok(())
-}
+// Numbers of transitions and of places, and the fault.
+const COUNTS: [(u32, u32, NetFault); 5] = [
+    (0, 0, NetFault::NoTransition),
+    (401, 0, NetFault::ManyTransitions),
+    (400, 0, NetFault::SameTransition(TransitionId { index: 1 })),
+    (1, 4_001, NetFault::ManyPlaces),
+    (1, 4_000, NetFault::SamePlace(PlaceId { index: 1 })),
+];
 
 // The fault of the input and the machine with this place alone: its ends, its hold, its tokens and
 // its ready dates.
@@ -62,20 +56,31 @@ fn fault_of_place(
     Ok(fault(transitions(alloc)?, places, Vec::new(alloc)))
 }
 
+// Ends, a hold, tokens and ready dates of a place, and its fault.
+type BadPlace<'a> = ((u32, u32), u64, u32, &'a [u64], PlaceFault);
+
+const PLACES: [BadPlace<'static>; 7] = [
+    ((2, 1), 2, 1, &[], PlaceFault::UnknownFrom),
+    ((1, 2), 2, 1, &[], PlaceFault::UnknownTo),
+    ((1, 0), 2, 1, &[], PlaceFault::EntersInput),
+    ((0, 1), 1_000_000_001, 1, &[], PlaceFault::LongHold),
+    ((0, 1), 2, 1_001, &[], PlaceFault::ManyTokens),
+    ((0, 1), 2, 1, &[3, 4], PlaceFault::ReadyCount),
+    ((0, 1), 2, 1, &[1_000_000_000_001], PlaceFault::LateReady),
+];
+
 #[test]
-fn places_are_tested(rt: HostRuntime) -> Result<(), Fail> {
-    for (ends, hold, tokens, ready, expected) in [
-        ((2, 1), 2, 1, [].as_slice(), PlaceFault::UnknownFrom),
-        ((1, 2), 2, 1, &[], PlaceFault::UnknownTo),
-        ((1, 0), 2, 1, &[], PlaceFault::EntersInput),
-        ((0, 1), 1_000_000_001, 1, &[], PlaceFault::LongHold),
-        ((0, 1), 2, 1_001, &[], PlaceFault::ManyTokens),
-        ((0, 1), 2, 1, &[3, 4], PlaceFault::ReadyCount),
-        ((0, 1), 2, 1, &[1_000_000_000_001], PlaceFault::LateReady),
-    ] {
-        let told = fault_of_place(rt.alloc(), ends, hold, tokens, ready)?;
-        let wanted = NetFault::BadPlace(PlaceId::new(0), expected);
-        assert!(rt; told == Some(wanted), "{expected:?}");
+fn counts_names_and_places_are_tested(rt: HostRuntime) -> Result<(), Fail> {
+    for (transitions, places, fault) in &COUNTS {
+        let told = fault_of_names(rt.alloc(), *transitions, *places)?;
+        assert!(rt; told == Some(*fault), "{transitions} {places}");
+    }
+    for (ends, hold, tokens, ready, fault) in &PLACES {
+        let told = fault_of_place(rt.alloc(), *ends, *hold, *tokens, ready)?;
+        assert!(rt;
+            told == Some(NetFault::BadPlace(PlaceId::new(0), *fault)),
+            "{hold} {tokens}"
+        );
     }
     Ok(())
 }
@@ -101,6 +106,34 @@ fn fault_of_list(
     Ok(fault(transitions(alloc)?, Vec::new(alloc), inputs))
 }
 
+// The transition of a list, its dates, by how many dates and how much it goes on, and its fault.
+type Listed<'a> = (u32, &'a [u64], Option<(u32, u64)>, Option<InputFault>);
+
+const LISTS: [Listed<'static>; 9] = [
+    (1, &[], None, Some(InputFault::NoInput)),
+    (0, &[1_000_000_000_001], None, Some(InputFault::LateDate)),
+    (0, &[5, 4], None, Some(InputFault::FallingDates)),
+    (0, &[1, 9], Some((0, 1)), Some(InputFault::EveryZero)),
+    (0, &[1, 9], Some((1_001, 1)), Some(InputFault::GreatEvery)),
+    (
+        0,
+        &[1, 9],
+        Some((2, 1_000_000_000_001)),
+        Some(InputFault::GreatGap),
+    ),
+    (0, &[1, 9], Some((3, 9)), Some(InputFault::FewDates)),
+    (0, &[1, 9], Some((2, 7)), Some(InputFault::EarlyNext)),
+    (0, &[1, 9], Some((2, 8)), None),
+];
+
+// Whether the fault is this one of the first list.
+fn is_of_list(told: Option<NetFault>, fault: Option<InputFault>) -> bool {
+    match fault {
+        Some(why) => told == Some(NetFault::BadInput(0, why)),
+        None => told.is_none(),
+    }
+}
+
 // A list without dates of the first transition.
 fn empty_list(alloc: Global) -> InputList {
     InputList {
@@ -110,61 +143,44 @@ fn empty_list(alloc: Global) -> InputList {
     }
 }
 
-// The faults of a third transition with the name of the first, and of two lists of one input.
-fn faults_of_repeats(alloc: Global) -> Result<(Option<NetFault>, Option<NetFault>), Fail> {
+// The fault of a third transition with the name of the first.
+fn fault_of_name(alloc: Global) -> Result<Option<NetFault>, Fail> {
     let mut lists = transitions(alloc)?;
     lists.push(transition(alloc, "in", Role::Internal)?)?;
-    let name = fault(lists, Vec::new(alloc), Vec::new(alloc));
+    Ok(fault(lists, Vec::new(alloc), Vec::new(alloc)))
+}
+
+// The fault of two lists of one input.
+fn fault_of_two(alloc: Global) -> Result<Option<NetFault>, Fail> {
     let twice = vec![in alloc; empty_list(alloc), empty_list(alloc)]?;
-    Ok((name, fault(transitions(alloc)?, Vec::new(alloc), twice)))
+    Ok(fault(transitions(alloc)?, Vec::new(alloc), twice))
+}
+
+// The line of the fault.
+fn line_of(alloc: Global, fault: NetFault) -> Result<String, AllocError> {
+    format!(in alloc; "{fault}")
 }
 
 #[test]
 fn input_lists_are_tested(rt: HostRuntime) -> Result<(), Fail> {
-    let many = vec![in rt.alloc(); 5u64; 100_001]?;
-    for (number, dates, onward, expected) in [
-        (1, [].as_slice(), None, Some(InputFault::NoInput)),
-        (0, many.as_slice(), None, Some(InputFault::ManyDates)),
-        (0, &[1_000_000_000_001], None, Some(InputFault::LateDate)),
-        (0, &[5, 4], None, Some(InputFault::FallingDates)),
-        (0, &[1, 9], Some((0, 1)), Some(InputFault::EveryZero)),
-        (0, &[1, 9], Some((1_001, 1)), Some(InputFault::GreatEvery)),
-        (
-            0,
-            &[1, 9],
-            Some((2, 1_000_000_000_001)),
-            Some(InputFault::GreatGap),
-        ),
-        (0, &[1, 9], Some((3, 9)), Some(InputFault::FewDates)),
-        (0, &[1, 9], Some((2, 7)), Some(InputFault::EarlyNext)),
-        (0, &[1, 9], Some((2, 8)), None),
-    ] {
-        let told = fault_of_list(rt.alloc(), number, dates, onward)?;
-        let wanted = match expected {
-            Some(why) => Some(NetFault::BadInput(0, why)),
-            None => None,
-        };
-        assert!(rt; told == wanted, "{expected:?}");
+    for (number, dates, onward, fault) in &LISTS {
+        let told = fault_of_list(rt.alloc(), *number, dates, *onward)?;
+        assert!(rt; is_of_list(told, *fault), "{number}");
     }
-    let (name, twice) = faults_of_repeats(rt.alloc())?;
-    assert!(rt; name == Some(NetFault::SameTransition(TransitionId::new(2))));
-    assert!(rt; twice == Some(NetFault::SameInput(1)));
+    let many = vec![in rt.alloc(); 5u64; 100_001]?;
+    let told = fault_of_list(rt.alloc(), 0, many.as_slice(), None)?;
+    assert!(rt; is_of_list(told, Some(InputFault::ManyDates)));
+    let name = NetFault::SameTransition(TransitionId::new(2));
+    assert!(rt; fault_of_name(rt.alloc())? == Some(name));
+    assert!(rt; fault_of_two(rt.alloc())? == Some(NetFault::SameInput(1)));
     Ok(())
 }
 
 #[test]
 fn faults_have_lines(rt: HostRuntime) -> Result<(), Fail> {
-    for (told, line) in [
-        (
-            NetFault::SameInput(1),
-            "input list 1 is of a transition that has an earlier one",
-        ),
-        (
-            NetFault::BadPlace(PlaceId::new(3), PlaceFault::LongHold),
-            "place 3 has a hold past 1000000000",
-        ),
-    ] {
-        assert!(rt; format!(in rt.alloc(); "{told}")?.as_str() == line);
-    }
+    let list = line_of(rt.alloc(), NetFault::SameInput(1))?;
+    assert!(rt; list.as_str() == "input list 1 is of a transition that has an earlier one");
+    let hold = NetFault::BadPlace(PlaceId::new(3), PlaceFault::LongHold);
+    assert!(rt; line_of(rt.alloc(), hold)?.as_str() == "place 3 has a hold past 1000000000");
     Ok(())
 }

@@ -1,23 +1,51 @@
 //! Files at their limits are written, and copied, as their nets are. What else files are answered is
 //! told by rows of `tools/rows`, those of `net_keys.rows` and its like.
+use example_nets::read;
 use std::alloc::{AllocError, Global};
 use std::test::Fail;
-use teg_reader::{read_net, write_net};
+use teg_net::Net;
+use teg_reader::write_net;
+
+// Adds these pieces to the text.
+fn push_all(text: &mut String, pieces: &[&str]) -> Result<(), AllocError> {
+    for piece in pieces {
+        text.push_str(piece)?;
+    }
+    Ok(())
+}
+
+// The number in as many digits as a name may have.
+fn longest(alloc: Global, number: u32) -> Result<String, AllocError> {
+    format!(in alloc; "{number:064}")
+}
+
+// Adds the entry of a transition.
+fn push_transition(alloc: Global, file: &mut String, number: u32) -> Result<(), AllocError> {
+    let name = longest(alloc, number)?;
+    push_all(file, &["{name = \"", name.as_str(), "\"}, "])
+}
+
+// Adds the entry of a place from a transition to itself.
+fn push_place(alloc: Global, file: &mut String, number: u32) -> Result<(), AllocError> {
+    let name = longest(alloc, number)?;
+    let end = longest(alloc, number % 400)?;
+    let (name, end) = (name.as_str(), end.as_str());
+    push_all(
+        file,
+        &["{name = \"", name, "\", from = \"", end, "\", to = \"", end],
+    )?;
+    file.push_str("\", hold = 1000000000, tokens = 1000}, ")
+}
 
 // A file of 400 transitions and 4,000 places, each number and name at its limit.
 fn widest(alloc: Global) -> Result<String, AllocError> {
     let mut file = String::from_str(alloc, "transition = [")?;
-    for number in 0u32..400 {
-        let entry = format!(in alloc; "{{name = \"{number:064}\"}}, ")?;
-        file.push_str(entry.as_str())?;
+    for number in 0..400 {
+        push_transition(alloc, &mut file, number)?;
     }
     file.push_str("]\nplace = [")?;
-    for number in 0u32..4_000 {
-        let end = number % 400;
-        let entry = format!(in alloc;
-            "{{name = \"{number:064}\", from = \"{end:064}\", to = \"{end:064}\", hold = 1000000000, tokens = 1000}}, "
-        )?;
-        file.push_str(entry.as_str())?;
+    for number in 0..4_000 {
+        push_place(alloc, &mut file, number)?;
     }
     file.push_str("]\n")?;
     Ok(file)
@@ -30,12 +58,20 @@ fn of_many_ready_dates(alloc: Global) -> Result<String, AllocError> {
         dates.push_str("0,")?;
     }
     let mut file = String::from_str(alloc, "transition = [{name = \"a\"}]\nplace = [")?;
-    let dates = dates.as_str();
     for number in 0u32..20 {
-        let entry = format!(in alloc;
-            "{{name = \"{number}\", from = \"a\", to = \"a\", tokens = 1000, ready = [{dates}]}}, "
+        let name = longest(alloc, number)?;
+        push_all(
+            &mut file,
+            &[
+                "{name = \"",
+                name.as_str(),
+                "\", from = \"a\", to = \"a\", ",
+            ],
         )?;
-        file.push_str(entry.as_str())?;
+        push_all(
+            &mut file,
+            &["tokens = 1000, ready = [", dates.as_str(), "]}, "],
+        )?;
     }
     file.push_str("]\n")?;
     Ok(file)
@@ -47,38 +83,44 @@ const WRITTEN: [&str; 2] = [
     "transition = [{name = \"\u{e9}\", role = \"input\"}, {name = \"v\", role = \"input\"}, {name = \"y\", role = \"output\"}]\nplace = [{name = \"#=[]\", from = \"v\", to = \"y\", tokens = 2, ready = [9, 1000000000000]}]\ninput = [{transition = \"v\", dates = []}, {transition = \"\u{e9}\", dates = [0, 4], every = 2, gap = 9}]\n",
 ];
 
-// What is written for the net of the file, of which a copy without input lists has all places.
-fn written(alloc: Global, file: &[u8]) -> Option<Vec<u8>> {
-    let net = read_net(alloc, file).ok()?;
-    let copy = net.without_inputs(alloc).ok()?;
-    if copy.places().len() != net.places().len() {
-        return None;
+// Whether a copy of the net without its input lists has all places.
+fn has_copy(alloc: Global, net: &Net) -> Result<bool, Fail> {
+    let copy = net.without_inputs(alloc)?;
+    Ok(copy.places().len() == net.places().len())
+}
+
+// What is written for a net that has such a copy.
+fn written_for(alloc: Global, net: &Net) -> Result<Vec<u8>, Fail> {
+    if !has_copy(alloc, net)? {
+        return Err(Fail::new("another copy"));
     }
-    write_net(alloc, &net).ok()
+    Ok(write_net(alloc, net)?)
+}
+
+// What is written for the net of a file.
+fn written(alloc: Global, file: &[u8]) -> Result<Vec<u8>, Fail> {
+    written_for(alloc, &read(alloc, file)?)
 }
 
 // Whether what is written is written again for its own net, and has at least so many bytes.
-fn is_written(alloc: Global, file: &str, bytes: usize) -> bool {
-    let Some(first) = written(alloc, file.as_bytes()) else {
-        return false;
-    };
-    match written(alloc, first.as_slice()) {
-        Some(second) => second.as_slice() == first.as_slice() && second.len() >= bytes,
-        None => false,
-    }
+fn is_written(alloc: Global, file: &[u8], bytes: usize) -> Result<bool, Fail> {
+    let first = written(alloc, file)?;
+    let second = written(alloc, first.as_slice())?;
+    Ok(second.as_slice() == first.as_slice() && second.len() >= bytes)
+}
+
+// Whether a text is so written.
+fn is_text_written(alloc: Global, file: &String, bytes: usize) -> Result<bool, Fail> {
+    is_written(alloc, file.as_bytes(), bytes)
 }
 
 #[test]
 fn nets_at_their_limits_are_written_and_copied(rt: HostRuntime) -> Result<(), Fail> {
     let alloc = rt.alloc();
-    let (wide, late) = (widest(alloc)?, of_many_ready_dates(alloc)?);
-    for (file, bytes) in [
-        (wide.as_str(), 400 * 64 + 4_000 * 3 * 64),
-        (late.as_str(), 20 * 1_000 * 2),
-        (WRITTEN[0], 0),
-        (WRITTEN[1], 0),
-    ] {
-        assert!(rt; is_written(alloc, file, bytes));
+    for file in &WRITTEN {
+        assert!(rt; is_written(alloc, file.as_bytes(), 0)?);
     }
+    assert!(rt; is_text_written(alloc, &widest(alloc)?, 400 * 64 + 4_000 * 3 * 64)?);
+    assert!(rt; is_text_written(alloc, &of_many_ready_dates(alloc)?, 20 * 1_000 * 2)?);
     Ok(())
 }
