@@ -163,7 +163,7 @@ firsts_leave net period f h ps c =
 pub are_workable : PeriodsAreWorkable
 are_workable net period ok = (λ w. firsts_leave net period w.0 w.1, λ time. firsts net period ok time)
 
-from_ratio : (net : NetLists) (period : ℕ) (r : Fraction) → IsGreatestRatio net IsAnyPlace r → r.time ≤ period * r.tokens → LeavesCircuitsTime net period
+pub from_ratio : (net : NetLists) (period : ℕ) (r : Fraction) → IsGreatestRatio net IsAnyPlace r → r.time ≤ period * r.tokens → LeavesCircuitsTime net period
 from_ratio net period r g h ps c = by_numbers (time_of net ps) (tokens_of net ps) r.time r.tokens period g.some h (g.greatest ps c (λ i d l. tt)) where
   by_numbers : (time tokens a b period : ℕ) → 1 ≤ b → a ≤ period * b → time * b ≤ a * tokens → time ≤ period * tokens
   by_numbers time tokens a b period some h less =

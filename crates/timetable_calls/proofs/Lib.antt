@@ -1,0 +1,4 @@
+pub mod Moving
+pub mod Rounding
+pub mod Existing
+pub mod Busiest
