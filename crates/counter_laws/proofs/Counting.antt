@@ -14,7 +14,7 @@ use Rattle.dating_laws.proofs.SlowerNets.{climb}
 use Rattle.counter_laws.specs.Counters.{IsUpTo, AreCounters}
 use Rattle.counter_laws.specs.CounterEquations.{CountersExist, CountersAreOne}
 
-by_then : (a : Date) (d : ℕ) → IsAtMostDate a (At (pos d)) ⊎ (IsAtMostDate a (At (pos d)) → ⊥)
+pub by_then : (a : Date) (d : ℕ) → IsAtMostDate a (At (pos d)) ⊎ (IsAtMostDate a (At (pos d)) → ⊥)
 by_then Early d = inl tt
 by_then (At z) d = by_lt_z (pos d) z (λ l. inr (λ m. absurd (omega (arith, ints, l, m)))) (λ l. let low : IsAtMostDate (At z) (At (pos d)) = omega (arith, ints, l) in inl low)
 by_then Never d = inr (λ l. l)
@@ -27,7 +27,7 @@ Rise dates = (j k : ℕ) → 1 ≤ j → j ≤ k → IsAtMostDate (dates j) (dat
 abbrev IsCount : (ℕ → Date) → ℕ → ℕ → Type 0
 IsCount dates d m = (k : ℕ) → 1 ≤ k → IsAtMostDate (dates k) (At (pos d)) ↔ (k ≤ m)
 
-count_below : (dates : ℕ → Date) (d : ℕ) → Rise dates → (n : ℕ) → 1 ≤ n → (IsAtMostDate (dates n) (At (pos d)) → ⊥) → (m : ℕ) × IsCount dates d m
+pub count_below : (dates : ℕ → Date) (d : ℕ) → Rise dates → (n : ℕ) → 1 ≤ n → (IsAtMostDate (dates n) (At (pos d)) → ⊥) → (m : ℕ) × IsCount dates d m
 count_below dates d rise zero o past = absurd (omega (arith, o))
 count_below dates d rise (suc n) o past =
     let late : (k : ℕ) → suc n ≤ k → IsAtMostDate (dates k) (At (pos d)) → ⊥ = λ k l h. past (at_most_trans (dates (suc n)) (dates k) (At (pos d)) (rise (suc n) k o l) h) in
@@ -74,7 +74,7 @@ module _ (net : NetLists) (u x : Dating) (f : IsFeasibleUnder net u x) (on : (t 
 pub counters_exist : CountersExist
 counters_exist net u x f on = (counts net u x f on, are_counters net u x f on)
 
-same_count : (o p : Option ℕ) → ((k : ℕ) → 1 ≤ k → IsUpTo k o → IsUpTo k p) → ((k : ℕ) → 1 ≤ k → IsUpTo k p → IsUpTo k o) → o ≡ p
+pub same_count : (o p : Option ℕ) → ((k : ℕ) → 1 ≤ k → IsUpTo k o → IsUpTo k p) → ((k : ℕ) → 1 ≤ k → IsUpTo k p → IsUpTo k o) → o ≡ p
 same_count None None h g = refl
 same_count None (Some n) h g = let few : n + 1 ≤ n = h (n + 1) (omega arith) tt in absurd (omega (arith, few))
 same_count (Some m) None h g = let few : m + 1 ≤ m = g (m + 1) (omega arith) tt in absurd (omega (arith, few))
