@@ -1,0 +1,2 @@
+pub mod Attained
+pub mod Greatest
