@@ -4,6 +4,8 @@
 #![tactic(auto)]
 
 #[cfg(test)]
+mod answers;
+#[cfg(test)]
 mod kept_delays;
 #[cfg(test)]
 mod settled_texts;

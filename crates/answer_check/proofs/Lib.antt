@@ -1,0 +1,4 @@
+pub mod NoCircuits
+pub mod ListedRows
+pub mod Told
+pub mod Paces

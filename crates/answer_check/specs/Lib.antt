@@ -1,0 +1,4 @@
+pub mod ShownLists
+pub mod NoCircuits
+pub mod ShownSlacks
+pub mod ShownDates

@@ -1,0 +1,35 @@
+-- What the text of a list of dates shows.
+use Rattle.std.specs.Prelude.{ℕ, ◌≤◌, ◌≡◌, ◌∷◌, [], List, codes, length, map}
+use Rattle.std.specs.Fmt.{decimal}
+use Rattle.std.specs.List.{range_with_len}
+use Rattle.teg_model.specs.dioid.declared.dates.Date.{Date}
+use Rattle.teg_model.specs.teg_net.Nets.{NetLists}
+use Rattle.teg_model.specs.teg_net.Circuits.{IsLive}
+use Rattle.teg_model.specs.Datings.{IsLeastDating}
+use Rattle.teg_text.specs.Lines.{written}
+use Rattle.teg_text.specs.ValueWords.{date_word}
+
+-- of how many numbers dates are told
+abbrev pub count_line : ℕ → List (List ℕ)
+count_line count = codes "dates" ∷ codes "of" ∷ decimal count ∷ codes "firings" ∷ []
+
+-- the names of the transitions
+abbrev pub all_names_line : NetLists → List (List ℕ)
+all_names_line net = codes "transition" ∷ map (λ t. t.name) net.transitions
+
+-- the number k, and the dates that x gives to the firings of that number of so many transitions
+abbrev pub row_line : ℕ → (ℕ → ℕ → Date) → ℕ → List (List ℕ)
+row_line width x k = decimal k ∷ map (λ t. date_word (x t k)) (range_with_len 0 width)
+
+-- the dates that x gives to the firings of the numbers 1 to count, one line for each number
+abbrev pub lines_of_dating : NetLists → (ℕ → ℕ → Date) → ℕ → List (List (List ℕ))
+lines_of_dating net x count = count_line count ∷ all_names_line net ∷ map (row_line (length net.transitions) x) (range_with_len 1 count)
+
+-- the whole text is that of the dates which the least dating gives to the firings up to this number
+abbrev pub TellsLeastDates : NetLists → List ℕ → ℕ → Type 0
+TellsLeastDates net text count = (x : ℕ → ℕ → Date) × IsLeastDating net x × (text ≡ written (lines_of_dating net x count))
+
+-- the net is live, and the text tells the dates of its least dating up to this number
+pub record IsShownList (net : NetLists) (text : List ℕ) (count : ℕ) : Type 0 where
+  pub live : IsLive net
+  pub told : TellsLeastDates net text count
