@@ -17,7 +17,7 @@ use Rattle.teg_text.specs.ValueWords.{date_word}
 use Rattle.answer_check.specs.ShownLists.{TellsLeastDates, all_names_line, count_line, lines_of_dating, row_line}
 
 -- two lists over numbers whose items are the same, number by number
-maps_same : {A : Type 0} (d : A) (f g : ℕ → A) (a n : ℕ) → ((k : ℕ) → a ≤ k → k < a + n → f k ≡ g k) → map f (range_with_len a n) ≡ map g (range_with_len a n)
+pub maps_same : {A : Type 0} (d : A) (f g : ℕ → A) (a n : ℕ) → ((k : ℕ) → a ≤ k → k < a + n → f k ≡ g k) → map f (range_with_len a n) ≡ map g (range_with_len a n)
 maps_same d f g a n h =
     ext_get_or d (map f (range_with_len a n)) (map g (range_with_len a n)) (length-map-range_with_len f a n ∙ sym (length-map-range_with_len g a n))
     (λ i l.

@@ -1,0 +1,20 @@
+//! The laws of printed answers that are shown.
+ghost use Rattle.answer_laws.specs.SaidAnswers.{ShownListsAreSaid, ShownNoCircuitIsSaid, ShownSlacksAreSaid};
+
+/// A text is shown to be a list of the dates of so many firings just where the net is live and
+/// `teg list` says it (chapter 2).
+pub fn shown_lists_are_said()
+    ensures { ShownListsAreSaid }
+{}
+
+/// Where a text is shown to tell that a net has no circuit, the net is live and `teg slack` says it
+/// (chapter 2).
+pub fn shown_no_circuit_is_said()
+    ensures { ShownNoCircuitIsSaid }
+{}
+
+/// Where a text is shown to tell the slack of the places of a net, it is that of its greatest ratio
+/// in lowest terms, and of the slack of each place, as `teg slack` says it (chapters 2 and 3).
+pub fn shown_slacks_are_said()
+    ensures { ShownSlacksAreSaid }
+{}
