@@ -16,12 +16,17 @@ use Rattle.teg_critical.specs.declared.slacks.Slack.TheVariants.{NoCircuit, Crit
 use Rattle.teg_critical.specs.Slacks.{AreSlacks, IsSlackOf}
 use Rattle.teg_critical.proofs.Rises.{stays, no_more}
 use Rattle.teg_text.specs.Lines.{written}
-use Rattle.teg_text.specs.WordsOfNames.{name_of_place}
+use Rattle.teg_text.specs.WordsOfNames.{name_of_place, name_of_transition}
+use Rattle.teg_report.specs.ShortAnswers.{date_line}
 use Rattle.teg_report.specs.SlackLines.{cycle_time_line, slack_line, slack_lines, slack_words}
-use Rattle.answer_laws.specs.SaidAnswers.{ShownListsAreSaid, ShownNoCircuitIsSaid, ShownSlacksAreSaid}
+use Rattle.answer_laws.specs.SaidAnswers.{ShownDatesAreSaid, ShownListsAreSaid, ShownNoCircuitIsSaid, ShownSlacksAreSaid}
 
 pub lists_said : ShownListsAreSaid
 lists_said net text count = (λ h. (h.live, (refl, h.told)), λ s. record { live = s.0; told = s.1.1 })
+
+pub dates_said : ShownDatesAreSaid
+dates_said net text shown h x least =
+    h.told ∙ ap (λ d. written (date_line (name_of_transition net shown.transition) shown.number d ∷ [])) (h.least x least)
 
 pub no_circuit_said : ShownNoCircuitIsSaid
 no_circuit_said net text h = (λ ps circuit free. h.none ps circuit (λ i d l. record {}), (refl, inr (h.none, h.told)))

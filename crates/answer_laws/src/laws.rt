@@ -1,10 +1,16 @@
 //! The laws of printed answers that are shown.
-ghost use Rattle.answer_laws.specs.SaidAnswers.{ShownListsAreSaid, ShownNoCircuitIsSaid, ShownSlacksAreSaid};
+ghost use Rattle.answer_laws.specs.SaidAnswers.{ShownDatesAreSaid, ShownListsAreSaid, ShownNoCircuitIsSaid, ShownSlacksAreSaid};
 
 /// A text is shown to be a list of the dates of so many firings just where the net is live and
 /// `teg list` says it (chapter 2).
 pub fn shown_lists_are_said()
     ensures { ShownListsAreSaid }
+{}
+
+/// Where a text is shown to tell the date of a firing, it is the line of `teg date` with the date
+/// that the least dating gives to it (chapter 2).
+pub fn shown_dates_are_said()
+    ensures { ShownDatesAreSaid }
 {}
 
 /// Where a text is shown to tell that a net has no circuit, the net is live and `teg slack` says it

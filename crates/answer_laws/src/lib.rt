@@ -9,4 +9,6 @@
 
 mod laws;
 
-pub use laws::{shown_lists_are_said, shown_no_circuit_is_said, shown_slacks_are_said};
+pub use laws::{
+    shown_dates_are_said, shown_lists_are_said, shown_no_circuit_is_said, shown_slacks_are_said,
+};
