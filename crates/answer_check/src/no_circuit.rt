@@ -1,7 +1,6 @@
 //! What shows that a net has no circuit: numbers of its transitions, which its text does not name.
-ghost use Rattle.std.specs.Prelude.{◌≡◌, ◌↔◌, ◌<◌, ◌∷◌, [], All, IfOk, IsTrue, codes, length, slice_index};
+ghost use Rattle.std.specs.Prelude.{◌≡◌, ◌↔◌, ◌<◌, All, IfOk, IsTrue, length, slice_index};
 ghost use Rattle.teg_net.specs.GreatestRatios.{HasNoCircuit, IsAnyPlace};
-ghost use Rattle.teg_text.specs.Lines.{phrase, written};
 ghost use Rattle.answer_check.specs.NoCircuits.{IsShownNoCircuit, RiseAtEachPlace, TellsNoCircuit};
 
 use std::alloc::{AllocError, Global};

@@ -12,7 +12,7 @@ use teg_certificates::{
     RiseWitness, best_ratio, certificates_tell, check_cycle, rise_potentials_tell,
     rising_numbers_show_no_circuit, shows_critical, shows_no_circuit, shows_rise,
 };
-use teg_net::{Circuit, CycleAnswer, Net, OutOfMemory, PlaceId, Ratio};
+use teg_net::{CycleAnswer, Net, OutOfMemory, PlaceId, Ratio};
 use witness_check::is_seen_live;
 
 /// What a line of `teg slack` tells of a place.
@@ -161,8 +161,9 @@ fn lines_of(
 /// be so (chapters 2 and 3): the net is live, the ratio is the greatest over all circuits of the
 /// net, and of each place, where a circuit of that ratio passes it, that it is critical; where no
 /// circuit does, that; and else, by how much its hold can rise and by no more, in the user's unit.
-/// Circuits, potentials and numbers that show it are searched for. It takes time of the order
-/// places times transitions and places. `OutOfMemory` comes only where no memory is found.
+/// Circuits, potentials and numbers that show it are searched for. It takes memory for them and for
+/// the text, and for each place time of the order transitions times places. `OutOfMemory` comes only
+/// where no memory is found.
 pub fn shown_slack(alloc: Global, net: &Net, text: &str) -> Result<Option<Ratio>, OutOfMemory>
     ensures { IfOk result (λ r. IfSome r (IsShownSlack net.now text.now)) }
 {
