@@ -4,7 +4,7 @@
 //! residue, it goes on so for a number of turns more that is read off the slacks of the last turn:
 //! so rows need be made only near the numbers at which a place overtakes another. Each law is the
 //! contract of a function that does nothing when it runs. The crate stands on `teg_model` for least
-//! datings and on `dating_certificates` for first rows; no crate of the program stands on it.
+//! datings, and on `settled_laws` for settled forms.
 #![tactic(auto)]
 
 mod laws;

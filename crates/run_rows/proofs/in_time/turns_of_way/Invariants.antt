@@ -1,0 +1,14 @@
+use Rattle.std.proofs.Common.{ℕ, ◌<◌, ◌≤◌, ◌+◌, ◌-◌}
+use Rattle.dioid.specs.Dates.{delayed}
+use Rattle.date_rows.specs.DateTables.{date_at}
+use Rattle.run_rows.specs.RoomyRuns.{step_of}
+use Rattle.run_rows.specs.TurnsLeft.{InTimeFor, IsInLastTurn}
+use Rattle.run_rows.proofs.in_time.turns_of_way.Given as goal
+
+abbrev pub invariant-loop-number : goal.invariant-loop-number
+invariant-loop-number l = record {
+  within : l.turns ≤ l.most;
+  in_time : (k : ℕ) → IsInLastTurn l.rows l.last.turn k → k < l.number
+      → InTimeFor l.turns (step_of l.last l.way.from.index (l.after + (k - l.way.tokens))) (step_of l.last l.way.to.index (l.after + k))
+      (delayed l.way.hold (date_at l.rows l.way.from.index (k - l.way.tokens))) (date_at l.rows l.way.to.index k);
+}

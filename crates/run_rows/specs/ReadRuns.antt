@@ -1,0 +1,44 @@
+-- Runs that are read off rows.
+use Rattle.std.specs.Prelude.{ℕ, ◌+◌, ◌-◌, ◌*◌, ◌<◌, ◌≤◌, ◌≡◌, List, [], length, slice_index_or}
+use Rattle.dioid.specs.declared.dates.Date.{Date}
+use Rattle.dioid.specs.declared.dates.Date.TheVariants.{Early}
+use Rattle.dioid.specs.Dates.{move}
+use Rattle.teg_net.specs.Nets.{NetLists}
+use Rattle.teg_model.specs.Datings.{IsLeastDating}
+use Rattle.date_rows.specs.DateTables.{TableDates, date_at}
+use Rattle.jump_laws.specs.Runs.{Run, IsRunOf}
+use Rattle.run_rows.specs.RoomyRuns.{step_of}
+
+-- the dates of transition t from number `first` of the rows on, so many
+pub record IsColumn (rows : TableDates) (t first count : ℕ) (dates : List Date) : Type 0 where
+  pub long : length dates ≡ count
+  pub same : (i : ℕ) → i < count → slice_index_or dates i Early ≡ date_at rows t (first + i)
+
+-- those of each transition
+pub record AreColumns (rows : TableDates) (first count : ℕ) (columns : List (List Date)) : Type 0 where
+  pub wide : length columns ≡ rows.width
+  pub each : (t : ℕ) → t < rows.width → IsColumn rows t first count (slice_index_or columns t [])
+
+-- a run of one turn, that of the last dates of the rows, which stand for the numbers past `after`
+pub record IsLastTurn (after : ℕ) (rows : TableDates) (last : Run) : Type 0 where
+  pub first : last.first + last.turn ≡ after + rows.count + 1
+  pub once : last.turns ≡ 1
+  pub columns : AreColumns rows (rows.count - last.turn + 1) last.turn last.dates
+
+-- from number `from` of the rows on the dates of transition t move in a turn by the steps of the run
+pub record MovesInRows (after : ℕ) (rows : TableDates) (last : Run) (from t : ℕ) : Type 0 where
+  pub moves : (k : ℕ) → from ≤ k → k + last.turn ≤ rows.count → date_at rows t (k + last.turn) ≡ move (step_of last t (after + k)) (date_at rows t k)
+
+-- a run of the least dating of the net, which has each number past `before` up to `end`
+pub record IsLeastRun (net : NetLists) (before end : ℕ) (r : Run) : Type 0 where
+  pub least : (x : ℕ → ℕ → Date) → IsLeastDating net x → IsRunOf (length net.transitions) x r
+  pub from : r.first ≤ before + 1
+  pub to : r.first + r.turns * r.turn ≡ end + 1
+
+-- a run of it that begins in so many rows past `after` and leads on past them, at most up to this number
+pub record IsJumpRun (net : NetLists) (after count number : ℕ) (r : Run) : Type 0 where
+  pub end : ℕ
+  pub run : IsLeastRun net (after + count) end r
+  pub begins : 1 ≤ r.first
+  pub on : after + count < end
+  pub up_to : end ≤ number
