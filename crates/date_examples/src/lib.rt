@@ -1,8 +1,11 @@
-//! Examples of dates: row after row, one by one, and settled by rows of one's own; tables of dates
-//! that are checked by the net alone; and timetables and due dates without end that a program makes
-//! itself. The crate has tests alone: they show what no contract says, that memory is found.
+//! Examples of dates: row after row, one by one, by jumps, and settled by rows of one's own; tables
+//! of dates that are checked by the net alone; and timetables and due dates without end that a
+//! program makes itself. The crate has tests alone: they show what no contract says, that memory is
+//! found.
 #![tactic(auto)]
 
+#[cfg(test)]
+mod jumps;
 #[cfg(test)]
 mod kept_delays;
 #[cfg(test)]
