@@ -21,7 +21,7 @@ does.
 With --witnesses each answer of `check`, `cycle`, `dates`, `size` and `jit` that a command of the guide asks for, and of
 `timetable` each whose delays are kept, is handed to the program witness_runner that `rt ci` leaves, which has to tell it as
 shown, and then with one number of it made greater by one, or of a circuit that stands without numbers with the last place
-left out, which has to be told as not shown.
+left out, which has to be told as not shown or refuted.
 
 A difference is told. The last line is 'N passed, M failed', and the exit status 0 where some passed and none failed.
 """
@@ -106,14 +106,14 @@ def odd_witnesses(command, folder):
         text = run(words, folder)[1]
         if not text.startswith(CLAIMS) or words[1] == "timetable" and not KEPT.match(text):
             continue
-        further = {"jit": words[3:], "timetable": words[3:4]}
+        further = {"jit": words[3:], "timetable": words[3:5]}
         files = [words[2], "answer.txt", *further.get(words[1], [])]
         odd = 0
-        for other, due in [(text, (0, False)), *((it, (1, True)) for it in changed(text))]:
+        for other, is_shown in [(text, True), *((it, False) for it in changed(text))]:
             with open(f"{folder}/answer.txt", "w", encoding="utf-8") as file:
                 file.write(other)
             status, told = run([WITNESS, *files], folder)
-            odd += (status, "not shown " in told) != due
+            odd += not told.startswith({0: "shown ", 1: "refuted ", 3: "not shown "}.get(status, "?")) or is_shown != (status == 0)
         yield asked, odd
 
 

@@ -1,1 +1,2 @@
+mod FirstLate
 mod FormLines

@@ -1,3 +1,4 @@
+pub mod DueNumbers
+pub mod FirstLate
 pub mod ShownForms
 pub mod ShownTables
-pub mod ShownDelays

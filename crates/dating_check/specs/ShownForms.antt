@@ -28,7 +28,7 @@ pub record TellsLeastDating (net : NetLists) (f : SettledForm) : Type 0 where
   pub tells : (x : ℕ → ℕ → Date) → IsLeastDating net x → (t k : ℕ) → t < length net.transitions → 1 ≤ k → settled_date f t k ≡ x t k
   pub shortest : IsSettledFormOf net f
 
--- the text is that of a form of this number and this period, which in a live net is its settled form
+-- the net is live, and the text is that of its settled form, of this number and this period
 abbrev pub IsShownSettled : NetLists → List ℕ → ShownSettled → Type 0
 IsShownSettled net text shown = (f : SettledForm) × (f.after ≡ shown.after) × (f.period ≡ shown.period)
-    × (text ≡ written (lines_of_form net f)) × (IsLive net → TellsLeastDating net f)
+    × (text ≡ written (lines_of_form net f)) × IsLive net × TellsLeastDating net f

@@ -1,5 +1,5 @@
 -- What the table of latest dates shows.
-use Rattle.std.specs.Prelude.{ℕ, ◌+◌, ◌-◌, ◌*◌, ◌<◌, ◌≡◌, ◌∷◌, [], ⊤, List, Option, Some, None, codes, flat_map, length, map, slice_index_or}
+use Rattle.std.specs.Prelude.{ℕ, pos, ◌+◌, ◌-◌, ◌*◌, ◌<◌, ◌≤◌, ◌≡◌, ◌≢◌, ◌∷◌, [], ⊤, Any, List, Option, Some, None, codes, flat_map, length, map, slice_index_or}
 use Rattle.std.specs.Fmt.{decimal, signed_decimal}
 use Rattle.std.specs.List.{range_with_len}
 use Rattle.teg_model.specs.dioid.declared.dates.Date.{Date}
@@ -9,14 +9,16 @@ use Rattle.teg_model.specs.teg_net.declared.entries.Role.TheVariants.{Internal, 
 use Rattle.teg_model.specs.teg_net.declared.walks.Step.{Step}
 use Rattle.teg_model.specs.teg_net.declared.walks.Step.TheVariants.{By, Next}
 use Rattle.teg_model.specs.teg_net.Nets.{NetLists}
-use Rattle.teg_model.specs.teg_net.Circuits.{IsLive}
+use Rattle.teg_model.specs.dioid.Dates.{delayed}
+use Rattle.teg_model.specs.teg_net.Circuits.{IsLive, from_of, place_at}
 use Rattle.due_laws.specs.MeetingDueDates.{AreLatestInputs}
 use Rattle.teg_due.specs.declared.rows.DueRow.{DueRow}
 use Rattle.teg_text.specs.Lines.{written}
 use Rattle.teg_text.specs.WordsOfNames.{name_of_place, name_of_transition, no_transition}
 use Rattle.dating_certificates.specs.CheckedRows.{date_in_rows}
-use Rattle.dating_certificates.specs.LatestRows.{date_up_to, ListsDues}
+use Rattle.dating_certificates.specs.LatestRows.{date_up_to, IsRowOf, ListsDues}
 use Rattle.dating_certificates.specs.PlanRows.{ArePlanRows}
+use Rattle.dating_check.specs.DueNumbers.{IsGreatestNumber}
 
 -- how lines of a transition begin
 abbrev pub role_told : Role → List ℕ
@@ -59,13 +61,41 @@ table_told_lines net width numbers dates ways =
     (codes "latest" ∷ codes "inputs" ∷ codes "for" ∷ decimal numbers ∷ codes "firings" ∷ [])
     ∷ flat_map (firing_lines net width numbers dates ways) (range_with_len 0 (length net.transitions))
 
+-- the step of firing k of transition t in rows of this many steps
+abbrev pub way_in_rows : ℕ → List (Option Step) → ℕ → ℕ → Option Step
+way_in_rows width ways t k = slice_index_or ways ((k - 1) * width + t) None
+
+-- the date of a firing is attained: by its row, which says that it is due then; by the next firing, which comes at the same date;
+-- or by a place out of its transition, at whose end the firing that takes the token comes just the holding time later
+abbrev pub IsAttainedBy : NetLists → List DueRow → (ℕ → ℕ → Date) → ℕ → ℕ → Option Step → Type 0
+IsAttainedBy net rows y t k None = (d : ℕ) × Any (λ r. IsRowOf r t k d) rows × (y t k ≡ At (pos d))
+IsAttainedBy net rows y t k (Some Next) = y t (k + 1) ≡ y t k
+IsAttainedBy net rows y t k (Some (By p)) =
+    (from_of net p ≡ t) × (y (place_at net p).to.index (k + (place_at net p).tokens) ≡ delayed (place_at net p).hold (y t k))
+
+-- the firing is free, or its date is attained by its step
+abbrev pub IsAttained : NetLists → List DueRow → ℕ → ℕ → List Date → List (Option Step) → ℕ → ℕ → Type 0
+IsAttained net rows numbers width dates ways t k =
+    date_up_to numbers width dates t k ≢ Never → IsAttainedBy net rows (date_up_to numbers width dates) t k (way_in_rows width ways t k)
+
+-- so is each firing of the table
+abbrev pub AreAttained : NetLists → List DueRow → ℕ → ℕ → List Date → List (Option Step) → Type 0
+AreAttained net rows numbers width dates ways = (t k : ℕ) → t < width → 1 ≤ k → k ≤ numbers → IsAttained net rows numbers width dates ways t k
+
 -- the dates are those of a plan: the latest dates of the net, where inputs at 0 meet what is due; at the inputs they are the
 -- latest inputs that meet it
 pub record IsPlanTold (net : NetLists) (due : ℕ → ℕ → Option ℕ) (numbers : ℕ) (dates : List Date) : Type 0 where
   pub rows : ArePlanRows net due numbers dates
   pub inputs : AreLatestInputs net due (date_up_to numbers (length net.transitions) dates)
 
--- the text is a table up to this number, and in a live net its dates are those of a plan for what the rows list
-abbrev pub IsShownTable : NetLists → List DueRow → List ℕ → ℕ → Type 0
-IsShownTable net rows text numbers = (dates : List Date) × (ways : List (Option Step)) × (text ≡ written (table_told_lines net (length net.transitions) numbers dates ways))
-    × (IsLive net → (due : ℕ → ℕ → Option ℕ) → ListsDues rows due → IsPlanTold net due numbers dates)
+-- the whole text is a table of these dates and steps, which are those of a plan for what the rows list
+pub record IsTableTold (net : NetLists) (rows : List DueRow) (text : List ℕ) (numbers : ℕ) (dates : List Date) (ways : List (Option Step)) : Type 0 where
+  pub told : text ≡ written (table_told_lines net (length net.transitions) numbers dates ways)
+  pub steps : AreAttained net rows numbers (length net.transitions) dates ways
+  pub plan : (due : ℕ → ℕ → Option ℕ) → ListsDues rows due → IsPlanTold net due numbers dates
+
+-- the net is live, and the text is the table of a plan for what the rows list, up to the greatest number that is due
+pub record IsShownTable (net : NetLists) (rows : List DueRow) (text : List ℕ) (numbers : ℕ) : Type 0 where
+  pub live : IsLive net
+  pub greatest : IsGreatestNumber rows numbers
+  pub table : (dates : List Date) × (ways : List (Option Step)) × IsTableTold net rows text numbers dates ways

@@ -15,9 +15,10 @@ use dioid::Date;
 use std::alloc::{AllocError, Global};
 use teg_net::{Net, OutOfMemory};
 use teg_text::{push_date, push_settled};
+use witness_check::is_seen_live;
 
-/// What the text of `teg dates` shows of a live net: past this number its dates go on by steps in
-/// each period; both are numbers of firings.
+/// What the text of `teg dates` shows: past this number the dates of the net go on by steps in each
+/// period; both are numbers of firings.
 #[derive(Clone, Copy, Debug, PartialEq, Eq)]
 pub struct ShownSettled {
     pub after: u64,
@@ -131,10 +132,10 @@ fn lines_of(alloc: Global, net: &Net, form: FormRows<'_>) -> Result<String, Allo
     Ok(text)
 }
 
-/// The number and the period that the text of `teg dates` tells, where its dates and steps show of
-/// a live net that they tell the least dating: the date of each transition at each number is that
-/// of the form of the text, and no less number and no shorter period would do (chapter 3). The whole
-/// text is looked at. It takes memory for the dates that are told, for those of another period and
+/// The number and the period that the text of `teg dates` tells, where the net is seen to be live,
+/// and the dates and steps show that they tell the least dating: the date of each transition at each
+/// number is that of the form of the text, and no less number and no shorter period would do
+/// (chapter 3). The whole text is looked at. It takes memory for the dates that are told, for those of another period and
 /// of the tokens of a place, and for the text; and time of their order with the places of the net,
 /// and for each number that divides the period that of one period. `OutOfMemory` comes only where
 /// no memory is found.
@@ -145,6 +146,9 @@ pub fn shown_settled(
 ) -> Result<Option<ShownSettled>, OutOfMemory>
     ensures { IfOk result (λ shown. IfSome shown (IsShownSettled net.now text.now)) }
 {
+    if !is_seen_live(alloc, net)? {
+        return Ok(None);
+    }
     let Some(told) = settled_in(alloc, net, text)? else {
         return Ok(None);
     };

@@ -2,6 +2,7 @@
 use dioid::Date;
 use std::alloc::{AllocError, Global};
 use teg_net::Net;
+use witness_check::settled_in_line;
 
 // A number, a period, rows of dates, one after another from number 1 on with one date for each
 // transition in order, and a step for each transition.
@@ -11,18 +12,6 @@ pub(crate) struct SettledTold {
     pub(crate) period: u64,
     pub(crate) dates: Vec<Date>,
     pub(crate) steps: Vec<i128>,
-}
-
-// The number and the period of the first line.
-pub(crate) fn first_in(alloc: Global, line: &str) -> Result<Option<(u64, u64)>, AllocError> {
-    let words: Vec<&str> = line.split_whitespace().collect(alloc)?;
-    let ["settled", "after", after, "period", period] = words.as_slice() else {
-        return Ok(None);
-    };
-    let (Ok(after), Ok(period)) = (after.parse::<u64>(), period.parse::<u64>()) else {
-        return Ok(None);
-    };
-    Ok(Some((after, period)))
 }
 
 // A date that is told.
@@ -129,7 +118,7 @@ pub(crate) fn settled_in(
     text: &str,
 ) -> Result<Option<SettledTold>, AllocError> {
     let (first, rest) = text.split_once('\n').unwrap_or((text, ""));
-    let Some((after, period)) = first_in(alloc, first)? else {
+    let Some((after, period)) = settled_in_line(alloc, first)? else {
         return Ok(None);
     };
     let Some((told, rows)) = sizes_of(net, after, period) else {

@@ -3,12 +3,15 @@ ghost use Rattle.std.specs.Prelude.{◌≡◌, ◌+◌, ◌*◌, ◌<◌, ◌≤
 ghost use Rattle.teg_text.specs.Lines.{further_then, line_then, written};
 ghost use Rattle.dating_check.specs.ShownTables.{IsShownTable, IsWayIn, firing_line, firing_lines, role_told, table_told_lines, way_words};
 
+use crate::rows::greatest_number;
 use crate::table_reading::table_in;
+use crate::ways::are_attained;
 use dating_certificates::check_plan;
 use dioid::Date;
 use std::alloc::{AllocError, Global};
-use teg_due::{Due, is_due_of};
+use teg_due::{Due, DueRow, is_due_of};
 use teg_net::{Net, OutOfMemory, Role, Step};
+use witness_check::is_seen_live;
 
 // How lines of a transition begin.
 fn role_told(role: Role) -> &'static str
@@ -93,13 +96,16 @@ fn push_firing(
     }
 }
 
-// Rows of dates and steps up to a number, each of this width.
+// Rows of dates and steps up to a number, each of this width; a due list, and where in it the row of
+// each firing stands.
 #[derive(Clone, Copy)]
-struct TableRows<'t> {
-    numbers: u32,
-    width: usize,
-    dates: &'t [Date],
-    ways: &'t [Option<Step>],
+pub(crate) struct TableRows<'t> {
+    pub(crate) numbers: u32,
+    pub(crate) width: usize,
+    pub(crate) dates: &'t [Date],
+    pub(crate) ways: &'t [Option<Step>],
+    pub(crate) due: &'t [DueRow],
+    pub(crate) due_places: &'t [usize],
 }
 
 // Appends the lines of the transition of this number.
@@ -148,15 +154,14 @@ fn lines_of(alloc: Global, net: &Net, rows: TableRows<'_>) -> Result<String, All
     Ok(text)
 }
 
-/// The number of firings that the text of `teg jit` tells, where its dates are shown to be those of
-/// a plan of a live net for these due dates (chapter 5): inputs at 0 meet what is due, up to that
-/// number the date of each line is the latest of its firing, a firing that is `free` has none, and
-/// past it all firings are free; so the lines of inputs tell the latest inputs. Latest dates that no
-/// inputs keep show nothing. The whole text is looked at, but not whether a walk leads on by the
-/// step that a line names, as [`shown_latest`](witness_check::shown_latest) does. No rows that are
-/// no due list of the net show anything. It takes memory for the dates, the steps and the text, and
-/// time of their order with the places and the due dates. `OutOfMemory` comes only where no memory
-/// is found.
+/// The number of firings that the text of `teg jit` tells, where it is shown to be the table of a
+/// plan of the net for these due dates (chapter 5): the net is seen to be live, inputs at 0 meet what
+/// is due, up to that number, the greatest that is due, the date of each line is the latest of its
+/// firing, and the step that it names attains it; a firing that is `free` has none. So the lines of
+/// inputs tell the latest inputs. Latest dates that no inputs keep show nothing. The whole text is
+/// looked at; which of several steps is named is not. No rows that are no due list of the net show
+/// anything. It takes memory for the dates, the steps and the text, and time of their order with
+/// the places and the due dates. `OutOfMemory` comes only where no memory is found.
 pub fn shown_table(
     alloc: Global,
     net: &Net,
@@ -166,23 +171,35 @@ pub fn shown_table(
     ensures { IfOk result (λ shown. IfSome shown
         (IsShownTable net.now due.now.rows.items text.now)) }
 {
-    let Some(told) = table_in(alloc, net, text)? else {
+    if !is_due_of(net, due) || !is_seen_live(alloc, net)? {
+        return Ok(None);
+    }
+    let Some(told) = table_in(alloc, net, due, text)? else {
         return Ok(None);
     };
     let (dates, ways) = (told.dates.as_slice(), told.ways.as_slice());
     let numbers = told.numbers;
-    if !is_whole(net, numbers, dates, ways) || !are_ways_in(net, ways) || !is_due_of(net, due) {
+    if numbers != greatest_number(&due.rows) {
+        return Ok(None);
+    }
+    if !is_whole(net, numbers, dates, ways) || !are_ways_in(net, ways) {
         return Ok(None);
     }
     if !check_plan(alloc, net, due, numbers, dates)? {
         return Ok(None);
     }
+    let listed = due.rows.as_slice();
     let rows = TableRows {
         numbers,
         width: net.transitions().len(),
         dates,
         ways,
+        due: listed,
+        due_places: told.due_places.as_slice(),
     };
+    if !are_attained(net, rows) {
+        return Ok(None);
+    }
     let lines = lines_of(alloc, net, rows)?;
     if lines.as_str() != text {
         return Ok(None);

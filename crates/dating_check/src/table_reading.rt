@@ -1,15 +1,18 @@
 //! The table that a text of `teg jit` tells. Nothing rests on it: what is read is checked.
 use dioid::Date;
 use std::alloc::{AllocError, Global};
+use teg_due::{Due, DueRow};
 use teg_net::{Names, Net, Step};
 
 // Rows of dates from number 1 up to a number, one after another with one date for each transition
-// in order, and so for each date the first step of a walk by which it is attained, if there is one.
+// in order, and so for each date the first step of a walk by which it is attained, if there is one,
+// and where the row of its firing stands in the due list.
 #[derive(Drop)]
 pub(crate) struct TableTold {
     pub(crate) numbers: u32,
     pub(crate) dates: Vec<Date>,
     pub(crate) ways: Vec<Option<Step>>,
+    pub(crate) due_places: Vec<usize>,
 }
 
 // The number of the first line.
@@ -62,10 +65,31 @@ impl TableTold {
     }
 }
 
+// For each firing up to a number, number by number, where its row stands in the list.
+fn places_of(
+    alloc: Global,
+    width: usize,
+    cells: usize,
+    rows: &[DueRow],
+) -> Result<Vec<usize>, AllocError> {
+    let mut places = vec![in alloc; rows.len(); cells]?;
+    for (place, row) in rows.iter().enumerate() {
+        let start = (row.number as usize).saturating_sub(1).checked_mul(width);
+        let cell = start.and_then(|start| start.checked_add(row.transition.index()));
+        if let Some(cell) = cell {
+            if cell < places.len() {
+                places[cell] = place;
+            }
+        }
+    }
+    Ok(places)
+}
+
 // The table that the text tells; none where a line is none of its lines.
 pub(crate) fn table_in(
     alloc: Global,
     net: &Net,
+    due: &Due,
     text: &str,
 ) -> Result<Option<TableTold>, AllocError> {
     let (first, rest) = text.split_once('\n').unwrap_or((text, ""));
@@ -84,6 +108,7 @@ pub(crate) fn table_in(
         numbers,
         dates: vec![in alloc; Date::Never; cells]?,
         ways: vec![in alloc; None; cells]?,
+        due_places: places_of(alloc, width, cells, &due.rows)?,
     };
     for (index, line) in rest.lines().enumerate() {
         let Some((date, way)) = cell_in(alloc, &names, line)? else {

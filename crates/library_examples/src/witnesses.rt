@@ -1,12 +1,13 @@
 //! Answers of the guide, checked by what they print alone; with one digit changed they show
 //! nothing.
 use example_nets::{SHOP, due_rows, read};
+use late_lines::LateFiring;
 use std::alloc::Global;
 use std::test::Fail;
 use teg_net::{Net, PlaceId, Ratio, TransitionId};
 use witness_check::{
-    ShownLate, ShownLatest, ShownSize, shown_late, shown_latest, shown_pace, shown_size,
-    shows_deadlock, shows_live,
+    ShownLatest, ShownSize, shown_late, shown_latest, shown_pace, shown_size, shows_deadlock,
+    shows_live,
 };
 
 const LINE: &[u8] = b"transition = [{ name = \"cut\" }, { name = \"drill\" }, { name = \"paint\" }]
@@ -219,18 +220,19 @@ path material 1 by feed saw 1 by to_drill drill 1 by drill_free drill 2 by to_sh
 ";
 
 // The firing of the shop that the text shows to be late.
-fn late_shown(alloc: Global, text: &str) -> Result<Option<ShownLate>, Fail> {
+fn late_shown(alloc: Global, text: &str) -> Result<Option<LateFiring>, Fail> {
     let shown = shown_late(alloc, &read(alloc, SHOP)?, text);
     Ok(shown?)
 }
 
 #[test]
 fn a_late_firing_is_shown(rt: HostRuntime) -> Result<(), Fail> {
-    let second = ShownLate {
+    let second = LateFiring {
         transition: TransitionId::new(3),
         number: 2,
         due: 20,
         least: 22,
+        start: 0,
     };
     assert!(rt; late_shown(rt.alloc(), LATE)? == Some(second));
     assert!(rt; late_shown(rt.alloc(), LATER)?.is_none());

@@ -5,14 +5,18 @@ use Rattle.teg_model.specs.dioid.declared.dates.Date.{Date}
 use Rattle.teg_model.specs.dioid.declared.dates.Date.TheVariants.{At}
 use Rattle.teg_model.specs.dioid.Dates.{IsAtMostDate}
 use Rattle.teg_model.specs.teg_net.declared.entries.TransitionId.{TransitionId}
+use Rattle.teg_model.specs.teg_net.declared.walks.Walk.{Walk}
 use Rattle.teg_model.specs.teg_net.Nets.{NetLists}
 use Rattle.teg_model.specs.Datings.{IsFeasibleUnder}
+use Rattle.teg_text.specs.Lines.{written}
 use Rattle.teg_text.specs.WordsOfNames.{name_of_transition}
+use Rattle.due_laws.specs.LatestDates.{IsLateWalk}
 use Rattle.due_laws.specs.MeetingDueDates.{KeepsDues, InputsMeet}
 use Rattle.teg_due.specs.declared.rows.DueRow.{DueRow}
 use Rattle.witness_check.specs.declared.latest.ShownLatest.{ShownLatest}
-use Rattle.witness_check.specs.declared.late.ShownLate.{ShownLate}
-use Rattle.witness_check.specs.Witnesses.{BeginsWith, BeginsWithLine}
+use Rattle.late_lines.specs.declared.late.LateFiring.{LateFiring}
+use Rattle.late_lines.specs.LateLines.{late_by_walk, late_walk_lines}
+use Rattle.witness_check.specs.Witnesses.{BeginsWith}
 
 -- how the line of a latest date begins: a word, the transition, the number and the date, each before a blank
 abbrev pub latest_beginning : NetLists → List ℕ → TransitionId → ℕ → ℕ → List ℕ
@@ -31,10 +35,6 @@ BoundsByRow net row t k date = (due : ℕ → ℕ → Option ℕ) → due row.tr
 abbrev pub IsShownLatest : NetLists → DueRow → List ℕ → ShownLatest → Type 0
 IsShownLatest net row line shown = TellsLatest net line shown × BoundsByRow net row shown.transition.index shown.number shown.date
 
--- the words of a firing that is late
-abbrev pub late_words : NetLists → ShownLate → List (List ℕ)
-late_words net shown = codes "late" ∷ name_of_transition net shown.transition ∷ decimal shown.number ∷ codes "due" ∷ decimal shown.due ∷ codes "least" ∷ decimal shown.least ∷ []
-
 -- no inputs meet what is due, where the firing is due by this date
 abbrev pub MeetsNoInputs : NetLists → ℕ → ℕ → ℕ → Type 0
 MeetsNoInputs net t k date = (due : ℕ → ℕ → Option ℕ) → due t k ≡ Some date → (v : ℕ → ℕ → Date) → InputsMeet net due v → ⊥
@@ -43,10 +43,15 @@ MeetsNoInputs net t k date = (due : ℕ → ℕ → Option ℕ) → due t k ≡ 
 abbrev pub ComesNoEarlier : NetLists → ℕ → ℕ → ℕ → Type 0
 ComesNoEarlier net t k date = (u x : ℕ → ℕ → Date) → IsFeasibleUnder net u x → IsAtMostDate (At (pos date)) (x t k)
 
--- the text begins with the line of the firing, which comes no earlier than at the date that it tells as least, whatever the
--- inputs do; that is after its due date, and no inputs meet what is due
-pub record IsShownLate (net : NetLists) (text : List ℕ) (shown : ShownLate) : Type 0 where
-  pub told : BeginsWithLine text (late_words net shown)
+-- the whole text tells the firing with a walk that comes to it at the date that is told as least
+abbrev pub TellsLate : NetLists → List ℕ → LateFiring → Type 0
+TellsLate net text late =
+    (walk : Walk) × IsLateWalk net late.transition.index late.number late.start late.least walk × (text ≡ written (late_walk_lines net (late_by_walk late walk)))
+
+-- the whole text tells the firing, which comes no earlier than at the date that is told as least, whatever the inputs do; that is
+-- after the date at which it is told to be due, and where it is due then no inputs meet what is due
+pub record IsShownLate (net : NetLists) (text : List ℕ) (shown : LateFiring) : Type 0 where
+  pub told : TellsLate net text shown
   pub no_earlier : ComesNoEarlier net shown.transition.index shown.number shown.least
   pub late : shown.due < shown.least
   pub refused : MeetsNoInputs net shown.transition.index shown.number shown.due

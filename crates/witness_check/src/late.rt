@@ -1,87 +1,100 @@
 //! The witness of `teg jit` where no inputs meet the due dates: a walk that comes late.
-ghost use Rattle.std.specs.Prelude.{ℕ, ◌≡◌, ◌<◌, ◌++◌, [], IfOk, IfSome, IsTrue, length, string_bytes};
+ghost use Rattle.std.specs.Prelude.{◌≡◌, ◌<◌, IfOk, IfSome, IsTrue, length};
 ghost use Rattle.due_laws.specs.LatestDates.{IsLateWalk};
-ghost use Rattle.teg_text.specs.Lines.{line_then};
-ghost use Rattle.witness_check.specs.Witnesses.{BeginsWithLine};
-ghost use Rattle.witness_check.specs.ShownWalks.{ComesNoEarlier, IsShownLate, MeetsNoInputs, late_words};
+ghost use Rattle.teg_text.specs.Lines.{written};
+ghost use Rattle.late_lines.specs.LateLines.{IsLateIn, late_by_walk, late_walk_lines};
+ghost use Rattle.witness_check.specs.ShownWalks.{ComesNoEarlier, IsShownLate, MeetsNoInputs, TellsLate};
 
-use crate::beginnings::begins_with;
 use crate::latest::ends_at;
 use crate::walk_reading::path_in;
+use late_lines::{LateFiring, late_text};
 use latest_laws::late_walks_refuse;
 use std::alloc::{AllocError, Global};
-use teg_net::{Net, OutOfMemory, TransitionId, Walk, walk_time};
+use teg_net::{Net, OutOfMemory, Walk, walk_time};
 
-/// What the text of `teg jit` shows where the due dates cannot be met: the firing comes after it is
-/// due, whatever the inputs do.
-#[derive(Clone, Copy, Debug, PartialEq, Eq)]
-pub struct ShownLate {
-    pub transition: TransitionId,
-    /// The number of the firing, from 1.
-    pub number: u64,
-    /// The due date, in the user's unit.
-    pub due: u64,
-    /// The date of the walk, in the user's unit: before it the firing does not come.
-    pub least: u64,
-}
-
-// Whether the walk comes to the firing at the date that is told, after it is due.
-fn is_late(net: &Net, walk: &Walk, shown: ShownLate) -> bool
-    ensures walk { IsTrue result → (start : ℕ) × IsLateWalk net.now shown.transition.index
-        shown.number start shown.least walk.now }
-    ensures late { IsTrue result → shown.due < shown.least }
+// Whether the walk comes to the firing at the date that is told, after it is due, from the start
+// that is told.
+fn is_late(net: &Net, walk: &Walk, late: LateFiring) -> bool
+    ensures walk { IsTrue result → IsLateWalk net.now late.transition.index late.number late.start
+        late.least walk.now }
+    ensures late { IsTrue result → late.due < late.least }
 {
-    if !ends_at(net, walk, shown.transition, shown.number) {
+    if !ends_at(net, walk, late.transition, u64::from(late.number)) {
         return false;
     }
-    let start = u128::from(net.start_date(walk.start, walk.number));
+    let start = net.start_date(walk.start, walk.number);
     let time = walk_time(net, walk);
-    let least = u128::from(shown.least);
-    shown.due < shown.least && time <= least && least - time == start
+    start == late.start
+        && u128::from(late.due) < late.least
+        && time <= late.least
+        && late.least - time == u128::from(start)
 }
 
 // Whether the walk shows that the firing comes no earlier than told, so that no inputs meet what is
 // due.
-fn refuses(net: &Net, walk: &Walk, shown: ShownLate) -> bool
-    ensures no_earlier { IsTrue result → ComesNoEarlier net.now shown.transition.index
-        shown.number shown.least }
-    ensures late { IsTrue result → shown.due < shown.least }
-    ensures refused { IsTrue result → MeetsNoInputs net.now shown.transition.index shown.number
-        shown.due }
+fn refuses(net: &Net, walk: &Walk, late: LateFiring) -> bool
+    ensures walk { IsTrue result → IsLateWalk net.now late.transition.index late.number late.start
+        late.least walk.now }
+    ensures no_earlier { IsTrue result → ComesNoEarlier net.now late.transition.index late.number
+        late.least }
+    ensures late { IsTrue result → late.due < late.least }
+    ensures refused { IsTrue result → MeetsNoInputs net.now late.transition.index late.number
+        late.due }
 {
     net.rules();
     late_walks_refuse();
-    is_late(net, walk, shown)
+    is_late(net, walk, late)
 }
 
-// Appends the line of a firing that is late.
-fn push_late(text: &mut String, net: &Net, shown: ShownLate) -> Result<(), AllocError>
-    requires { shown.transition.index < length net.now.transitions }
-    ensures { IfOk result (λ _. string_bytes text.new ≡
-        string_bytes text.old ++ line_then (late_words net.now shown) []) }
-{
-    let name = net.transitions()[shown.transition.index()].name.as_str();
-    let number = shown.number;
-    let due = shown.due;
-    let least = shown.least;
-    write!(text, "late {name} {number} due {due} least {least}\n")
-}
-
-// Whether the text begins with the line of the firing.
-fn tells_late(alloc: Global, net: &Net, text: &str, shown: ShownLate) -> Result<bool, AllocError>
+// Whether the whole text is that of the firing and the walk.
+fn is_text_of(
+    alloc: Global,
+    net: &Net,
+    text: &str,
+    walk: &Walk,
+    late: LateFiring,
+) -> Result<bool, OutOfMemory>
+    requires { IsLateIn net.now (late_by_walk late walk.now) }
     ensures { IfOk result (λ yes. IsTrue yes
-        → BeginsWithLine text.now (late_words net.now shown)) }
+        → text.now ≡ written (late_walk_lines net.now (late_by_walk late walk.now))) }
 {
-    if !net.contains_transition(shown.transition) {
-        return Ok(false);
-    }
-    let mut line = String::new(alloc);
-    push_late(&mut line, net, shown)?;
-    Ok(begins_with(text, line.as_str()))
+    let lines = late_text(alloc, net, late, walk)?;
+    Ok(text.as_bytes() == lines.as_slice())
 }
 
-// The firing of a line. Nothing rests on it: what is read is checked.
-fn late_in(alloc: Global, net: &Net, line: &str) -> Result<Option<ShownLate>, AllocError> {
+// Whether the whole text tells the firing with this walk.
+fn tells_late(
+    alloc: Global,
+    net: &Net,
+    text: &str,
+    walk: &Walk,
+    late: LateFiring,
+) -> Result<bool, OutOfMemory>
+    requires transition { late.transition.index < length net.now.transitions }
+    requires walk { IsLateWalk net.now late.transition.index late.number late.start late.least
+        walk.now }
+    ensures { IfOk result (λ yes. IsTrue yes → TellsLate net.now text.now late) }
+{
+    let is_told = is_text_of(alloc, net, text, walk, late)?;
+    Ok(is_told)
+}
+
+// The start that a line tells, 0 where it tells none.
+fn start_in(alloc: Global, line: &str) -> Result<Option<u64>, AllocError> {
+    let words: Vec<&str> = line.split_whitespace().collect(alloc)?;
+    match words.as_slice() {
+        ["from", "date", start] => Ok(start.parse::<u64>().ok()),
+        _ => Ok(Some(0)),
+    }
+}
+
+// The firing of a line, with this start. Nothing rests on it: what is read is checked.
+fn late_in(
+    alloc: Global,
+    net: &Net,
+    line: &str,
+    start: u64,
+) -> Result<Option<LateFiring>, AllocError> {
     let words: Vec<&str> = line.split_whitespace().collect(alloc)?;
     let ["late", name, number, "due", due, "least", least] = words.as_slice() else {
         return Ok(None);
@@ -90,18 +103,29 @@ fn late_in(alloc: Global, net: &Net, line: &str) -> Result<Option<ShownLate>, Al
         return Ok(None);
     };
     let (Ok(number), Ok(due), Ok(least)) = (
-        number.parse::<u64>(),
+        number.parse::<u32>(),
         due.parse::<u64>(),
-        least.parse::<u64>(),
+        least.parse::<u128>(),
     ) else {
         return Ok(None);
     };
-    Ok(Some(ShownLate {
+    Ok(Some(LateFiring {
         transition,
         number,
         due,
         least,
+        start,
     }))
+}
+
+// The firing that the first two lines of the text tell.
+fn late_told(alloc: Global, net: &Net, text: &str) -> Result<Option<LateFiring>, AllocError> {
+    let mut lines = text.lines();
+    let first = lines.next().unwrap_or("");
+    let Some(start) = start_in(alloc, lines.next().unwrap_or(""))? else {
+        return Ok(None);
+    };
+    late_in(alloc, net, first, start)
 }
 
 // The walk of the last line of the text.
@@ -114,23 +138,23 @@ fn walk_told(alloc: Global, net: &Net, text: &str) -> Result<Option<Walk>, Alloc
 
 /// What the text of `teg jit` tells of due dates that cannot be met, where its walk shows it: the
 /// firing comes no earlier than at the date that is told as least, whatever the inputs are, and
-/// where it is due by its date, no inputs meet what is due (chapter 5). That it can come as early as
-/// that is not shown. `OutOfMemory` comes only where no memory is found.
-pub fn shown_late(alloc: Global, net: &Net, text: &str) -> Result<Option<ShownLate>, OutOfMemory>
+/// where it is due by its date, no inputs meet what is due (chapter 5). The whole text is looked at.
+/// That it can come as early as that, and that it is due, is not shown: `shown_first_late` of
+/// `dating_check` does so. `OutOfMemory` comes only where no memory is found.
+pub fn shown_late(alloc: Global, net: &Net, text: &str) -> Result<Option<LateFiring>, OutOfMemory>
     ensures { IfOk result (λ shown. IfSome shown (IsShownLate net.now text.now)) }
 {
-    let first = text.lines().next().unwrap_or("");
-    let Some(shown) = late_in(alloc, net, first)? else {
+    let Some(late) = late_told(alloc, net, text)? else {
         return Ok(None);
     };
     let Some(walk) = walk_told(alloc, net, text)? else {
         return Ok(None);
     };
-    if !refuses(net, &walk, shown) {
+    if !net.contains_transition(late.transition) || !refuses(net, &walk, late) {
         return Ok(None);
     }
-    if !tells_late(alloc, net, text, shown)? {
+    if !tells_late(alloc, net, text, &walk, late)? {
         return Ok(None);
     }
-    Ok(Some(shown))
+    Ok(Some(late))
 }

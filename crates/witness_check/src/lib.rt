@@ -14,7 +14,7 @@
 //! anew, of `jit` a line, and compares. So what it tells rests on the checker, on its law and on the
 //! words of the lines, and neither on the parser nor on whatever found the answer. Clauses say what
 //! is so where it says yes or tells something; where it does not, they say nothing. Texts that tell dates for
-//! ever, all latest dates, or delays that stay, are those of `dating_check`.
+//! ever, all latest dates, or delays that stay, are those of `dating_check` and `delay_check`.
 //!
 //! The crate stands on `teg_net` for nets and walks, on `teg_text` and `teg_lines` for texts, on `teg_due` for rows
 //! that are due, on `teg_certificates` for checkers, and on `latest_laws` for what walks show; no
@@ -36,9 +36,9 @@ mod walk_reading;
 
 pub use beginnings::begins_with;
 pub use deadlock::shows_deadlock;
-pub use late::{ShownLate, shown_late};
+pub use late::shown_late;
 pub use latest::{ShownLatest, shown_latest};
 pub use live::{is_seen_live, shows_live};
-pub use names::places_named;
+pub use names::{places_named, settled_in_line};
 pub use pace::shown_pace;
 pub use sizes::{ShownSize, shown_size};

@@ -35,3 +35,17 @@ pub(crate) fn ratio_in(word: &str) -> Option<Ratio> {
     }
     Some(Ratio::of(time, tokens))
 }
+
+/// The number and the period of a line that tells where dates settle. Nothing rests on them: who
+/// reads a text so looks at them, and prints the line anew. `AllocError` comes only where no memory
+/// is found.
+pub fn settled_in_line(alloc: Global, line: &str) -> Result<Option<(u64, u64)>, AllocError> {
+    let words: Vec<&str> = line.split_whitespace().collect(alloc)?;
+    let ["settled", "after", after, "period", period] = words.as_slice() else {
+        return Ok(None);
+    };
+    let (Ok(after), Ok(period)) = (after.parse::<u64>(), period.parse::<u64>()) else {
+        return Ok(None);
+    };
+    Ok(Some((after, period)))
+}

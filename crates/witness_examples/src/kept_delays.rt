@@ -1,6 +1,9 @@
 //! Delays that a timetable keeps.
-use dating_check::shown_kept;
-use std::alloc::Global;
+use delay_check::shown_kept;
+use delay_laws::{Delay, Timetable};
+use std::alloc::{AllocError, Global};
+use std::test::Fail;
+use teg_net::TransitionId;
 use teg_reader::read_net;
 
 const RAILWAY: &str =
@@ -15,37 +18,46 @@ place = [
 ]
 ";
 
-// How many places the circuit has that the text shows of the railway with this period.
-fn shown(alloc: Global, period: u64, text: &str) -> Option<usize> {
-    let Ok(net) = read_net(alloc, RAILWAY.as_bytes()) else {
-        return None;
-    };
-    match shown_kept(alloc, &net, period, text) {
-        Ok(Some(circuit)) => Some(circuit.places.len()),
-        _ => None,
+const KEPT: &str = "settled after 2 period 1
+kept
+circuit south_down south_up
+";
+
+// The timetable of the railway, with the first train from North late by so much, or on time.
+fn table(alloc: Global, by: u64) -> Result<Timetable, AllocError> {
+    let mut delays = Vec::new(alloc);
+    if by >= 1 {
+        delays.push(Delay {
+            row: 5,
+            transition: TransitionId::new(0),
+            number: 1,
+            by,
+        })?;
     }
+    Ok(Timetable {
+        firsts: Vec::from_array(alloc, [0, 3, 0, 15])?,
+        delays,
+    })
+}
+
+// How many places the circuit has that the text shows of the railway with this period and delay.
+fn shown(alloc: Global, period: u64, by: u64, text: &str) -> Result<Option<usize>, Fail> {
+    let net = read_net(alloc, RAILWAY.as_bytes())?;
+    let circuit = shown_kept(alloc, &net, period, &table(alloc, by)?, text)?;
+    Ok(circuit.map(|circuit| circuit.places.len()))
 }
 
 #[test]
-fn kept_delays_are_shown(rt: HostRuntime) {
-    let told = "settled after 2 period 1
-kept
-circuit south_down south_up
-delays North 10 0 0
-delays Centre>North 0 1 3
-delays Centre>South 0 5 5
-delays South 0 5 5
-";
-    assert!(rt; shown(rt.alloc(), 30, told) == Some(2));
-    assert!(rt; shown(rt.alloc(), 31, told).is_none());
-    let path = "settled after 2 period 1
-kept
-circuit south_down
-";
-    assert!(rt; shown(rt.alloc(), 30, path).is_none());
-    let recovered = "settled after 2 period 1
-recovered after 2
-circuit south_down south_up
-";
-    assert!(rt; shown(rt.alloc(), 30, recovered).is_none());
+fn kept_delays_are_shown(rt: HostRuntime) -> Result<(), Fail> {
+    let alloc = rt.alloc();
+    assert!(rt; shown(alloc, 30, 10, KEPT)? == Some(2));
+    // The plan leaves 5 of them to spare on the way to Centre>South.
+    assert!(rt; shown(alloc, 30, 5, KEPT)?.is_none());
+    assert!(rt; shown(alloc, 30, 0, KEPT)?.is_none());
+    // No train has the time that it takes, or each has time to spare.
+    assert!(rt; shown(alloc, 24, 10, KEPT)?.is_none());
+    assert!(rt; shown(alloc, 31, 10, KEPT)?.is_none());
+    let recovered = "settled after 2 period 1\nrecovered after 2\ncircuit south_down south_up\n";
+    assert!(rt; shown(alloc, 30, 10, recovered)?.is_none());
+    Ok(())
 }

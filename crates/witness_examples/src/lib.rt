@@ -1,5 +1,5 @@
-//! Examples of `dating_check`: texts of the guide that show their dates, latest dates and delays
-//! that stay, and the same texts with a digit changed, which show nothing. The crate has tests
+//! Examples of `dating_check` and `delay_check`: texts of the guide that show their dates, latest
+//! dates, late rows and delays that stay, and the same texts with a digit changed, which show nothing. The crate has tests
 //! alone; those of the other answers stand in `library_examples`.
 #![tactic(auto)]
 
@@ -7,6 +7,8 @@
 mod answers;
 #[cfg(test)]
 mod kept_delays;
+#[cfg(test)]
+mod late_rows;
 #[cfg(test)]
 mod settled_texts;
 #[cfg(test)]

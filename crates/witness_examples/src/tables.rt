@@ -102,6 +102,13 @@ latest drill 1 7 by to_ship
 latest ship 1 15 due
 ";
     assert!(rt; shown(rt.alloc(), due, free).is_none());
+    let step = "latest inputs for 1 firings
+input material 1 0 by feed
+latest saw 1 2 by to_drill
+latest drill 1 7 next
+latest ship 1 15 due
+";
+    assert!(rt; shown(rt.alloc(), due, step).is_none());
     let role = "latest inputs for 1 firings
 latest material 1 0 by feed
 latest saw 1 2 by to_drill

@@ -1,75 +1,123 @@
 //! Checks a printed answer of `teg` by the net and the text alone.
 //!
-//! `witness_runner NET ANSWER [DUE | PERIOD]` reads a net file, a file with all that `teg check`,
-//! `cycle`, `dates`, `size`, `jit` or `timetable` printed of it, for `jit` the due file, and for
-//! `timetable`, where delays are kept, its period. It prints the first line of the answer, of a
-//! timetable the second, and of a table of latest dates also each line that tells a date, behind
-//! `shown` or `not shown`; and ends with status 0 where all are shown, with 1 where one is not, or
-//! where a file is not read, and with 2 where the words are others. What is shown is right by the
-//! contracts of `witness_check` and `dating_check`, whatever printed it, and whether the
-//! net is live is asked before all else: of `check`
-//! and `size`, what the line tells; of `cycle`, the pace of the net; of `late`, that no inputs meet
-//! what is due; of `dates`, that its form tells all dates; of the first line of latest dates, that
-//! the table has the latest dates, and of each other one, that its firing may come no later; of
-//! `kept`, that the circuit keeps each delay. Of ratios of parts, and of the other lines, it tells
-//! nothing.
+//! `witness_runner NET ANSWER [DUE | PERIOD TIMETABLE]` reads a net file, a file with all that `teg
+//! check`, `cycle`, `dates`, `size`, `jit` or `timetable` printed of it, for `jit` the due file, and
+//! for `timetable` its period and its file. It prints the first line of the answer, of a table of
+//! latest dates also each line that tells a date, and of delays that are kept that line and the
+//! circuit, each behind what is found of it: `shown`, `refuted`, `not shown` or `no checker`. It
+//! ends with status 0 where all is shown, 1 where a line is refuted, 2 where the words are others, 3
+//! where one is not shown, 4 where no checker reads the answer, and 5 where a file is not read.
 //!
-//! It stands on `witness_check` and `dating_check` for what answers show, on `teg_reader` and
-//! `teg_due` for files, and on `teg_net` for nets.
+//! What is shown is right by the contracts of `witness_check`, `dating_check` and `delay_check`,
+//! whatever printed it, and whether the net is live is asked before all else: of `check`, what the
+//! text tells; of `cycle`, the pace of the net and the greatest ratios of its parts; of `size`, that
+//! the number is the least that is enough; of `dates`, that its form is the settled form; of latest
+//! dates, that the table is a plan, with a step that attains each date; of `late`, that its row is
+//! the first that comes late, and when; of `kept`, that the circuit keeps delays. Of the other lines
+//! it tells nothing.
+//!
+//! It stands on `witness_check`, `dating_check` and `delay_check` for what answers show, on
+//! `teg_reader`, `teg_due` and `teg_timetable` for files, and on `teg_net` for nets.
 #![tactic(auto)]
 
 mod claims;
 
-use crate::claims::{Asked, claims_of};
-use anyhow::{Context, Result, ensure};
+use crate::claims::{Asked, Claim, Finding, claims_of};
+use anyhow::{Context, Result, anyhow, ensure};
 use std::alloc::Global;
 use std::process::ExitCode;
 use std::rt::Files;
 use std::{env, fs};
-use teg_due::{Due, read_due};
+use teg_due::read_due;
 use teg_net::Net;
 use teg_reader::read_net;
+use teg_timetable::read_timetable;
 
-// The most bytes that a due file may have.
+// The most bytes that a due file or a timetable may have.
 const MOST_BYTES: usize = 4_194_304;
+
+// The status where words are no call, and where a file is not read.
+const NO_CALL: u8 = 2;
+
+const NOT_READ: u8 = 5;
 
 // The text of a file.
 fn text_of(rt: &(impl Files + Alloc<A = Global>), name: &str) -> Result<String> {
     fs::read_to_string(rt, name).context(format_args!("reading {name}"))
 }
 
-fn main(rt: HostRuntime) -> Result<ExitCode> {
-    let alloc = rt.alloc();
-    let words: Vec<String> = env::args(&rt)?.skip(1).collect(alloc)?;
-    let (net, answer, with) = match words.as_slice() {
-        [net, answer] => (net, answer, None),
-        [net, answer, with] => (net, answer, Some(with.as_str())),
-        _ => {
-            eprintln!(rt; "usage: witness_runner NET ANSWER [DUE | PERIOD]")?;
-            return Ok(ExitCode::from(2));
-        }
-    };
-    let net = read_net(alloc, text_of(&rt, net)?.as_bytes())?;
-    let text = text_of(&rt, answer)?;
-    let period = with.and_then(|word| word.parse::<u64>().ok());
-    let due = match with {
-        Some(name) if period.is_none() => due_of(alloc, &net, text_of(&rt, name)?.as_bytes())?,
-        _ => Due {
-            rows: Vec::new(alloc),
-        },
-    };
-    let asked = Asked { due, period };
-    let mut all = true;
-    for claim in claims_of(alloc, &net, &asked, text.as_str())? {
-        let said = if claim.is_shown { "shown" } else { "not shown" };
-        println!(rt; "{said} {}", claim.line)?;
-        all = all && claim.is_shown;
-    }
-    Ok(ExitCode::from(if all { 0 } else { 1 }))
+// The text of a file of rows.
+fn rows_of(rt: &(impl Files + Alloc<A = Global>), name: &str) -> Result<String> {
+    let text = text_of(rt, name)?;
+    ensure!(text.len() <= MOST_BYTES, "{name} is too long");
+    Ok(text)
 }
 
-// The rows of a due file.
-fn due_of(alloc: Global, net: &Net, bytes: &[u8]) -> Result<Due> {
-    ensure!(bytes.len() <= MOST_BYTES, "the due file is too long");
-    Ok(read_due(alloc, net, bytes)?)
+// What the answer was asked with.
+fn asked_of(rt: &(impl Files + Alloc<A = Global>), net: &Net, words: &[String]) -> Result<Asked> {
+    let alloc = rt.alloc();
+    match words {
+        [] => Ok(Asked::Nothing),
+        [due] => {
+            let text = rows_of(rt, due)?;
+            Ok(Asked::Due(read_due(alloc, net, text.as_bytes())?))
+        }
+        [period, table, ..] => {
+            let Ok(period) = period.parse::<u64>() else {
+                return Err(anyhow!("{period} is no period"));
+            };
+            let text = rows_of(rt, table)?;
+            match read_timetable(alloc, net, text.as_bytes()) {
+                Ok(table) => Ok(Asked::Timetable(period, table)),
+                Err(_) => Err(anyhow!("{table} is no timetable of the net")),
+            }
+        }
+    }
+}
+
+// The status of an answer with these claims.
+fn status_of(claims: &[Claim<'_>]) -> u8 {
+    for (finding, status) in [
+        (Finding::Refuted, 1),
+        (Finding::NotShown, 3),
+        (Finding::NoChecker, 4),
+    ] {
+        if claims.iter().any(|claim| claim.finding == finding) {
+            return status;
+        }
+    }
+    if claims.is_empty() { 4 } else { 0 }
+}
+
+// Prints what is found of the answer, and gives the status.
+fn audit(rt: &HostRuntime, net: &str, answer: &str, with: &[String]) -> Result<u8> {
+    let alloc = rt.alloc();
+    let net = read_net(alloc, text_of(rt, net)?.as_bytes())?;
+    let text = text_of(rt, answer)?;
+    let asked = asked_of(rt, &net, with)?;
+    let claims = claims_of(alloc, &net, &asked, text.as_str())?;
+    for claim in claims.iter() {
+        println!(rt; "{} {}", claim.finding.word(), claim.line)?;
+    }
+    Ok(status_of(&claims))
+}
+
+fn main(rt: HostRuntime) -> Result<ExitCode> {
+    let words: Vec<String> = env::args(&rt)?.skip(1).collect(rt.alloc())?;
+    let status = match words.as_slice() {
+        [net, answer, with @ ..] if with.len() <= 2 => {
+            match audit(&rt, net.as_str(), answer.as_str(), with) {
+                Ok(status) => status,
+                Err(why) => {
+                    eprintln!(rt; "{why:#}")?;
+                    NOT_READ
+                }
+            }
+        }
+        _ => {
+            eprintln!(rt; "usage: witness_runner NET ANSWER [DUE | PERIOD TIMETABLE]")?;
+            NO_CALL
+        }
+    };
+    Ok(ExitCode::from(status))
 }

@@ -3,12 +3,12 @@ use Rattle.witness_check.proofs.late.refuses.Goals as goal
 
 pub returns-clause-no_earlier : goal.returns-clause-no_earlier
 returns-clause-no_earlier c y =
-    let w = c.is_late.ensures.walk y in
-    c.late_walks_refuse.ensures.bound c.args.net.now (net_ends c.args.net.now c.rules.ensures) c.args.shown.transition.index c.args.shown.number w.0 c.args.shown.least
-    c.args.walk.now w.1
+    let late = c.args.late in
+    c.late_walks_refuse.ensures.bound c.args.net.now (net_ends c.args.net.now c.rules.ensures) late.transition.index late.number late.start late.least
+    c.args.walk.now (c.is_late.ensures.walk y)
 
 pub returns-clause-refused : goal.returns-clause-refused
 returns-clause-refused c y due told v meets =
-    let w = c.is_late.ensures.walk y in
-    c.late_walks_refuse.ensures.refuse c.args.net.now (net_ends c.args.net.now c.rules.ensures) due c.args.shown.transition.index c.args.shown.number w.0 c.args.shown.least c.args.shown.due
-    c.args.walk.now w.1 told (c.is_late.ensures.late y) v meets
+    let late = c.args.late in
+    c.late_walks_refuse.ensures.refuse c.args.net.now (net_ends c.args.net.now c.rules.ensures) due late.transition.index late.number late.start late.least late.due
+    c.args.walk.now (c.is_late.ensures.walk y) told (c.is_late.ensures.late y) v meets

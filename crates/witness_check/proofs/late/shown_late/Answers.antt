@@ -3,7 +3,7 @@ use Rattle.witness_check.proofs.late.shown_late.Goals as goal
 
 pub returns : goal.returns
 returns c = record {
-  told = search rules;
+  told = c.in_ok-tells_late.ensures (search rules);
   no_earlier = c.if-not-refuses.ensures.no_earlier refl;
   late = c.if-not-refuses.ensures.late refl;
   refused = c.if-not-refuses.ensures.refused refl;

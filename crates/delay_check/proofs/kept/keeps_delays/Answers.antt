@@ -1,6 +1,6 @@
 use Rattle.std.proofs.Common.{rules}
 use Rattle.teg_model.specs.LiveRanks.{HasEndsInRange}
-use Rattle.dating_check.proofs.kept.keeps_delays.Goals as goal
+use Rattle.delay_check.proofs.kept.keeps_delays.Goals as goal
 
 pub returns-clause-keeps : goal.returns-clause-keeps
 returns-clause-keeps c = λ yes live table works delay left.

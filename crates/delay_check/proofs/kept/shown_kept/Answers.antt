@@ -1,7 +1,7 @@
 use Rattle.std.proofs.Common.{rules, IsTrue, refl, subst}
 use Rattle.delay_laws.specs.TightCircuits.{IsTightCircuit}
-use Rattle.dating_check.specs.ShownDelays.{KeepsEachDelay}
-use Rattle.dating_check.proofs.kept.shown_kept.Goals as goal
+use Rattle.delay_check.specs.ShownDelays.{KeepsEachDelay}
+use Rattle.delay_check.proofs.kept.shown_kept.Goals as goal
 
 pub returns : goal.returns
 returns c =

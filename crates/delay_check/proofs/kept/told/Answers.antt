@@ -2,7 +2,7 @@ use Rattle.std.proofs.Common.{rules, ◌≡◌, List, ℕ, [], ◌++◌, codes, 
 use Rattle.teg_text.specs.Lines.{line_then}
 use Rattle.teg_text.specs.WordsOfNames.{circuit_line, settled_words}
 use Rattle.teg_text.proofs.Joining.{line_append}
-use Rattle.dating_check.proofs.kept.told.Goals as goal
+use Rattle.delay_check.proofs.kept.told.Goals as goal
 
 pub returns : goal.returns
 returns c =

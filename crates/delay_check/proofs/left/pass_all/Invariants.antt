@@ -1,0 +1,5 @@
+use Rattle.delay_check.specs.ShownDelays.{AreSomewhereLeft}
+use Rattle.delay_check.proofs.left.pass_all.Given as goal
+
+abbrev pub invariant-loop-index : goal.invariant-loop-index
+invariant-loop-index l = AreSomewhereLeft l.net l.period l.table l.left
