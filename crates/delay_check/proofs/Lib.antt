@@ -1,1 +1,3 @@
+mod Given
+mod Lowest
 mod Passing

@@ -1,6 +1,6 @@
 //! The witness of `teg timetable` where delays stay: a circuit without spare time.
-ghost use Rattle.std.specs.Prelude.{ℕ, ◌≡◌, ◌≤◌, ◌∷◌, [], Contains, IfOk, IfSome, IsTrue, codes, length, slice_index_or, string_bytes};
-ghost use Rattle.teg_net.specs.Circuits.{AreInRange, BeginsLowest, IsCircuit, IsLive, from_of};
+ghost use Rattle.std.specs.Prelude.{◌≡◌, ◌<◌, ◌≤◌, ◌∷◌, [], All, Contains, IfOk, IfSome, IsTrue, codes, length, slice_index_or, string_bytes};
+ghost use Rattle.teg_net.specs.Circuits.{AreInRange, BeginsLowest, IsLive, from_of};
 ghost use Rattle.teg_net.specs.declared.entries.PlaceId.{PlaceId};
 ghost use Rattle.teg_text.specs.Lines.{line_then};
 ghost use Rattle.teg_text.specs.WordsOfNames.{circuit_line, settled_words};
@@ -50,21 +50,37 @@ fn is_planned(net: &Net, period: u64, table: &Timetable) -> bool
     period <= GREATEST_PERIOD && is_table_of(net, table) && is_workable(net, period, table)
 }
 
+// The number of the transition that the place leaves.
+fn from_of(net: &Net, place: PlaceId) -> u32
+    requires { place.index < length net.now.places }
+    ensures { result ≡ from_of net.now place }
+{
+    net.places()[place.index as usize].from.index
+}
+
+// Whether none of the places leaves a lower numbered transition than this.
+fn are_from(net: &Net, lowest: u32, places: &[PlaceId]) -> bool
+    requires { AreInRange net.now places.now }
+    ensures { IsTrue result → All (λ p. lowest ≤ from_of net.now p) places.now }
+{
+    for place in places {
+        if from_of(net, *place) < lowest {
+            return false;
+        }
+    }
+    true
+}
+
 // Whether the first of the places leaves the lowest numbered of the transitions that they leave.
 fn begins_lowest(net: &Net, places: &[PlaceId]) -> bool
     requires { AreInRange net.now places.now }
     ensures { IsTrue result → BeginsLowest net.now places.now }
 {
-    let [first, ..] = places else {
+    if places.len() == 0 {
         return true;
-    };
-    let lowest = net.places()[first.index()].from.index();
-    for place in places {
-        if net.places()[place.index()].from.index() < lowest {
-            return false;
-        }
     }
-    true
+    let first = places[0];
+    are_from(net, from_of(net, first), places)
 }
 
 // Whether one of the transitions that the places leave is late where so much is left.
@@ -72,6 +88,7 @@ fn is_late(net: &Net, left: &[u64], places: &[PlaceId]) -> bool
     requires range { AreInRange net.now places.now }
     requires left { length left.now ≡ length net.now.transitions }
     ensures { IsTrue result → (p : PlaceId) × Contains places.now p
+        × (from_of net.now p < length net.now.transitions)
         × (1 ≤ slice_index_or left.now (from_of net.now p) 0) }
 {
     net.rules();
@@ -86,7 +103,7 @@ fn is_late(net: &Net, left: &[u64], places: &[PlaceId]) -> bool
 // Whether the places are a circuit that keeps some of the delays of the timetable: it has no time to
 // spare, and one of its transitions is late.
 fn keeps_delays(net: &Net, period: u64, table: &Timetable, left: &[u64], places: &[PlaceId]) -> bool
-    requires circuit { IsCircuit net.now places.now }
+    requires range { AreInRange net.now places.now }
     requires live { IsLive net.now }
     requires workable { IsWorkable net.now period table.now }
     requires left { AreSomewhereLeft net.now period table.now left.now }
@@ -94,7 +111,10 @@ fn keeps_delays(net: &Net, period: u64, table: &Timetable, left: &[u64], places:
 {
     net.rules();
     tight_circuits_keep_delays();
-    shows_kept(net, period, places) && begins_lowest(net, places) && is_late(net, left, places)
+    if !shows_kept(net, period, places) || !begins_lowest(net, places) {
+        return false;
+    }
+    is_late(net, left, places)
 }
 
 // The first three lines of delays that stay.
@@ -155,14 +175,15 @@ pub fn shown_kept(
     let Some((after, turn, circuit)) = kept_in(alloc, net, text)? else {
         return Ok(None);
     };
-    if !is_circuit(net, &circuit.places) || !is_planned(net, period, table) {
+    let places = circuit.places.as_slice();
+    if !is_circuit(net, places) || !is_planned(net, period, table) {
         return Ok(None);
     }
     if !is_seen_live(alloc, net)? {
         return Ok(None);
     }
     let left = left_somewhere(alloc, net, period, table)?;
-    if !keeps_delays(net, period, table, &left, &circuit.places) {
+    if !keeps_delays(net, period, table, &left, places) {
         return Ok(None);
     }
     if !tells_kept(alloc, net, text, after, turn, &circuit)? {

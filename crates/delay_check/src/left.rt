@@ -2,25 +2,12 @@
 //! them on.
 ghost use Rattle.std.specs.Prelude.{◌≡◌, ◌+◌, ◌*◌, ◌<◌, ◌≤◌, ◌⊎◌, IfOk, IfSome, length};
 ghost use Rattle.teg_net.specs.Circuits.{place_at};
-ghost use Rattle.delay_laws.specs.PlannedTimetables.{IsTableOf, delay_given, first_planned};
+ghost use Rattle.delay_laws.specs.PlannedTimetables.{IsTableOf, first_planned};
 ghost use Rattle.delay_check.specs.ShownDelays.{AreSomewhereLeft, IsSomewhereLeft};
 
-use delay_laws::{Delay, Timetable, paths_pass_delays_on};
+use delay_laws::{Timetable, paths_pass_delays_on};
 use std::alloc::{AllocError, Global};
 use teg_net::{Net, PlaceId, TransitionId};
-
-// The delay that the timetable gives the departure of this one, 0 where it gives none.
-fn given(table: &Timetable, delay: &Delay) -> u64
-    ensures { result ≡ delay_given table.now delay.now.transition.index delay.now.number }
-{
-    let found = table.delays.iter().find(|other| {
-        other.transition.index == delay.transition.index && other.number == delay.number
-    });
-    match found {
-        Some(first) => first.by,
-        None => 0,
-    }
-}
 
 // The greater of two delays.
 fn greater(late: u64, other: u64) -> u64
@@ -49,16 +36,16 @@ fn raise(
     own < late
 }
 
-// Raises what is left at the transition of the delay to what the timetable gives there.
-fn take(net: &Net, period: u64, table: &Timetable, left: &mut [u64], delay: &Delay)
-    requires delay { delay.now.transition.index < length net.now.transitions }
-    requires number { 1 ≤ delay.now.number }
+// Raises what is left at the transition of this delay of the timetable to the delay.
+fn take(net: &Net, period: u64, table: &Timetable, left: &mut [u64], index: usize)
+    requires table { IsTableOf net.now table.now }
+    requires index { index < length table.now.delays.items }
     requires left { AreSomewhereLeft net.now period table.now left.old }
     ensures { AreSomewhereLeft net.now period table.now left.new }
 {
     paths_pass_delays_on();
-    let by = given(table, delay);
-    raise(net, period, table, left, delay.transition, by);
+    let delay = &table.delays[index];
+    raise(net, period, table, left, delay.transition, delay.by);
 }
 
 // Raises what is left at each transition to what the timetable gives there.
@@ -67,8 +54,8 @@ fn take_given(net: &Net, period: u64, table: &Timetable, left: &mut [u64])
     requires left { AreSomewhereLeft net.now period table.now left.old }
     ensures { AreSomewhereLeft net.now period table.now left.new }
 {
-    for delay in &table.delays {
-        take(net, period, table, left, delay);
+    for index in 0..table.delays.len() {
+        take(net, period, table, left, index);
     }
 }
 
