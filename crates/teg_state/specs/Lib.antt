@@ -1,2 +1,3 @@
 pub mod WhyNotLeft
 pub mod LeftLists
+pub mod Histories

@@ -1,13 +1,12 @@
 //! The input lists that a run leaves.
-ghost use Rattle.std.specs.Prelude.{◌≡◌, ◌≤◌, ◌^◌, IfOk, IfErr, option_copied, true, length};
+ghost use Rattle.std.specs.Prelude.{◌≡◌, ◌<◌, ◌≤◌, ◌^◌, IfOk, IfErr, option_copied, true, length};
 ghost use Rattle.teg_net.specs.Inputs.{IsInputDates, list_of_input};
 ghost use Rattle.teg_net.specs.Nets.{IsInput};
 ghost use Rattle.teg_state.specs.WhyNotLeft.{IsWhyNotLeft};
 ghost use Rattle.teg_state.specs.LeftLists.{AreListsLeft, IsJoined, IsListOf, left_dates, list_with};
 
-use crate::places::fired_count;
+use crate::history::History;
 use crate::refusal::NotLeft;
-use run_laws::Fired;
 use std::alloc::Global;
 use teg_net::{Again, DateList, GREATEST_INPUT_DATE, InputList, Net, TransitionId};
 
@@ -44,16 +43,17 @@ fn dates_left(
     alloc: Global,
     net: &Net,
     list: &InputList,
-    run: &[Fired],
+    history: &History,
     now: u64,
 ) -> Result<Vec<u64>, NotLeft>
     requires own { IsListOf net.now list.now }
-    requires few { length run.now ≤ 2 ^ 40 }
+    requires width { list.now.transition.index < history.now.width }
+    requires few { length history.now.run ≤ 2 ^ 40 }
     ensures dates { IfOk result (λ dates. IsInputDates (list_with list.now dates.items)
-        (left_dates net.now run.now now list.now.transition.index)) }
-    ensures refusal { IfErr result (IsWhyNotLeft net.now run.now now) }
+        (left_dates net.now history.now.run now list.now.transition.index)) }
+    ensures refusal { IfErr result (IsWhyNotLeft net.now history.now.run now) }
 {
-    let fired = fired_count(run, list.transition);
+    let fired = history.fired(list.transition);
     let long = list.dates.as_slice().len() as u64;
     let mut dates = Vec::new(alloc);
     let mut clear = 0;
@@ -82,20 +82,21 @@ fn list_left(
     alloc: Global,
     net: &Net,
     transition: TransitionId,
-    run: &[Fired],
+    history: &History,
     now: u64,
 ) -> Result<InputList, NotLeft>
     requires input { IsInput net.now transition.index }
-    requires few { length run.now ≤ 2 ^ 40 }
+    requires width { transition.index < history.now.width }
+    requires few { length history.now.run ≤ 2 ^ 40 }
     ensures transition { IfOk result (λ l. l.transition ≡ transition) }
     ensures dates { IfOk result (λ l. IsInputDates l
-        (left_dates net.now run.now now transition.index)) }
-    ensures refusal { IfErr result (IsWhyNotLeft net.now run.now now) }
+        (left_dates net.now history.now.run now transition.index)) }
+    ensures refusal { IfErr result (IsWhyNotLeft net.now history.now.run now) }
 {
     net.rules();
     match list_of(net, transition) {
         Some(list) => {
-            let dates = dates_left(alloc, net, list, run, now)?;
+            let dates = dates_left(alloc, net, list, history, now)?;
             Ok(InputList {
                 transition,
                 dates: DateList::new(dates),
@@ -118,19 +119,20 @@ fn list_left(
 pub(crate) fn lists_left(
     alloc: Global,
     net: &Net,
-    run: &[Fired],
+    history: &History,
     now: u64,
 ) -> Result<Vec<InputList>, NotLeft>
-    requires few { length run.now ≤ 2 ^ 40 }
-    ensures lists { IfOk result (λ lists. AreListsLeft net.now run.now now
+    requires width { history.now.width ≡ length net.now.transitions }
+    requires few { length history.now.run ≤ 2 ^ 40 }
+    ensures lists { IfOk result (λ lists. AreListsLeft net.now history.now.run now
         (length net.now.transitions) lists.items) }
-    ensures refusal { IfErr result (IsWhyNotLeft net.now run.now now) }
+    ensures refusal { IfErr result (IsWhyNotLeft net.now history.now.run now) }
 {
     let mut lists = Vec::new(alloc);
     for index in 0..net.transition_count() {
         let transition = TransitionId::new(index);
         if net.is_input(transition) {
-            lists.push(list_left(alloc, net, transition, run, now)?)?;
+            lists.push(list_left(alloc, net, transition, history, now)?)?;
         }
     }
     Ok(lists)

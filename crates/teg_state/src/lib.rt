@@ -5,16 +5,20 @@
 //! live; every answer of the library is then one from now on. What stands in a place is told by its
 //! tokens and their ready dates, and what an input has still to come by its list. The contract says
 //! which net it is (`IsNetAfter`), and the laws of `state_laws` that its least dating is that of the
-//! old net from there on. The crate stands on `state_laws` and `run_laws` for what is left of a run,
+//! old net from there on. A [`History`] keeps what happened, and tells how often each transition
+//! fired and when ([`History::fired`], [`History::date`]), and what now stands in a place
+//! ([`History::tokens`]). The crate stands on `state_laws` and `run_laws` for what is left of a run,
 //! on `teg_check` for live nets and on `teg_net` for nets.
 #![tactic(auto)]
 
 mod held;
+mod history;
 mod inputs;
 mod places;
 mod refusal;
 mod rest;
 
 pub use held::{is_fed, live_net_after};
+pub use history::History;
 pub use refusal::NotLeft;
 pub use rest::net_after;

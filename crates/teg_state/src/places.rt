@@ -3,46 +3,14 @@ ghost use Rattle.std.specs.Prelude.{◌≡◌, ◌<◌, ◌≤◌, ◌+◌, ◌^
 ghost use Rattle.std.specs.List.{range_with_len};
 ghost use Rattle.teg_net.specs.Circuits.{place_at};
 ghost use Rattle.teg_net.specs.Limits.{most_place_tokens};
-ghost use Rattle.run_laws.specs.Runs.{dates_of_transition};
 ghost use Rattle.state_laws.specs.Rests.{ArePaid};
 ghost use Rattle.state_laws.specs.NetsLeft.{count_in, not_before, place_after};
 ghost use Rattle.teg_state.specs.WhyNotLeft.{IsWhyNotLeft, token_date_by};
 
+use crate::history::History;
 use crate::refusal::NotLeft;
-use run_laws::Fired;
 use std::alloc::{AllocError, Global};
-use teg_net::{DateList, Name, Net, OutOfMemory, Place, PlaceId, TransitionId};
-
-// The dates of the firings of the transition, in order.
-pub(crate) fn dates_of(
-    alloc: Global,
-    run: &[Fired],
-    transition: TransitionId,
-) -> Result<Vec<u64>, AllocError>
-    ensures { IfOk result (λ dates. dates.items ≡ dates_of_transition run.now transition.index) }
-{
-    let mut dates = Vec::new(alloc);
-    for fired in run {
-        if fired.transition.index == transition.index {
-            dates.push(fired.date)?;
-        }
-    }
-    Ok(dates)
-}
-
-// How often the transition fired.
-pub(crate) fn fired_count(run: &[Fired], transition: TransitionId) -> u64
-    ensures count { result ≡ count_in run.now transition.index }
-    ensures few { result ≤ length run.now }
-{
-    let mut count = 0;
-    for fired in run {
-        if fired.transition.index == transition.index {
-            count += 1;
-        }
-    }
-    count
-}
+use teg_net::{DateList, Name, Net, OutOfMemory, Place, PlaceId};
 
 // The same name once more.
 pub(crate) fn name_copy(alloc: Global, name: &Name) -> Result<Name, AllocError>
@@ -105,20 +73,22 @@ fn place_left(
     alloc: Global,
     net: &Net,
     id: PlaceId,
-    run: &[Fired],
+    history: &History,
     now: u64,
 ) -> Result<Place, NotLeft>
     requires place { id.index < length net.now.places }
-    requires dates { All (λ f. f.date ≤ 10 ^ 18) run.now }
-    requires few { length run.now ≤ 2 ^ 40 }
-    ensures place { IfOk result (λ left. left ≡ place_after run.now now (place_at net.now id)) }
-    ensures paid { IfOk result (λ _. count_in run.now (place_at net.now id).to.index
-        ≤ (place_at net.now id).tokens + count_in run.now (place_at net.now id).from.index) }
-    ensures refusal { IfErr result (IsWhyNotLeft net.now run.now now) }
+    requires width { history.now.width ≡ length net.now.transitions }
+    requires dates { All (λ f. f.date ≤ 10 ^ 18) history.now.run }
+    requires few { length history.now.run ≤ 2 ^ 40 }
+    ensures place { IfOk result (λ left. left ≡ place_after history.now.run now (place_at net.now id)) }
+    ensures paid { IfOk result (λ _. count_in history.now.run (place_at net.now id).to.index
+        ≤ (place_at net.now id).tokens + count_in history.now.run (place_at net.now id).from.index) }
+    ensures refusal { IfErr result (IsWhyNotLeft net.now history.now.run now) }
 {
+    net.rules();
     let place = net.place(id);
-    let from = dates_of(alloc, run, place.from)?;
-    let taken = fired_count(run, place.to);
+    let from = history.dates(place.from);
+    let taken = history.fired(place.to);
     let made = u64::from(place.tokens) + from.len() as u64;
     if made < taken {
         return Err(NotLeft::Unpaid { place: id });
@@ -127,7 +97,7 @@ fn place_left(
     if 1_000 < tokens {
         return Err(NotLeft::ManyTokens { place: id });
     }
-    let ready = ready_dates(alloc, net, id, &from, taken, tokens, now)?;
+    let ready = ready_dates(alloc, net, id, from, taken, tokens, now)?;
     let name = name_copy(alloc, &place.name)?;
     Ok(Place {
         name,
@@ -143,19 +113,20 @@ fn place_left(
 pub(crate) fn places_left(
     alloc: Global,
     net: &Net,
-    run: &[Fired],
+    history: &History,
     now: u64,
 ) -> Result<Vec<Place>, NotLeft>
-    requires dates { All (λ f. f.date ≤ 10 ^ 18) run.now }
-    requires few { length run.now ≤ 2 ^ 40 }
+    requires width { history.now.width ≡ length net.now.transitions }
+    requires dates { All (λ f. f.date ≤ 10 ^ 18) history.now.run }
+    requires few { length history.now.run ≤ 2 ^ 40 }
     ensures places { IfOk result (λ places. places.items
-        ≡ map (place_after run.now now) net.now.places) }
-    ensures paid { IfOk result (λ _. ArePaid (count_in run.now) net.now.places) }
-    ensures refusal { IfErr result (IsWhyNotLeft net.now run.now now) }
+        ≡ map (place_after history.now.run now) net.now.places) }
+    ensures paid { IfOk result (λ _. ArePaid (count_in history.now.run) net.now.places) }
+    ensures refusal { IfErr result (IsWhyNotLeft net.now history.now.run now) }
 {
     let mut places = Vec::new(alloc);
     for index in 0..net.place_count() {
-        places.push(place_left(alloc, net, PlaceId::new(index), run, now)?)?;
+        places.push(place_left(alloc, net, PlaceId::new(index), history, now)?)?;
     }
     Ok(places)
 }

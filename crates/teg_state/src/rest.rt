@@ -5,6 +5,7 @@ ghost use Rattle.state_laws.specs.Rests.{ArePaid};
 ghost use Rattle.state_laws.specs.NetsLeft.{IsNetAfter, count_in};
 ghost use Rattle.teg_state.specs.WhyNotLeft.{IsWhyNotLeft};
 
+use crate::history::History;
 use crate::inputs::lists_left;
 use crate::places::{name_copy, places_left};
 use crate::refusal::NotLeft;
@@ -30,6 +31,27 @@ fn transitions_copy(
     Ok(copies)
 }
 
+// The net that is left of what happened.
+fn net_left(alloc: Global, net: &Net, history: &History, now: u64) -> Result<Net, NotLeft>
+    requires width { history.now.width ≡ length net.now.transitions }
+    requires dates { All (λ f. f.date ≤ 10 ^ 18) history.now.run }
+    requires few { length history.now.run ≤ 2 ^ 40 }
+    ensures net { IfOk result (IsNetAfter net.now history.now.run now) }
+    ensures paid { IfOk result (λ _. ArePaid (count_in history.now.run) net.now.places) }
+    ensures refusal { IfErr result (IsWhyNotLeft net.now history.now.run now) }
+{
+    let transitions = transitions_copy(alloc, net.transitions())?;
+    let places = places_left(alloc, net, history, now)?;
+    let inputs = lists_left(alloc, net, history, now)?;
+    match Net::checked(transitions, places, inputs) {
+        Ok(rest) => {
+            rest.rules();
+            Ok(rest)
+        }
+        Err(fault) => Err(NotLeft::NoNet { fault }),
+    }
+}
+
 /// The net that a run leaves from now on, in the user's unit of time: the same transitions and
 /// places, each place with the tokens that are left in it and from when on each is ready, and the
 /// dates of each input from its next firing on; no token and no input's date in it is before now
@@ -46,7 +68,8 @@ fn transitions_copy(
 /// tokens than it had and got, where more than 1,000 tokens are left in one, where no list of the
 /// dates of an input from now on of at most 100,000 dates up to 10^12 is found, and where a date of
 /// a token is past 10^12; `OutOfMemory` comes only where no memory is found. It takes time of order
-/// p r for p places and r firings, and a step for each token and each date that is left.
+/// n + p + r for n transitions, p places and r firings, and a step for each token and each date that
+/// is left.
 pub fn net_after(alloc: Global, net: &Net, run: &[Fired], now: u64) -> Result<Net, NotLeft>
     requires dates { All (λ f. f.date ≤ 10 ^ 18) run.now }
     requires few { length run.now ≤ 2 ^ 40 }
@@ -54,14 +77,6 @@ pub fn net_after(alloc: Global, net: &Net, run: &[Fired], now: u64) -> Result<Ne
     ensures paid { IfOk result (λ _. ArePaid (count_in run.now) net.now.places) }
     ensures refusal { IfErr result (IsWhyNotLeft net.now run.now now) }
 {
-    let transitions = transitions_copy(alloc, net.transitions())?;
-    let places = places_left(alloc, net, run, now)?;
-    let inputs = lists_left(alloc, net, run, now)?;
-    match Net::checked(transitions, places, inputs) {
-        Ok(rest) => {
-            rest.rules();
-            Ok(rest)
-        }
-        Err(fault) => Err(NotLeft::NoNet { fault }),
-    }
+    let history = History::of(alloc, net, run)?;
+    net_left(alloc, net, &history, now)
 }

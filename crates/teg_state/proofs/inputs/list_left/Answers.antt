@@ -1,3 +1,4 @@
+use Rattle.std.proofs.Common.{arith}
 use Rattle.teg_state.proofs.FoundLists.{list_is_of, list_tells, told_of}
 use Rattle.teg_state.proofs.inputs.list_left.Goals as goal
 
@@ -7,6 +8,11 @@ dates_left-requires-clause-own c = list_tells c.args.net.now c.args.transition.i
 pub returns-in_ok-dates-in-Some-clause-dates : goal.returns-in_ok-dates-in-Some-clause-dates
 returns-in_ok-dates-in-Some-clause-dates c =
     rw c.new.ensures
-    (told_of c.args.net.now c.args.run.now c.args.now c.args.transition c.in-Some.list.now c.in_ok-dates-in-Some.dates.items
+    (told_of c.args.net.now c.args.history.now.run c.args.now c.args.transition c.in-Some.list.now c.in_ok-dates-in-Some.dates.items
     (list_is_of c.args.net.now c.args.transition.index c.in-Some.list.now c.rules.ensures c.requires.input c.in-Some.ensures)
     c.in_ok-dates-in-Some.ensures.dates)
+
+pub dates_left-requires-clause-width : goal.dates_left-requires-clause-width
+dates_left-requires-clause-width c =
+    let same = list_is_of c.args.net.now c.args.transition.index c.in-Some.list.now c.rules.ensures c.requires.input c.in-Some.ensures in
+    omega (arith, same, c.requires.width)

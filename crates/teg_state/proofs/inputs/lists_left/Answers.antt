@@ -8,11 +8,11 @@ loop-index-preserved c =
     elim c.if-is_input.branch [
       | then-is_input+in_ok-list_left+in_ok-push w ↦
           rw (w.lists-is, w.in_ok-push.ensures.items)
-          (lists_more c.args.net.now c.args.run.now c.args.now c.loop-index.index c.loop-index.lists.items w.in_ok-list_left.field-0 c.loop-index.invariant
+          (lists_more c.args.net.now c.args.history.now.run c.args.now c.loop-index.index c.loop-index.lists.items w.in_ok-list_left.field-0 c.loop-index.invariant
           (ap (λ t. t.index) w.in_ok-list_left.ensures.transition ∙ c.new-transition.ensures)
           (rw c.new-transition.ensures at w.in_ok-list_left.ensures.dates))
       | else-is_input w ↦
           rw w.lists-is
-          (lists_same c.args.net.now c.args.run.now c.args.now c.loop-index.index c.loop-index.lists.items c.loop-index.invariant
+          (lists_same c.args.net.now c.args.history.now.run c.args.now c.loop-index.index c.loop-index.lists.items c.loop-index.invariant
           (λ i. let yes = c.is_input.ensures.1 (rw c.new-transition.ensures i) in let not = w.if-is_input.false in absurd (cc)))
     ]
