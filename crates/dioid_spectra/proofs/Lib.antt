@@ -1,0 +1,4 @@
+pub mod FilledTables
+pub mod MatrixNetLaws
+pub mod PowerLaws
+pub mod RowChecks

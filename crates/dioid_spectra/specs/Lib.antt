@@ -1,0 +1,4 @@
+pub mod MadeMatrices
+pub mod Powers
+pub mod Eigenvectors
+pub mod MatrixNets

@@ -1,0 +1,30 @@
+//! Matrices over a semiring: identity, zero, transposes and powers; and, of dates,
+//! eigenvalues with their vectors (chapters 3 and 4).
+//!
+//! Each call that makes a matrix tells each of its entries ([`identity`], [`zero`],
+//! [`transpose`], [`power`]). [`eigen`] finds the eigenvalue of a matrix of dates whose rows reach
+//! each other, with an eigenvector (`IsEigenOf`), and [`is_eigen`] is a checker of them. The crate
+//! stands on `dioid_matrix` and `dioid` for matrices; the eigenvalue is the pace of the net of the
+//! matrix, so it stands on `teg_howard`, `teg_parts`, `teg_check` and `teg_net` for it, and on
+//! `pace_laws` for the law that the potentials of a pace are met. Its examples stand in
+//! `library_examples`, in `spectra.rt`.
+//!
+//! ## How it works
+//!
+//! A row is a transition, and a number in it a place with one token from the transition of its
+//! column, held for as long as the number is above the least one. The greatest ratio of this net,
+//! moved by the least number, is the eigenvalue, and its potentials are an eigenvector.
+#![tactic(auto)]
+
+mod eigenvectors;
+mod made;
+mod nets;
+mod powers;
+mod refusals;
+mod spectra;
+
+pub use eigenvectors::{EigenValue, is_eigen};
+pub use made::{identity, transpose, zero};
+pub use powers::{PowerRefused, power};
+pub use refusals::NoSpectrum;
+pub use spectra::{Spectrum, eigen};
