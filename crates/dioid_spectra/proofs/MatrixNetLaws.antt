@@ -24,7 +24,7 @@ use Rattle.teg_howard.specs.PolicyRuns.{EndsRun}
 use Rattle.pace_laws.specs.TightPotentials.{AreTightPotentials}
 use Rattle.dioid_spectra.specs.declared.eigenvectors.EigenValue.{EigenValue}
 use Rattle.dioid_spectra.specs.Eigenvectors.{IsEigenOf, IsIrreducible, IsJust, IsNumber, IsWay, IsWithin, entry_at, number_at}
-use Rattle.dioid_spectra.specs.MatrixNets.{ArePlacesOf, IsEntryAt, IsLeastNumber, IsLowest, IsNear, IsNetOf, IsNotBelow, IsPlaceFor, IsPlaceOfEntry, IsPlain, least_with, value_of}
+use Rattle.dioid_spectra.specs.MatrixNets.{ArePlacesOf, IsEntryAt, IsLeastNumber, IsNetOf, IsNotBelow, IsPlaceFor, IsPlaceOfEntry, IsPlain, least_with, value_of}
 
 -- ---- places in the list by rows
 
@@ -47,9 +47,6 @@ not_below_less : (low x : ℤ) (d : Date) → x ≤ℤ low → IsNotBelow low d 
 not_below_less low x Early l h = tt
 not_below_less low x (At y) l h = omega (arith, ints, l, h)
 not_below_less low x Date.Never l h = tt
-
-pub least_none : (entries : List Date) → IsLeastNumber entries 0 None
-least_none entries k l = absurd (omega (arith, l))
 
 pub least_more : (entries : List Date) (n : ℕ) (low : Option ℤ) (d : Date) → IsLeastNumber entries n low → get_or entries n Early ≡ d → IsPlain d
     → IsLeastNumber entries (n + 1) (least_with low d)
@@ -74,23 +71,7 @@ least_more entries n (Some low) (At x) h e p =
     rw is ((h.0.0, omega (arith, l), h.0.2), below_more (λ k. IsNotBelow low (get_or entries k Early)) n h.1 here))
 least_more entries n low Date.Never h e p = absurd p
 
--- it is near, and each number is near and not below it
-pub least_is_near : (entries : List Date) (n : ℕ) (low : ℤ) → IsLowest entries n (Some low) → IsNear low
-least_is_near entries n low h =
-    let at = h.least.0 in
-    let plain : IsPlain (get_or entries at.0 Early) = h.plain at.0 at.1 in
-    rw at.2 at plain
-
-pub number_is_near : (entries : List Date) (n k : ℕ) (low x : ℤ) → IsLowest entries n (Some low) → k < n → get_or entries k Early ≡ At x → IsNear x
-number_is_near entries n k low x h l e = rw e at (h.plain k l)
-
-pub number_is_above : (entries : List Date) (n k : ℕ) (low x : ℤ) → IsLowest entries n (Some low) → k < n → get_or entries k Early ≡ At x → low ≤ℤ x
-number_is_above entries n k low x h l e = rw e at (h.least.1 k l)
-
 -- ---- places for numbers
-
-pub places_none : (a : Table Date) (low : ℤ) → ArePlacesOf a low 0 []
-places_none a low = record { each = λ i d l. absurd (omega (arith, l)); all = λ k l. absurd (omega (arith, l)) }
 
 pub places_more : (a : Table Date) (low : ℤ) (n : ℕ) (ps : List Place) (p : Place) → ArePlacesOf a low n ps → IsPlaceFor a low n (Some p)
     → ArePlacesOf a low (n + 1) (ps ++ p ∷ [])

@@ -5,7 +5,6 @@ use Rattle.dioid.specs.declared.algebra.Dioid.{Ghosts as DioidOf}
 use Rattle.dioid_matrix.specs.Products.{CellFits, IsProduct, StepFits}
 use Rattle.dioid_matrix.specs.Sums.{dot}
 use Rattle.dioid_matrix.specs.Tables.{Table, entry_of, IsFirstMisfit, StopsAt}
-use Rattle.dioid_spectra.specs.MadeMatrices.{IsIdentity}
 use Rattle.dioid_spectra.specs.Powers.{IsFirstMisfitOfPower, IsPower, NextFits, entry_of_power}
 
 module _ {M : Type 0} (d : DioidOf M) (b : ℕ → M) (n : ℕ) (f g : ℕ → M) (same : (k : ℕ) → k < n → f k ≡ g k) where
@@ -86,14 +85,3 @@ module _ {M : Type 0} (d : DioidOf M) (a p : Table M) (n : ℕ) (square : a.rows
               (λ m lm. sym (row_same row first.in_rows m lm)) step stop.within fits);
         };
       }
-
--- the identity is the power with exponent 0
-pub first_power : {M : Type 0} (d : DioidOf M) (a t : Table M) → a.rows ≡ a.columns → IsIdentity d a.rows t → IsPower d a 0 t
-first_power d a t square is = record {
-  entries = record {
-    rows_are = is.rows_are;
-    columns_are = is.columns_are ∙ square;
-    entries = λ i j li lj. is.entries i j li (omega (arith, lj, square));
-  };
-  fit = λ m l. absurd (omega (arith, l));
-}

@@ -1,6 +1,6 @@
 //! Matrices that are made entry by entry.
 ghost use Rattle.std.specs.Prelude.{◌≡◌, ◌≤◌, ◌*◌, IfOk, length};
-ghost use Rattle.dioid_matrix.specs.Tables.{AreElements, IsTable, table_of};
+ghost use Rattle.dioid_matrix.specs.Tables.{table_of};
 ghost use Rattle.dioid_spectra.specs.MadeMatrices.{IsIdentity, IsTranspose, IsZero, unit_at};
 
 use dioid::Dioid;

@@ -10,7 +10,7 @@ ghost use Rattle.teg_state.specs.WhyNotLeft.{IsWhyNotLeft, token_date_by};
 use crate::history::History;
 use crate::refusal::NotLeft;
 use std::alloc::{AllocError, Global};
-use teg_net::{DateList, Name, Net, OutOfMemory, Place, PlaceId};
+use teg_net::{DateList, Name, Net, Place, PlaceId};
 
 // The same name once more.
 pub(crate) fn name_copy(alloc: Global, name: &Name) -> Result<Name, AllocError>

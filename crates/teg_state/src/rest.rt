@@ -1,6 +1,5 @@
 //! The net that a run leaves.
 ghost use Rattle.std.specs.Prelude.{◌≡◌, ◌≤◌, ◌^◌, All, IfOk, IfErr, length};
-ghost use Rattle.teg_net.specs.Nets.{IsNet};
 ghost use Rattle.state_laws.specs.Rests.{ArePaid};
 ghost use Rattle.state_laws.specs.NetsLeft.{IsNetAfter, count_in};
 ghost use Rattle.teg_state.specs.WhyNotLeft.{IsWhyNotLeft};
