@@ -44,7 +44,8 @@ unit_apart j k ne = let b : eqb k j ≡ false = ne_eqb k j ne in rw b refl
 row_at : (n : ℕ) (row : ℕ → Date) (j : ℕ) → j < n → IsAtMostDate (row j) (dot dates n row (unit_at j)) × IsAtMostDate (dot dates n row (unit_at j)) (row j)
 row_at n row j l =
     let own : date_product (row j) (unit_at j j) ≡ row j = ap (date_product (row j)) (unit_here j) ∙ date_laws.one_neutral_right (row j) tt in (
-      at_most_trans (row j) (date_product (row j) (unit_at j j)) (dot dates n row (unit_at j)) (at_most_is (row j) (date_product (row j) (unit_at j j)) (sym own)) (term_low (λ k. date_product (row k) (unit_at j k)) n j l),
+      at_most_trans (row j) (date_product (row j) (unit_at j j)) (dot dates n row (unit_at j)) (at_most_is (row j) (date_product (row j) (unit_at j j)) (sym own))
+          (term_low (λ k. date_product (row k) (unit_at j k)) n j l),
       total_low (λ k. date_product (row k) (unit_at j k)) n (row j) (λ k m. ⊎_elim
           (λ (e : k ≡ j). subst (λ (z : ℕ). IsAtMostDate (date_product (row z) (unit_at j z)) (row j)) (sym e) (at_most_is (date_product (row j) (unit_at j j)) (row j) own))
           (λ (ne : k ≡ j → ⊥).
@@ -103,7 +104,8 @@ module _ (stars : StarsAreLeast dates date_stars) (n : ℕ) (a : ℕ → ℕ →
       let b : eqb i j ≡ true = eq-eqb i j e in
       let own : IsAtMostDate (At q) (later_of (steps_of dates date_stars a n i j) (At (pos 0))) = rw b at h in
       ⊎_elim
-      (λ (f : later_of (steps_of dates date_stars a n i j) (At (pos 0)) ≡ steps_of dates date_stars a n i j). inl (attained n a n (omega arith) i j q (subst (λ (z : Date). IsAtMostDate (At q) z) f own)))
+      (λ (f : later_of (steps_of dates date_stars a n i j) (At (pos 0)) ≡ steps_of dates date_stars a n i j).
+      inl (attained n a n (omega arith) i j q (subst (λ (z : Date). IsAtMostDate (At q) z) f own)))
       (λ (f : later_of (steps_of dates date_stars a n i j) (At (pos 0)) ≡ At (pos 0)). inr (e, subst (λ (z : Date). IsAtMostDate (At q) z) f own))
       (later_either (steps_of dates date_stars a n i j) (At (pos 0))))
       (λ (ne : i ≡ j → ⊥).

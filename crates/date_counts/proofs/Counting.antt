@@ -38,10 +38,7 @@ steps_of_date last step limit (Some r) h = (
   (let e : (pos r.rest +ℤ pos (r.count * step)) ≡ pos limit = omega (arith, ints, h.2) in e),
 )
 
--- what holds at a date and a step holds at equal ones
-pub rounds_at : (a b : Date) (x y : ℤ) (limit : ℕ) (o : Option Rounds) → a ≡ b → x ≡ y → IsRounds a x limit o → IsRounds b y limit o
-rounds_at a b x y limit o e f h = subst (λ (z : ℤ). IsRounds b z limit o) f (subst (λ (z : Date). IsRounds z x limit o) e h)
-
+-- what does not fall by a step does not fall by an equal one
 pub rises_at : (a b : Date) (x y : ℤ) → a ≡ b → x ≡ y → IsAtMostDate b (move y b) → IsAtMostDate a (move x a)
 rises_at a b x y e f h = subst (λ (z : ℤ). IsAtMostDate a (move z a)) (sym f) (subst (λ (z : Date). IsAtMostDate z (move y z)) (sym e) h)
 

@@ -81,7 +81,8 @@ starts_more net period k first before after ok h in' m late least =
           subst (λ (z : PlaceId). j < length (place_at net z).ready → slice_index (place_at net z).ready j ≤ slice_index after (to_of net z) + period * j) (sym e)
           (λ low. let own = late j low in let up = late_enough before after at first m in omega arith) below)
           (cases_lt p.index k);
-      least = λ g w t l. moved (g t) t (h.least g w t l) (λ e. least (g t) (λ j low. subst (λ (z : ℕ). slice_index (place_at net id).ready j ≤ g z + period * j) (sym e) (waits net period g ok w id in' j low)));
+      least = λ g w t l. moved (g t) t (h.least g w t l) (λ e.
+          least (g t) (λ j low. subst (λ (z : ℕ). slice_index (place_at net id).ready j ≤ g z + period * j) (sym e) (waits net period g ok w id in' j low)));
       small = λ t l. moved greatest_input_date t (h.small t (omega arith)) (λ e. least greatest_input_date (λ j low. let own = dated j low in omega arith));
     } where
       moved : (most t : ℕ) → slice_index before t ≤ most → (t ≡ to_of net (record { index = k }) → first ≤ most) → slice_index after t ≤ most

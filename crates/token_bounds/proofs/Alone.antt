@@ -74,7 +74,8 @@ module _ (net changed : NetLists) (p : PlaceId) (in' : p.index < length net.plac
       (λ (e : q.index ≡ p.index).
       let s = sum_by-cons (λ x. (place_at changed x).hold) q ps in
       let own : (place_at changed q).hold ≡ long_time = ap (λ (z : PlaceId). (place_at changed z).hold) (same_id q p e) ∙ h.own in
-      let rest = time_none ps (All-tail (λ x. x.index < length net.places) q ps r) (λ i d l f. once 0 (suc i) d (omega arith) (omega arith) (ap (from_of changed) (same_id q (get_or ps i d) (e ∙ sym f)))) in
+      let others : All (λ x. x.index ≢ p.index) ps = λ i d l f. once 0 (suc i) d (omega arith) (omega arith) (ap (from_of changed) (same_id q (get_or ps i d) (e ∙ sym f))) in
+      let rest = time_none ps (All-tail (λ x. x.index < length net.places) q ps r) others in
       record { here = λ c. omega arith; apart = λ n. absurd (n (0, omega arith, same_id q p e)) })
       (λ (ne : q.index ≢ p.index).
       let s = sum_by-cons (λ x. (place_at changed x).hold) q ps in

@@ -21,9 +21,10 @@ round-requires c =
     let value = c.deref.ensures.value in
     let all = ap (λ (z : List Transition). length z) c.transitions-number-end.ensures.value in
     let few : c.loop-number._number ≤ length net.transitions = omega (arith, c.loop-number.auto._number-end) in
+    let small = small_enough net c.args.period c.in_ok-firsts.ensures.rules c.loop-number._number c.loop-number.firsts.items few c.loop-number.invariant in
     record {
       count = ap (λ (z : List ℕ). length z) value ∙ c.loop-number.invariant.count;
-      small = subst (λ (z : List ℕ). AreUpTo 1000000000000000 z) (sym value) (small_enough net c.args.period c.in_ok-firsts.ensures.rules c.loop-number._number c.loop-number.firsts.items few c.loop-number.invariant);
+      small = subst (λ (z : List ℕ). AreUpTo 1000000000000000 z) (sym value) small;
     }
 
 pub returns : goal.returns
