@@ -28,10 +28,10 @@ use std::alloc::Global;
 use std::process::ExitCode;
 use std::rt::Files;
 use std::{env, fs};
-use teg_due::read_due;
+use teg_due::{Due, read_due};
 use teg_net::Net;
 use teg_reader::read_net;
-use teg_timetable::read_timetable;
+use teg_timetable::{Timetable, read_timetable};
 
 // The most bytes that a due file or a timetable may have.
 const MOST_BYTES: usize = 4_194_304;
@@ -46,11 +46,19 @@ fn text_of(rt: &(impl Files + Alloc<A = Global>), name: &str) -> Result<String> 
     fs::read_to_string(rt, name).context(format_args!("reading {name}"))
 }
 
-// The text of a file of rows.
-fn rows_of(rt: &(impl Files + Alloc<A = Global>), name: &str) -> Result<String> {
-    let text = text_of(rt, name)?;
-    ensure!(text.len() <= MOST_BYTES, "{name} is too long");
-    Ok(text)
+// The rows of a due file.
+fn due_of(alloc: Global, net: &Net, bytes: &[u8]) -> Result<Due> {
+    ensure!(bytes.len() <= MOST_BYTES, "the due file is too long");
+    Ok(read_due(alloc, net, bytes)?)
+}
+
+// The timetable of a file.
+fn table_of(alloc: Global, net: &Net, bytes: &[u8]) -> Result<Timetable> {
+    ensure!(bytes.len() <= MOST_BYTES, "the timetable is too long");
+    match read_timetable(alloc, net, bytes) {
+        Ok(table) => Ok(table),
+        Err(_) => Err(anyhow!("the file is no timetable of the net")),
+    }
 }
 
 // What the answer was asked with.
@@ -59,18 +67,15 @@ fn asked_of(rt: &(impl Files + Alloc<A = Global>), net: &Net, words: &[String]) 
     match words {
         [] => Ok(Asked::Nothing),
         [due] => {
-            let text = rows_of(rt, due)?;
-            Ok(Asked::Due(read_due(alloc, net, text.as_bytes())?))
+            let text = text_of(rt, due.as_str())?;
+            Ok(Asked::Due(due_of(alloc, net, text.as_bytes())?))
         }
         [period, table, ..] => {
             let Ok(period) = period.parse::<u64>() else {
-                return Err(anyhow!("{period} is no period"));
+                return Err(anyhow!("the period is no number"));
             };
-            let text = rows_of(rt, table)?;
-            match read_timetable(alloc, net, text.as_bytes()) {
-                Ok(table) => Ok(Asked::Timetable(period, table)),
-                Err(_) => Err(anyhow!("{table} is no timetable of the net")),
-            }
+            let text = text_of(rt, table.as_str())?;
+            Ok(Asked::Timetable(period, table_of(alloc, net, text.as_bytes())?))
         }
     }
 }
