@@ -6,7 +6,8 @@
 //! each other, with an eigenvector (`IsEigenOf`), and [`is_eigen`] is a checker of them. The crate
 //! stands on `dioid_matrix` and `dioid` for matrices; the eigenvalue is the pace of the net of the
 //! matrix, so it stands on `teg_howard`, `teg_parts`, `teg_check` and `teg_net` for it, and on
-//! `pace_laws` for the law that the potentials of a pace are met.
+//! `pace_laws` for the law that the potentials of a pace are met. Its examples stand in
+//! `series_examples`, in `spectra.rt`.
 //!
 //! ## How it works
 //!

@@ -9,7 +9,8 @@
 //! it makes tell all that it promises. It stands on `teg_state` for what is left, on `date_rows`,
 //! `teg_settle`, `teg_jit` and `teg_sizing` for answers, on `teg_due` for logs and due dates, on
 //! `run_laws`, `state_laws`, `settled_laws` and `due_laws` for what they mean, on `teg_check` for
-//! live nets and on `teg_net` for nets.
+//! live nets and on `teg_net` for nets. Its example stands in `library_examples`, in
+//! `logged_plants.rt`.
 #![tactic(auto)]
 
 mod outlook;

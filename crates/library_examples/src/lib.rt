@@ -25,6 +25,8 @@ mod left_nets;
 #[cfg(test)]
 mod lines_alone;
 #[cfg(test)]
+mod logged_plants;
+#[cfg(test)]
 mod made_nets;
 #[cfg(test)]
 mod matrices;

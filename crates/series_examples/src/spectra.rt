@@ -1,0 +1,34 @@
+//! Matrices of dates that are made, turned and asked for their eigenvalue (chapter 3).
+use dioid::Date;
+use dioid_matrix::Matrix;
+use dioid_spectra::{EigenValue, NoSpectrum, eigen, identity, is_eigen, transpose};
+use std::alloc::Global;
+use std::test::Fail;
+
+// Two machines: row i, column j holds how long i waits for j.
+fn machines(alloc: Global, waits: Date) -> Result<Matrix<Date>, Fail> {
+    let entries = [Date::At(3), Date::At(7), waits, Date::At(4)];
+    Ok(Matrix::new(2, 2, Vec::from_array(alloc, entries)?)?)
+}
+
+#[test]
+fn two_machines_have_a_pace(rt: HostRuntime) -> Result<(), Fail> {
+    let alloc = rt.alloc();
+    let matrix = machines(alloc, Date::At(2))?;
+    let found = eigen(alloc, &matrix)?;
+    assert!(rt; found.value == EigenValue { time: 9, steps: 2 });
+    assert!(rt; is_eigen(&matrix, found.value, &found.vector));
+    let alone = eigen(alloc, &machines(alloc, Date::Early)?);
+    assert!(rt; alone.err() == Some(NoSpectrum::Reducible));
+    Ok(())
+}
+
+#[test]
+fn matrices_are_made_and_turned(rt: HostRuntime) -> Result<(), Fail> {
+    let alloc = rt.alloc();
+    let matrix = machines(alloc, Date::At(2))?;
+    let one = identity::<Date>(alloc, 2)?;
+    assert!(rt; *matrix.times(alloc, &one)?.entry(0, 1) == Date::At(7));
+    assert!(rt; *transpose(alloc, &matrix)?.entry(0, 1) == Date::At(2));
+    Ok(())
+}
