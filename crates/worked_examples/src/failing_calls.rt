@@ -1,7 +1,7 @@
 //! Reads and writes that fail, each in turn.
 ghost use Rattle.std.specs.Prelude.{◌<◌};
 
-use crate::bench::{call, shelf_of, sink_of};
+use crate::bench::{Case, ending, is_answered};
 use crate::nets::{DEAD_LOOP, LOOP};
 use std::alloc::Global;
 use std::test::Fail;
@@ -12,72 +12,60 @@ const LOG: &str = "a,0\nb,3\na,5\n";
 
 const NO_NET: &str = "fault: cannot read the net\n";
 
-// A case: the words, the net, how the call ends where nothing fails, and what it then writes.
-type Whole<'a> = (&'a [&'a str], &'a str, Status, &'a str);
+const NO_LOG: &str = "fault: cannot read the log\n";
 
-// Words, which of their reads fails, how the call ends, and what it writes.
-const READS: [(&[&str], u64, Status, &str); 5] = [
-    (&["check", "net"], 1, Status::ReadFault, NO_NET),
-    (&["list", "net", "3"], 1, Status::ReadFault, NO_NET),
-    (&["jit", "net", "second"], 1, Status::ReadFault, NO_NET),
+const REPLAY: &[&str] = &["replay", "net", "second"];
+
+const REPLAYED: &str = "replayed 3 firings\n";
+
+// Which read of a call fails, and what it then comes to.
+const READS: [(u64, Case<'static>); 5] = [
+    (1, (&["check", "net"], LOOP, LOG, Status::ReadFault, NO_NET)),
     (
-        &["replay", "net", "second"],
-        2,
-        Status::ReadFault,
-        "fault: cannot read the log\n",
+        1,
+        (&["list", "net", "3"], LOOP, LOG, Status::ReadFault, NO_NET),
     ),
     (
-        &["replay", "net", "second"],
-        3,
-        Status::Done,
-        "replayed 3 firings\n",
+        1,
+        (
+            &["jit", "net", "second"],
+            LOOP,
+            LOG,
+            Status::ReadFault,
+            NO_NET,
+        ),
     ),
+    (2, (REPLAY, LOOP, LOG, Status::ReadFault, NO_LOG)),
+    (3, (REPLAY, LOOP, LOG, Status::Done, REPLAYED)),
 ];
 
 // A text of each kind that is whole before its first byte is written: an answer, a refusal, a
 // fault.
-const WHOLE: [Whole<'static>; 3] = [
-    (
-        &["replay", "net", "second"],
-        LOOP,
-        Status::Done,
-        "replayed 3 firings\n",
-    ),
+const WHOLE: [Case<'static>; 3] = [
+    (REPLAY, LOOP, LOG, Status::Done, REPLAYED),
     (
         &["check", "net"],
         DEAD_LOOP,
+        LOG,
         Status::Net,
         "refused: token-free circuit ab ba\n",
     ),
-    (&["check", "other"], LOOP, Status::ReadFault, NO_NET),
+    (&["check", "other"], LOOP, LOG, Status::ReadFault, NO_NET),
 ];
 
 // A text that is written as it is made: its head, then its rows.
-const LISTED: Whole<'static> = (
+const LISTED: Case<'static> = (
     &["list", "net", "3"],
     LOOP,
+    LOG,
     Status::Done,
     "dates of 3 firings\ntransition a b\n1 0 3\n2 5 8\n3 10 13\n",
 );
 
-// Whether a call of which this read fails ends so and writes this.
-fn is_read(
-    alloc: Global,
-    words: &[&str],
-    failing: u64,
-    status: Status,
-    text: &str,
-) -> Result<bool, Fail> {
-    let mut shelf = shelf_of(alloc, LOOP.as_bytes(), LOG.as_bytes(), &[failing])?;
-    let mut out = sink_of(alloc, 65536)?;
-    let ended = call(alloc, words, &mut shelf, &mut out, Vec::new(alloc))?;
-    Ok(ended == status && out.contents() == text.as_bytes())
-}
-
 #[test]
 fn each_read_may_fail(rt: HostRuntime) -> Result<(), Fail> {
-    for (words, failing, status, text) in READS {
-        assert!(rt; is_read(rt.alloc(), words, failing, status, text)?);
+    for (failing, case) in &READS {
+        assert!(rt; is_answered(rt.alloc(), case, *failing)?);
     }
     Ok(())
 }
@@ -86,13 +74,13 @@ fn each_read_may_fail(rt: HostRuntime) -> Result<(), Fail> {
 // its text, and ends with WriteFault where they are not the whole.
 fn is_cut(
     alloc: Global,
-    whole: &Whole<'static>,
+    whole: &Case<'static>,
     mut out: MemorySink,
     room: usize,
 ) -> Result<bool, Fail> {
-    let (words, net, status, text) = *whole;
-    let mut shelf = shelf_of(alloc, net.as_bytes(), LOG.as_bytes(), &[])?;
-    let ended = call(alloc, words, &mut shelf, &mut out, Vec::new(alloc))?;
+    let (words, net, second, status, text) = *whole;
+    let files = (net.as_bytes(), second.as_bytes());
+    let ended = ending(alloc, words, files, &[], &mut out, Vec::new(alloc))?;
     let is_whole = text.len() <= room;
     let wanted = if is_whole { status } else { Status::WriteFault };
     Ok(
@@ -103,7 +91,7 @@ fn is_cut(
 }
 
 // Whether calls into sinks of so many bytes a call are cut at the call that fails, each in turn.
-fn are_cut(alloc: Global, whole: &Whole<'static>, size: usize) -> Result<bool, Fail>
+fn are_cut(alloc: Global, whole: &Case<'static>, size: usize) -> Result<bool, Fail>
     requires { 0 < size }
 {
     for failing in 0..40u64 {
@@ -116,14 +104,19 @@ fn are_cut(alloc: Global, whole: &Whole<'static>, size: usize) -> Result<bool, F
     Ok(true)
 }
 
+// Whether the list is cut where the room of a sink ends.
+fn is_cut_at(alloc: Global, room: usize) -> Result<bool, Fail> {
+    let out = MemorySink::new(alloc, 7, room, Vec::new(alloc))?;
+    is_cut(alloc, &LISTED, out, room)
+}
+
 #[test]
 fn each_write_may_fail_and_room_may_end_anywhere(rt: HostRuntime) -> Result<(), Fail> {
     for whole in &WHOLE {
         assert!(rt; are_cut(rt.alloc(), whole, 1)? && are_cut(rt.alloc(), whole, 5)?);
     }
     for room in 0..70usize {
-        let out = MemorySink::new(rt.alloc(), 7, room, Vec::new(rt.alloc()))?;
-        assert!(rt; is_cut(rt.alloc(), &LISTED, out, room)?, "{room} bytes");
+        assert!(rt; is_cut_at(rt.alloc(), room)?, "{room} bytes");
     }
     Ok(())
 }

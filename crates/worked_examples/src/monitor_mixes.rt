@@ -1,6 +1,6 @@
 //! Monitors in any mix: those of the program in any order and number, and one that finds no memory
 //! for its line.
-use crate::bench::{call, shelf_of, sink_of};
+use crate::bench::{ending, sink_of};
 use crate::nets::LOOP;
 use std::alloc::Global;
 use std::test::Fail;
@@ -74,11 +74,11 @@ fn monitors_of(alloc: Global, mix: &[Watch]) -> Result<Vec<Box<dyn Monitor>>, Fa
 // Whether the replay of a mix ends as it says and writes just its text.
 fn is_answered(alloc: Global, mix: &Mix<'_>) -> Result<bool, Fail> {
     let (log, watches, status, text) = *mix;
-    let monitors = monitors_of(alloc, watches)?;
-    let mut shelf = shelf_of(alloc, LOOP.as_bytes(), log.as_bytes(), &[])?;
-    let mut out = sink_of(alloc, 65536)?;
+    let files = (LOOP.as_bytes(), log.as_bytes());
     let words = ["replay", "net", "second"];
-    let ended = call(alloc, &words, &mut shelf, &mut out, monitors)?;
+    let mut out = sink_of(alloc, 65536)?;
+    let monitors = monitors_of(alloc, watches)?;
+    let ended = ending(alloc, &words, files, &[], &mut out, monitors)?;
     Ok(ended == status && out.contents() == text.as_bytes())
 }
 

@@ -2,7 +2,7 @@
 //! just the firings that a replay accepts; and those that are lent have seen them.
 ghost use Rattle.std.specs.Prelude.{codes};
 
-use crate::bench::{call, shelf_of, sink_of};
+use crate::bench::{ending, owned, shelf_of, sink_of};
 use crate::nets::{DEAD_LOOP, LOOP};
 use std::alloc::Global;
 use std::cell::Cell;
@@ -38,7 +38,7 @@ impl Monitor for Counter {
 // The most bytes of a file.
 const MOST_BYTES: usize = 4_194_304;
 
-const LOG: &[u8] = b"a,0\nb,3\na,5\n";
+const LOG: &str = "a,0\nb,3\na,5\n";
 
 // The words of each command.
 const COMMANDS: [&[&str]; 18] = [
@@ -62,6 +62,16 @@ const COMMANDS: [&[&str]; 18] = [
     &["check"],
 ];
 
+// A monitor that adds to the count.
+fn counter_of(alloc: Global, count: &Rc<Cell<u32>>) -> Result<Vec<Box<dyn Monitor>>, Fail> {
+    let counter = Counter {
+        count: count.clone()?,
+    };
+    let mut monitors: Vec<Box<dyn Monitor>> = Vec::new(alloc);
+    monitors.push(Box::new(alloc, counter)?)?;
+    Ok(monitors)
+}
+
 // The count after a call with these words on these files, of which this read fails.
 fn counted(
     alloc: Global,
@@ -70,15 +80,10 @@ fn counted(
     second: &[u8],
     failing: u64,
 ) -> Result<u32, Fail> {
-    let count = Rc::new(alloc, Cell::new(0u32))?;
-    let counter = Counter {
-        count: count.clone()?,
-    };
-    let mut monitors: Vec<Box<dyn Monitor>> = Vec::new(alloc);
-    monitors.push(Box::new(alloc, counter)?)?;
-    let mut shelf = shelf_of(alloc, net, second, &[failing])?;
     let mut out = sink_of(alloc, 65536)?;
-    call(alloc, words, &mut shelf, &mut out, monitors)?;
+    let count = Rc::new(alloc, Cell::new(0u32))?;
+    let monitors = counter_of(alloc, &count)?;
+    ending(alloc, words, (net, second), &[failing], &mut out, monitors)?;
     Ok(count.get())
 }
 
@@ -103,51 +108,58 @@ fn are_counted(
     Ok(true)
 }
 
+// A net, a second file, which read fails, and the count after a replay.
+const FILES: [(&str, &str, u64, u32); 10] = [
+    (LOOP, "", 0, 1),
+    (LOOP, LOG, 0, 3001),
+    // a log with a faulty row, one with a row too early
+    (LOOP, "a,0\nb,3\nc,5\n", 0, 1),
+    (LOOP, "a,0\nb,3\na,4\n", 0, 2001),
+    // a net that is no TOML, no net, not live
+    ("[[", LOG, 0, 1),
+    ("", LOG, 0, 1),
+    (DEAD_LOOP, LOG, 0, 1),
+    // a read that fails: the first, the second, and one that does not come
+    (LOOP, LOG, 1, 1),
+    (LOOP, LOG, 2, 1),
+    (LOOP, LOG, 3, 3001),
+];
+
+// Whether the monitors are dropped once, and see nothing, where the net or the log is too long.
+fn are_long_files_counted(alloc: Global) -> Result<bool, Fail> {
+    let long = vec![in alloc; b'#'; MOST_BYTES + 1]?;
+    let is_log_counted = are_counted(alloc, LOOP.as_bytes(), long.as_slice(), 0, 1)?;
+    Ok(is_log_counted && are_counted(alloc, long.as_slice(), LOG.as_bytes(), 0, 1)?)
+}
+
 #[test]
 fn monitors_are_dropped_once_and_see_what_is_accepted(rt: HostRuntime) -> Result<(), Fail> {
-    let long = vec![in rt.alloc(); b'#'; MOST_BYTES + 1]?;
-    // a net, a second file, which read fails, and the count after a replay
-    let files: [(&[u8], &[u8], u64, u32); 12] = [
-        (LOOP.as_bytes(), b"".as_slice(), 0, 1),
-        (LOOP.as_bytes(), LOG, 0, 3001),
-        // a log with a faulty row, one with a row too early, one that is too long
-        (LOOP.as_bytes(), b"a,0\nb,3\nc,5\n".as_slice(), 0, 1),
-        (LOOP.as_bytes(), b"a,0\nb,3\na,4\n".as_slice(), 0, 2001),
-        (LOOP.as_bytes(), long.as_slice(), 0, 1),
-        // a net that is no TOML, no net, not live, too long
-        (b"[[".as_slice(), LOG, 0, 1),
-        (b"".as_slice(), LOG, 0, 1),
-        (DEAD_LOOP.as_bytes(), LOG, 0, 1),
-        (long.as_slice(), LOG, 0, 1),
-        // a read that fails: the first, the second, and one that does not come
-        (LOOP.as_bytes(), LOG, 1, 1),
-        (LOOP.as_bytes(), LOG, 2, 1),
-        (LOOP.as_bytes(), LOG, 3, 3001),
-    ];
-    for (index, (net, second, failing, replayed)) in files.iter().enumerate() {
+    for (net, second, failing, replayed) in &FILES {
+        let (first, log) = (net.as_bytes(), second.as_bytes());
         assert!(rt;
-            are_counted(rt.alloc(), net, second, *failing, *replayed)?,
-            "files {index}"
+            are_counted(rt.alloc(), first, log, *failing, *replayed)?,
+            "{net} {second} {failing}"
         );
     }
+    assert!(rt; are_long_files_counted(rt.alloc())?);
     Ok(())
+}
+
+// How a replay whose third firing comes too early ends, with the monitors lent to it.
+fn lent(alloc: Global, monitors: &mut [Box<dyn Monitor>]) -> Result<Status, Fail> {
+    let words = owned(alloc, &["replay", "net", "second"])?;
+    let mut shelf = shelf_of(alloc, LOOP.as_bytes(), b"a,0\nb,3\na,4\n", &[])?;
+    let mut out = sink_of(alloc, 65536)?;
+    Ok(serve(alloc, &words, &mut shelf, &mut out, monitors))
 }
 
 #[test]
 fn monitors_are_lent(rt: HostRuntime) -> Result<(), Fail> {
-    let alloc = rt.alloc();
-    let mut words = Vec::new(alloc);
-    for word in ["replay", "net", "second"] {
-        words.push(String::from_str(alloc, word)?)?;
-    }
-    let mut monitors: Vec<Box<dyn Monitor>> = Vec::new(alloc);
-    monitors.push(Box::new(alloc, FiringCount::new())?)?;
-    let mut shelf = shelf_of(alloc, LOOP.as_bytes(), b"a,0\nb,3\na,4\n", &[])?;
-    let mut out = sink_of(alloc, 65536)?;
-    let status = serve(alloc, &words, &mut shelf, &mut out, &mut monitors);
-    assert!(rt; status == Status::Log, "the third firing comes too early");
+    let mut monitors: Vec<Box<dyn Monitor>> = Vec::new(rt.alloc());
+    monitors.push(Box::new(rt.alloc(), FiringCount::new())?)?;
+    assert!(rt; lent(rt.alloc(), &mut monitors)? == Status::Log);
     for monitor in &monitors {
-        assert!(rt; monitor.line(alloc)?.as_str() == "firings 2");
+        assert!(rt; monitor.line(rt.alloc())?.as_str() == "firings 2");
     }
     Ok(())
 }
