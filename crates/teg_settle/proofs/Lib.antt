@@ -6,6 +6,7 @@ mod Striking
 pub mod Copying
 pub mod Owning
 pub mod Limiting
+mod OneDate
 pub mod OwnForms
 pub mod Reaching
 pub mod Transferring

@@ -8,13 +8,13 @@
 //! that number and a step; contracts see it as a `SettledForm`. It tells the date of every number.
 //! [`settle_dates`] and [`settle_dates_within`] answer the same form as the rows that show it, for
 //! callers that ask for some of its dates: [`SettledDates`] takes a quarter of the memory.
-//! [`date_of`] answers one date, by rows near overtakings alone. [`shown_form`] is the step of the
-//! search for rows of one's own: it takes no memory, and so many rows as the lists of the net tell
-//! always show a form.
+//! [`date_of`] answers one date, by the rows alone where they go so far. [`shown_form`] is the step
+//! of the search for rows of one's own: it takes no memory, and so many rows as the lists of the
+//! net tell always show a form.
 //!
 //! Rows of dates are made until they show a form: in its last period no step falls along a place,
 //! the dates before move alike, and so do the releases of the inputs. The crate stands on
-//! `date_rows` and `run_rows` for rows, on `periodic_laws` for that there is a settled form, on `slope_laws` for
+//! `date_rows` for rows, on `periodic_laws` for that there is a settled form, on `slope_laws` for
 //! its slopes, on `settled_laws` for what settled forms are and what rows tell, on `teg_check` for
 //! ranks, on `teg_model` for datings, on `teg_net` for nets, on `dioid` for dates, and on
 //! `thiserror`. Its examples stand in `library_examples`, in `chapters_plans.rt`, and in
