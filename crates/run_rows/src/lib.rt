@@ -4,9 +4,10 @@
 //! [`date_by_jumps`] tells one date, and [`dates_by_jumps`] gives [`RunRows`], which tell each date
 //! up to a number of at most 10^18. What a call takes depends on how often one circuit overtakes
 //! another and on the turn, and hardly on the number: rows are made of two turns at least, so where
-//! circuits of many coprime numbers of tokens stand in one net, `date_of` of `teg_settle` is quicker. The crate stands on `jump_laws` for how far turns go on, on
-//! `date_rows` for rows, on `teg_check` for ranks, on `teg_model` for datings, on `teg_net` for
-//! nets, and on `dioid` for dates. Its examples stand in `date_examples`, in `jumps.rt`.
+//! circuits of many coprime numbers of tokens stand in one net, `date_of` of `teg_settle` is
+//! quicker. The crate stands on `jump_laws` for how far turns go on, on `date_rows` for rows, on
+//! `teg_check` for ranks, on `teg_model` for datings, on `teg_net` for nets, and on `dioid` for
+//! dates. Its examples stand in `date_examples`, in `jumps.rt`.
 //!
 //! ## How it works
 //!
