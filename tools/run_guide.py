@@ -18,10 +18,10 @@ Each file of examples/ is named by a command of the guide, a script of examples/
 that takes a net alone, by the usage, answers for each net there: with status 0, or, where the net is refused, as `check`
 does.
 
-With --witnesses each answer of `check`, `cycle`, `dates`, `size` and `jit` that a command of the guide asks for, and of
-`timetable` each whose delays are kept, is handed to the program witness_runner that `rt ci` leaves, which has to tell it as
-shown, and then with one number of it made greater by one, or of a circuit that stands without numbers with the last place
-left out, which has to be told as not shown or refuted.
+With --witnesses each answer of `check`, `list`, `cycle`, `dates`, `slack`, `size` and `jit` that a command of the guide
+asks for, and of `timetable` each whose delays are kept, is handed to the program witness_runner that `rt ci` leaves, which
+has to tell it as shown, and then with one number of it made greater by one, or of a circuit that stands without numbers
+with the last place left out, which has to be told as not shown or refuted.
 
 A difference is told. The last line is 'N passed, M failed', and the exit status 0 where some passed and none failed.
 """
@@ -36,11 +36,13 @@ from common import TOP, Status
 
 
 # What asks for an answer that a checker reads, and how such answers begin.
-ASKS = re.compile(r"\./(?:teg|try) (?:check|cycle|dates|size|jit|timetable)(?: [\w./]+)+")
+ASKS = re.compile(r"\./(?:teg|try) (?:check|list|cycle|dates|slack|size|jit|timetable)(?: [\w./]+)+")
 TABLE = "latest inputs for "
 SETTLED = "settled after "
+LISTED = "dates of "
+SLACK = "\nplace "
 KEPT = re.compile(r"settled after .*\nkept\n")
-CLAIMS = ("live\n", "refused: token-free circuit ", "cycle time ", "size ", "late ", SETTLED, TABLE)
+CLAIMS = ("live\n", "refused: token-free circuit ", "cycle time ", "no circuit\n", "size ", "late ", SETTLED, LISTED, TABLE)
 
 
 def blocks_of(text):
@@ -81,7 +83,7 @@ def raised(line):
 
 def changed(text):
     """The answer with a number made greater by one, the last of a line: of the table of latest dates in each line that tells
-    a date, of settled dates in each line, and else in the first line that has one. The circuit of delays that are kept, and one
+    a date, of settled dates, lists and slacks in each line, and else in the first line that has one. The circuit of delays that are kept, and one
     that stands alone, loses its last place."""
     lines = text.splitlines(keepends=True)
     numbered = [at for at, line in enumerate(lines) if re.search(r" \d+\b", line)]
@@ -92,7 +94,7 @@ def changed(text):
         numbered = [at for at in numbered[1:] if not lines[at].endswith(" free\n")]
     elif not numbered:
         yield re.sub(r" \S+\n", "\n", text, count=1)
-    elif not text.startswith(SETTLED):
+    elif not text.startswith((SETTLED, LISTED)) and SLACK not in text:
         numbered = numbered[:1]
     for at in numbered:
         for other in raised(lines[at]):

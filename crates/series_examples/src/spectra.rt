@@ -23,12 +23,24 @@ fn two_machines_have_a_pace(rt: HostRuntime) -> Result<(), Fail> {
     Ok(())
 }
 
+// The entry there; none outside the matrix.
+fn at(matrix: &Matrix<Date>, row: usize, column: usize) -> Option<Date> {
+    if row < matrix.rows() && column < matrix.columns() {
+        return Some(*matrix.entry(row, column));
+    }
+    None
+}
+
+// The entry there of the product with an identity, and of the transpose.
+fn made_and_turned(alloc: Global) -> Result<(Option<Date>, Option<Date>), Fail> {
+    let matrix = machines(alloc, Date::At(2))?;
+    let product = matrix.times(alloc, &identity::<Date>(alloc, 2)?)?;
+    Ok((at(&product, 0, 1), at(&transpose(alloc, &matrix)?, 0, 1)))
+}
+
 #[test]
 fn matrices_are_made_and_turned(rt: HostRuntime) -> Result<(), Fail> {
-    let alloc = rt.alloc();
-    let matrix = machines(alloc, Date::At(2))?;
-    let one = identity::<Date>(alloc, 2)?;
-    assert!(rt; *matrix.times(alloc, &one)?.entry(0, 1) == Date::At(7));
-    assert!(rt; *transpose(alloc, &matrix)?.entry(0, 1) == Date::At(2));
+    let told = made_and_turned(rt.alloc())?;
+    assert!(rt; told == (Some(Date::At(7)), Some(Date::At(2))));
     Ok(())
 }

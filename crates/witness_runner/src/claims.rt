@@ -1,4 +1,5 @@
 //! The lines of an answer that claim something, each with what is found of it.
+use answer_check::{shown_list, shown_no_circuit, shown_slack};
 use dating_check::{shown_first_late, shown_settled, shown_table};
 use delay_check::shown_kept;
 use std::alloc::Global;
@@ -56,6 +57,9 @@ pub enum Asked {
 enum Kind<'a> {
     Live,
     Refused,
+    List,
+    NoCircuit,
+    Slack,
     Cycle,
     Settled,
     Size,
@@ -75,7 +79,10 @@ fn kind_of<'a>(asked: &'a Asked, text: &str) -> Option<Kind<'a>> {
     match (asked, word) {
         (Asked::Nothing, "live") => Some(Kind::Live),
         (_, "refused:") if text.starts_with("refused: token-free circuit") => Some(Kind::Refused),
-        (Asked::Nothing, "cycle") if !has_line(text, "place ") => Some(Kind::Cycle),
+        (Asked::Nothing, "dates") => Some(Kind::List),
+        (Asked::Nothing, "no") if text.starts_with("no circuit") => Some(Kind::NoCircuit),
+        (Asked::Nothing, "cycle") if has_line(text, "place ") => Some(Kind::Slack),
+        (Asked::Nothing, "cycle") => Some(Kind::Cycle),
         (Asked::Nothing, "settled") => Some(Kind::Settled),
         (Asked::Nothing, "size") => Some(Kind::Size),
         (Asked::Due(due), "latest") => Some(Kind::Table(due)),
@@ -92,6 +99,9 @@ fn is_shown(alloc: Global, net: &Net, kind: Kind<'_>, text: &str) -> Result<bool
     match kind {
         Kind::Live => shows_live(alloc, net, text),
         Kind::Refused => Ok(false),
+        Kind::List => Ok(shown_list(alloc, net, text)?.is_some()),
+        Kind::NoCircuit => shown_no_circuit(alloc, net, text),
+        Kind::Slack => Ok(shown_slack(alloc, net, text)?.is_some()),
         Kind::Cycle => Ok(shown_pace(alloc, net, text)?.is_some()),
         Kind::Settled => Ok(shown_settled(alloc, net, text)?.is_some()),
         Kind::Size => Ok(shown_size(alloc, net, text)?.is_some()),

@@ -1,23 +1,24 @@
 //! Checks a printed answer of `teg` by the net and the text alone.
 //!
 //! `witness_runner NET ANSWER [DUE | PERIOD TIMETABLE]` reads a net file, a file with all that `teg
-//! check`, `cycle`, `dates`, `size`, `jit` or `timetable` printed of it, for `jit` the due file, and
-//! for `timetable` its period and its file. It prints the first line of the answer, of a table of
+//! check`, `list`, `cycle`, `dates`, `slack`, `size`, `jit` or `timetable` printed of it, for `jit`
+//! the due file, and for `timetable` its period and its file. It prints the first line of the answer, of a table of
 //! latest dates also each line that tells a date, and of delays that are kept that line and the
 //! circuit, each behind what is found of it: `shown`, `refuted`, `not shown` or `no checker`. It
 //! ends with status 0 where all is shown, 1 where a line is refuted, 2 where the words are others, 3
 //! where one is not shown, 4 where no checker reads the answer, and 5 where a file is not read.
 //!
-//! What is shown is right by the contracts of `witness_check`, `dating_check` and `delay_check`,
-//! whatever printed it, and whether the net is live is asked before all else: of `check`, what the
-//! text tells; of `cycle`, the pace of the net and the greatest ratios of its parts; of `size`, that
+//! What is shown is right by the contracts of `witness_check`, `dating_check`, `delay_check` and
+//! `answer_check`, whatever printed it, and whether the net is live is asked before all else: of
+//! `check`, what the text tells; of `list`, all its dates; of `cycle`, the pace of the net and the
+//! greatest ratios of its parts, or that it has no circuit; of `slack`, each slack; of `size`, that
 //! the number is the least that is enough; of `dates`, that its form is the settled form; of latest
 //! dates, that the table is a plan, with a step that attains each date; of `late`, that its row is
 //! the first that comes late, and when; of `kept`, that the circuit keeps delays. Of the other lines
 //! it tells nothing.
 //!
-//! It stands on `witness_check`, `dating_check` and `delay_check` for what answers show, on
-//! `teg_reader`, `teg_due` and `teg_timetable` for files, and on `teg_net` for nets.
+//! It stands on `witness_check`, `dating_check`, `delay_check` and `answer_check` for what answers
+//! show, on `teg_reader`, `teg_due` and `teg_timetable` for files, and on `teg_net` for nets.
 #![tactic(auto)]
 
 mod claims;
