@@ -31,7 +31,13 @@ fn runs_tell_each_date(rt: HostRuntime) -> Result<(), Fail> {
     let live = check(rt.alloc(), &net)?;
     let machine = net.find("m").ok_or("no such transition")?;
     let rows = dates_by_jumps(rt.alloc(), &net, &live, 1_000_000)?;
-    for (number, date) in [(1, 0), (2, 3), (3, 7), (999_999, 3_499_993), (1_000_000, 3_499_996)] {
+    for (number, date) in [
+        (1, 0),
+        (2, 3),
+        (3, 7),
+        (999_999, 3_499_993),
+        (1_000_000, 3_499_996),
+    ] {
         assert!(rt; rows.date(machine, number) == Date::At(date), "{number}");
     }
     Ok(())
