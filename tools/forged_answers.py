@@ -4,9 +4,10 @@
     tools/forged_answers.py [--teg PATH] [--runner PATH]
 
 PATH is the built program, or that of the checker; where none is named it is the one that `rt ci` leaves. Fifteen nets, those of
-examples/ and drawn ones, are asked some sixty questions of the commands that the checker reads. Of each answer a number,
+examples/ and drawn ones, are asked some hundred questions of the commands that the checker reads. Of each answer a number,
 a name, a word or a line is changed, left out, doubled or moved, one at a time, and each text is handed to the checker. A
-text that it shows has to be, in what it shows, the answer of `teg` itself: the line that is shown stands in the answer.
+text that it shows has to be, in what it shows, the answer of `teg` itself: the line that is shown stands in the answer, or,
+of a size, is the first one of the answer to what it asks.
 
 For each command it tells how many texts were tried and how many were shown, and each false one. The last line is
 'N passed, M failed', where a text fails that is shown and false, or an answer of `teg` that is not shown. The exit status is
@@ -114,6 +115,13 @@ def told(runner, net, beside, text, folder):
     return status, [line[len(SHOWN) :] for line in lines.splitlines() if line.startswith(SHOWN)]
 
 
+def is_said(teg, words, own, line):
+    """Whether the program says the line: of these words, or of a size for what the line itself asks."""
+    if line in own or words[0] != "size":
+        return line in own
+    return run([teg, "size", words[1], *line.split()[1:3]], ".")[1].splitlines()[:1] == [line]
+
+
 def tried(teg, runner, words, beside, names, folder):
     """How many texts were tried of the answer to these words, how many were shown, and the faults."""
     text = run([teg, *words], folder)[1]
@@ -130,7 +138,7 @@ def tried(teg, runner, words, beside, names, folder):
         status, shown = told(runner, words[1], beside, other, folder)
         yes += status == 0
         for line in shown:
-            if line not in own:
+            if not is_said(teg, words, own, line):
                 faults.append(f"{' '.join(words)}: shown and false: {line}")
     return count, yes, faults
 
