@@ -13,7 +13,7 @@ const NEARLY_ALIKE: &[u8] =
 
 // A machine of hold 3 behind parts that come in twos every 7 units.
 const IN_TWOS: &[u8] =
-    b"transition = [{name = 'in', role = 'input'}, {name = 'm'}]\nplace = [{name = 'feed', from = 'in', to = 'm'}, {name = 'free', from = 'm', to = 'm', hold = 3, tokens = 1}]\n[[input]]\ntransition = 'in'\ndates = [0, 0]\nagain = {every = 2, gap = 7}\n";
+    b"transition = [{name = 'in', role = 'input'}, {name = 'm'}]\nplace = [{name = 'feed', from = 'in', to = 'm'}, {name = 'free', from = 'm', to = 'm', hold = 3, tokens = 1}]\n[[input]]\ntransition = 'in'\ndates = [0, 0]\nevery = 2\ngap = 7\n";
 
 #[test]
 fn a_late_date_is_told(rt: HostRuntime) -> Result<(), Fail> {
