@@ -40,9 +40,10 @@ ASKS = re.compile(r"\./(?:teg|try) (?:check|list|cycle|dates|slack|size|jit|time
 TABLE = "latest inputs for "
 SETTLED = "settled after "
 LISTED = "dates of "
+NO_CIRCUIT = "no circuit\n"
 SLACK = "\nplace "
 KEPT = re.compile(r"settled after .*\nkept\n")
-CLAIMS = ("live\n", "refused: token-free circuit ", "cycle time ", "no circuit\n", "size ", "late ", SETTLED, LISTED, TABLE)
+CLAIMS = ("live\n", "refused: token-free circuit ", "cycle time ", NO_CIRCUIT, "size ", "late ", SETTLED, LISTED, TABLE)
 
 
 def blocks_of(text):
@@ -83,12 +84,15 @@ def raised(line):
 
 def changed(text):
     """The answer with a number made greater by one, the last of a line: of the table of latest dates in each line that tells
-    a date, of settled dates, lists and slacks in each line, and else in the first line that has one. The circuit of delays that are kept, and one
-    that stands alone, loses its last place."""
+    a date, of settled dates, lists and slacks in each line, and else in the first line that has one. The circuit of delays
+    that are kept, and one that stands alone, loses its last place; that there is no circuit is told twice."""
     lines = text.splitlines(keepends=True)
     numbered = [at for at, line in enumerate(lines) if re.search(r" \d+\b", line)]
     if KEPT.match(text):
         yield re.sub(r"^(circuit.*) \S+$", r"\1", text, count=1, flags=re.M)
+        return
+    if text == NO_CIRCUIT:
+        yield text + text
         return
     if text.startswith(TABLE):
         numbered = [at for at in numbered[1:] if not lines[at].endswith(" free\n")]
