@@ -1,5 +1,5 @@
 #!/usr/bin/env python3
-"""Tests of check_definitions.py, check_edits.py, check_signatures.py, house_order.py, make_pages.py, page_links.py,
+"""Tests of changed_promises.py, check_definitions.py, check_edits.py, check_signatures.py, house_order.py, make_pages.py, page_links.py,
 show_call.py and of what try_edits.py makes of rt's words, over a small repository that is made for them; of what run_guide.py finds in a page;
 and of common.py against the sources.
 
@@ -15,6 +15,7 @@ import tempfile
 import unittest
 from pathlib import Path
 
+import changed_promises
 import check_definitions
 import check_edits
 import check_signatures
@@ -276,6 +277,17 @@ IsKind k = IsFew k.part
         self.assertEqual(list(check_signatures.faults_of(text, "")), [])
         self.write("crates.txt", FILES["crates.txt"].replace("high: low", "high:"))
         self.assertEqual(list(check_signatures.faults_of(text, "")), ["high hands on no count"])
+
+    def test_changed_promises_are_told(self):
+        before = changed_promises.promised_in(self.top)
+        self.assertEqual(before["call", "low::count"], "pub fn count(things: &[u8]) -> usize ensures few { IsFew result }")
+        self.assertEqual(before["definition", "low.low_limit"], "abbrev pub low_limit : ℕ low_limit = 1000")
+        path, specs = "crates/low/src/count.rt", "crates/low/specs/Few.antt"
+        self.write(path, FILES[path].replace("things: &[u8]", "all: &[u8]").replace("/// Counts are few", "/// Counts of things are few"))
+        self.write("crates/high/specs/Others.antt", "-- Others.\n\n" + "-- moved\nabbrev pub low_limit : ℕ\nlow_limit = 1000\n")
+        self.write(specs, FILES[specs].replace("abbrev pub low_limit : ℕ\nlow_limit = 1000\n", "").replace("IsOther", "IsAnother"))
+        told = {name: fate for _, name, fate in changed_promises.compared(before, changed_promises.promised_in(self.top))}
+        self.assertEqual(told, {"low::count": "changed", "low.low_limit": "moved to high.low_limit", "low.IsOther": "gone"})
 
     def test_a_call_is_shown_with_what_its_clauses_name(self):
         self.write("crates/high/src/lib.rt", "pub use low::{counts_are_few, count};\n")
