@@ -56,19 +56,27 @@ def off_the_map(top):
             yield from (f"the map of docs/ARCHITECTURE.md says that {crate} stands on {other}" for other in wrong)
 
 
+def sections_of_blocks(top):
+    """The sections of the pages that docs/PROVED.md leads to below `## Crate by crate`, in order: page, title and text."""
+    told = re.split(r"^## ", (top / "docs/PROVED.md").read_text().partition("## Crate by crate\n")[2], flags=re.M)[0]
+    for page in dict.fromkeys(re.findall(r"\]\((PROVED_\w+\.md)", told)):
+        path = top / "docs" / page
+        for section in re.split(r"^## ", path.read_text() if path.is_file() else "", flags=re.M)[1:]:
+            title, _, body = section.partition("\n")
+            yield f"docs/{page}", title, body
+
+
 def rows_astray(top):
-    """The sections of docs/PROVED.md, below `## Crate by crate`, whose rows are not the crates of a block in their order."""
-    page = (top / "docs/PROVED.md").read_text().partition("## Crate by crate\n")[2]
-    sections = re.split(r"^### ", re.split(r"^## ", page, flags=re.M)[0], flags=re.M)[1:]
-    for block, section in zip_longest(blocks_in(top), sections):
-        title, _, body = (section or "nothing more\n").partition("\n")
+    """Where these sections are not the blocks in their order, or the rows of one not the crates of its block."""
+    for block, section in zip_longest(blocks_in(top), sections_of_blocks(top)):
+        page, title, body = section or ("docs/PROVED.md", "nothing more", "")
         cells = re.findall(r"^\| (`\w+`(?:, `\w+`)*) \|", body.partition("<!-- heads")[0], re.M)
         rows = [name for cell in cells for name in re.findall(r"\w+", cell)]
         if not block or title != block.title:
-            yield f"docs/PROVED.md has the section {title} where crates.txt has {block.title if block else 'nothing more'}"
+            yield f"{page} has the section {title} where crates.txt has {block.title if block else 'nothing more'}"
         elif rows != list(block.crates):
             odd = next(f"{row} where {crate} is" for row, crate in zip_longest(rows, block.crates, fillvalue="nothing") if row != crate)
-            yield f"docs/PROVED.md: the rows of {title} have {odd} in crates.txt"
+            yield f"{page}: the rows of {title} have {odd} in crates.txt"
 
 
 def examples_astray(top, head_of):

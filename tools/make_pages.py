@@ -6,11 +6,12 @@
 A page has paragraphs written by hand, and between them blocks that this script writes. A block begins with one of
 these lines and ends with the line `<!-- end -->`:
 
-- `<!-- blocks -->`: a table of the blocks of crates.txt, each with its crates and what crates.txt says of it (README.md).
+- `<!-- blocks -->`: a table of the blocks of crates.txt, each with its crates and what crates.txt says of it, and with a
+  link to the section that tells its crates (README.md).
 - `<!-- heads of TITLE -->`: of each crate of the block of this title, in order, the comment at the head of its root file up
   to the first heading there, but for what it stands on, where its tests are and what the page says of all laws (of a crate
   of laws alone that docs/LAWS.md tells its first paragraph), then its public calls with the names of their clauses, and
-  its laws, with what they say where docs/LAWS.md does not (docs/PROVED.md).
+  its laws, with what they say where docs/LAWS.md does not (the pages that docs/PROVED.md leads to).
 - `<!-- definitions NAME NAME .. -->`: of each of these definitions its name, its crate and file of specs/, and the
   comment above it (docs/DEFINITIONS.md).
 - `<!-- edits -->`: the must-fail edits that the gate tries, each with what its first line says, crate by crate, and
@@ -44,7 +45,7 @@ from itertools import groupby, takewhile
 from check_definitions import Specs, Types, definitions_named, exported
 from common import IN_GATE, KEPT, TOP, blocks_in, crates_in, edits_of, reason_of
 from house_order import out_of_order
-from page_links import leads_nowhere
+from page_links import anchor_of, leads_nowhere
 
 # What the page says once of all laws.
 NOTHING = re.compile(r" (It does|They do|which does) nothing when (it|they) runs?\.")
@@ -96,11 +97,17 @@ def head_of(crate):
     return "\n\n".join([it for it in texts if it][: 1 if is_told else None] + told_calls(crate)) + "\n"
 
 
+def section_of(title):
+    """The title of a block, as a link to the section of a page of docs/ that tells its crates, where there is one."""
+    pages = (page for page in sorted(TOP.glob("docs/*.md")) if f"<!-- heads of {title} -->" in page.read_text())
+    return next((f"[{title}](docs/{page.name}#{anchor_of(title)})" for page in pages), title)
+
+
 def table_of_blocks():
     """A table of the blocks of crates.txt."""
     rows = ["| Block | Crates | What is proved |", "|---|---|---|"]
     for block in blocks_in(TOP):
-        rows.append(f"| {block.title} | {', '.join(f'`{crate}`' for crate in block.crates)} | {cell(block.says.rstrip('.'))} |")
+        rows.append(f"| {section_of(block.title)} | {', '.join(f'`{crate}`' for crate in block.crates)} | {cell(block.says.rstrip('.'))} |")
     return "\n".join(rows) + "\n"
 
 
@@ -331,7 +338,7 @@ class Pages:
         if title not in self.blocks:
             self.told.append(f"the heads of {title} are to be told, and it is no block of crates.txt")
             return ""
-        return "\n".join(f"#### `{crate}`\n\n{head_of(crate)}" for crate in self.blocks[title].crates)
+        return "\n".join(f"### `{crate}`\n\n{head_of(crate)}" for crate in self.blocks[title].crates)
 
     def block(self, found):
         self.written.add(found[1])

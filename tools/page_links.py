@@ -18,10 +18,14 @@ def without_fences(text):
     return re.sub(r"^```.*?^```$", "", text, flags=re.M | re.S)
 
 
+def anchor_of(heading):
+    """The name by which a heading is linked to."""
+    return re.sub(r"[^\w\- ]", "", heading.lower()).replace(" ", "-")
+
+
 def anchors_of(text):
     """The names by which the headings of a page are linked to."""
-    headings = re.findall(r"^#+ (.*)$", without_fences(text), re.M)
-    return {re.sub(r"[^\w\- ]", "", heading.lower()).replace(" ", "-") for heading in headings}
+    return set(map(anchor_of, re.findall(r"^#+ (.*)$", without_fences(text), re.M)))
 
 
 def broken_links(top):

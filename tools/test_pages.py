@@ -33,8 +33,9 @@ FILES = {
     "docs/ARCHITECTURE.md": "# How it is built\n\n## Crates\n\n```\nground   counts  low\nprogram  high > low\n```\n",
     "docs/PAGE.md": "# Page\n\n## What is there\n\nBy hand, of `low_limit`.\n\n"
     "<!-- to read IsFew -->\n<!-- end -->\n",
-    "docs/PROVED.md": "# Proved\n\n## Crate by crate\n\n### Ground\n\n| Crate | By |\n|---|---|\n| `low` | |\n\n"
-    "<!-- heads of Ground -->\n<!-- end -->\n\n### Program\n\n| `high` | |\n\n<!-- heads of Program -->\n<!-- end -->\n",
+    "docs/PROVED.md": "# Proved\n\n## Crate by crate\n\n[Ground](PROVED_LOW.md#ground), [Program](PROVED_HIGH.md#program)\n\n## What is trusted\n\nAll.\n",
+    "docs/PROVED_LOW.md": "# Low\n\n## Ground\n\n| Crate | By |\n|---|---|\n| `low` | |\n\n<!-- heads of Ground -->\n<!-- end -->\n",
+    "docs/PROVED_HIGH.md": "# High\n\n## Program\n\n| `high` | |\n\n<!-- heads of Program -->\n<!-- end -->\n",
     "docs/WRONG_BODIES.md": "# Edits\n\n<!-- edits -->\n<!-- end -->\n\n<!-- kept edits -->\n<!-- end -->\n",
     "docs/DEFINITIONS.md": "# Definitions\n\n<!-- definitions IsFew -->\n<!-- end -->\n",
     "crates/low/src/lib.rt": "//! Counts things.\n//!\n//! One call. It stands on std alone. Its examples stand in `high`.\n//!\n//! | A | B |\n//! |---|---|\n//! | 1 | 2 |\npub use crate::count::{count, counts_are_few};\n",
@@ -173,11 +174,12 @@ IsKind k = IsFew k.part
         self.assertEqual(
             (self.top / "README.md").read_text().splitlines()[4:9],
             ["<!-- blocks -->", "| Block | Crates | What is proved |", "|---|---|---|",
-             "| Ground | `low` | what counts, by (`count`) |", "| Program | `high` | all of it |"])
+             "| [Ground](docs/PROVED_LOW.md#ground) | `low` | what counts, by (`count`) |",
+             "| [Program](docs/PROVED_HIGH.md#program) | `high` | all of it |"])
         page = (self.top / "docs/PAGE.md").read_text()
         self.assertIn("By hand, of `low_limit`.\n", page)
-        proved = (self.top / "docs/PROVED.md").read_text()
-        self.assertIn("<!-- heads of Ground -->\n#### `low`\n\nCounts things.\n\nOne call.\n\n| A | B |\n|---|---|\n| 1 | 2 |\n\nCalls: `count` (`few`).\n\nLaws:\n\n- `counts_are_few`: Counts are few (chapter 2).\n<!-- end -->\n", proved)
+        proved = (self.top / "docs/PROVED_LOW.md").read_text()
+        self.assertIn("<!-- heads of Ground -->\n### `low`\n\nCounts things.\n\nOne call.\n\n| A | B |\n|---|---|\n| 1 | 2 |\n\nCalls: `count` (`few`).\n\nLaws:\n\n- `counts_are_few`: Counts are few (chapter 2).\n<!-- end -->\n", proved)
         edits = (self.top / "docs/WRONG_BODIES.md").read_text()
         in_gate, _, kept = edits.partition("<!-- kept edits -->")
         self.assertIn("`low`:\n\n- `one_more`: one more is told (`count few`)\n\n1 edits in 1 crates.\n", in_gate)
@@ -189,12 +191,12 @@ IsKind k = IsFew k.part
         printed(make_pages.main, False)
         path = "crates/low/src/lib.rt"
         self.write(path, FILES[path].replace("Counts things.", "Counts all."))
-        self.assertIn("docs/PROVED.md is not what", printed(make_pages.main, True)[0])
+        self.assertIn("docs/PROVED_LOW.md is not what", printed(make_pages.main, True)[0])
 
     def test_a_law_of_the_page_of_laws_is_not_told_twice(self):
         self.write("docs/LAWS.md", "# Laws\n\n- `counts_are_few`\n")
         printed(make_pages.main, False)
-        page = (self.top / "docs/PROVED.md").read_text()
+        page = (self.top / "docs/PROVED_LOW.md").read_text()
         self.assertIn("[Laws](LAWS.md): `counts_are_few`.\n", page)
         self.assertNotIn("Counts are few", page)
 
@@ -204,10 +206,10 @@ IsKind k = IsFew k.part
         laws = FILES[path].replace("One call.", "Counts are so. Each law is the contract of a function that does nothing when it runs.")
         self.write(path, laws)
         printed(make_pages.main, False)
-        self.assertIn("Counts things.\n\nCounts are so.\n\n| A", (self.top / "docs/PROVED.md").read_text())
+        self.assertIn("Counts things.\n\nCounts are so.\n\n| A", (self.top / "docs/PROVED_LOW.md").read_text())
         self.write(path, laws.replace("{count, counts_are_few}", "counts_are_few"))
         printed(make_pages.main, False)
-        self.assertIn("Counts things.\n\n[Laws](LAWS.md): `counts_are_few`.\n", (self.top / "docs/PROVED.md").read_text())
+        self.assertIn("Counts things.\n\n[Laws](LAWS.md): `counts_are_few`.\n", (self.top / "docs/PROVED_LOW.md").read_text())
 
     def test_edits_of_both_kinds_are_looked_at(self):
         counts = "edits, of which the gate tries 1 in 1 crates"
@@ -343,7 +345,7 @@ impl Bag {
         head = "//!\n//! ## Call it\n//!\n//! Of `n`. From `high::calls::few`:\n//!\n//! ```rust\n//! if few(n) {\n//!     count();\n//! }\n//! ```\npub use"
         self.write(path, FILES[path].replace("pub use", head))
         self.assertEqual(printed(make_pages.main, False), ("", 0))
-        self.assertNotIn("Call it", (self.top / "docs/PROVED.md").read_text())
+        self.assertNotIn("Call it", (self.top / "docs/PROVED_LOW.md").read_text())
         told = "the head of low shows what is not in the test few of crates/high/src/calls.rt\n"
         for old, new in [("count();", "counts();"), ("    count();", "count();"), ("if few", "few")]:
             self.write(path, FILES[path].replace("pub use", head.replace(old, new)))
@@ -399,9 +401,12 @@ impl Bag {
         self.assertEqual(told("docs/ARCHITECTURE.md", ("program  ", "rest     ")), astray)
         astray = ["the map of docs/ARCHITECTURE.md says that low stands on high"]
         self.assertEqual(told("docs/ARCHITECTURE.md", ("high > low", "low > high > low")), astray)
-        astray = ["docs/PROVED.md: the rows of Program have low where high is in crates.txt"]
-        self.assertEqual(told("docs/PROVED.md", ("| `high` |", "| `low`, `high` |")), astray)
-        self.assertEqual(told("docs/PROVED.md", ("### Program", "### Rest")), ["docs/PROVED.md has the section Rest where crates.txt has Program"])
+        astray = ["docs/PROVED_HIGH.md: the rows of Program have low where high is in crates.txt"]
+        self.assertEqual(told("docs/PROVED_HIGH.md", ("| `high` |", "| `low`, `high` |")), astray)
+        astray = ["docs/PROVED_HIGH.md has the section Rest where crates.txt has Program"]
+        self.assertEqual(told("docs/PROVED_HIGH.md", ("## Program", "## Rest")), astray)
+        astray = ["docs/PROVED.md has the section nothing more where crates.txt has Program"]
+        self.assertEqual(told("docs/PROVED.md", (", [Program](PROVED_HIGH.md#program)", "")), astray)
 
     def test_examples_stand_where_a_head_says(self):
         self.write("crates/high/src/calls.rt", "use low::count;\n")
