@@ -3,7 +3,10 @@ ghost use Rattle.std.specs.Prelude.{◌≡◌, ◌≢◌, ◌<◌, ◌↔◌, If
 ghost use Rattle.teg_calc.specs.ExpressionTrees.{tree_of_expression};
 ghost use Rattle.teg_calc.specs.Readers.{Finishes, Goes, GoesOnByByte, HasFewDigits, IsAt, ReachesLevels, StandsWell, behind_step, close_step, comma_step, date_on, factor_of, factored, finish, gone_on, nested, operand_step, operator_by, operator_step, stand_of, start, state, state_of, step, letters_of, term_of, tree_in, within, within_step, word_on};
 
-use crate::brackets::{Bracket, Call, closed, joined, multiplied, opened, takes_comma};
+use crate::brackets::{
+    Bracket, Call, Summed, closed, joined, let_go, multiplied, opened, takes_comma, with_factor,
+    with_term,
+};
 use crate::bytes::{Sign, digit_of, sign_of};
 use crate::expressions::Expr;
 use crate::refusals::Stop;
@@ -68,16 +71,24 @@ impl Reader {
             place,
         } = self;
         if !outer.is_empty() {
+            let_go(inner);
+            let_go(place);
             return Err(Stop::Unexpected);
         }
         let Bracket {
             call: _,
-            first: _,
+            first,
             sum,
             product,
         } = inner;
-        let term = last_term(alloc, place, product)?;
-        Ok(joined(alloc, sum, term)?)
+        let_go(first);
+        match last_term(alloc, place, product) {
+            Ok(term) => Ok(joined(alloc, sum, term)?),
+            Err(stop) => {
+                let_go(sum);
+                Err(stop)
+            }
+        }
     }
 }
 
@@ -86,12 +97,21 @@ fn last_term(alloc: Global, place: ReadPlace, product: Option<Expr>) -> Result<E
     ensures { Finishes (term_of (stand_of place) (tree_in product)) result }
 {
     match place {
-        ReadPlace::Operand => Err(Stop::Unexpected),
+        ReadPlace::Operand => {
+            let_go(product);
+            Err(Stop::Unexpected)
+        }
         ReadPlace::Within(part) => match factor_of(part) {
             Some(factor) => Ok(multiplied(alloc, product, factor)?),
-            None => Err(Stop::Unexpected),
+            None => {
+                let_go(product);
+                Err(Stop::Unexpected)
+            }
         },
-        ReadPlace::Operator(term) => Ok(term),
+        ReadPlace::Operator(term) => {
+            let_go(product);
+            Ok(term)
+        }
     }
 }
 
@@ -100,6 +120,7 @@ fn nested(mut outer: Vec<Bracket>, inner: Bracket, call: Call) -> Result<Reader,
     ensures { Goes (λ o i _. Some (nested o i call)) outer.items inner 40 result }
 {
     if outer.len() >= 64 {
+        let_go(inner);
         return Err(Stop::TooDeep);
     }
     outer.push(inner)?;
@@ -127,7 +148,10 @@ fn operand(outer: Vec<Bracket>, inner: Bracket, byte: u8) -> Result<Reader, Stop
                 inner,
                 place: ReadPlace::Within(part),
             }),
-            None => Err(Stop::Unexpected),
+            None => {
+                let_go(inner);
+                Err(Stop::Unexpected)
+            }
         },
     }
 }
@@ -142,21 +166,10 @@ fn factored(
     ensures { ReachesLevels (λ o i. Some (factored o i (tree_of_expression factor))) outer.items
         inner result }
 {
-    let Bracket {
-        call,
-        first,
-        sum,
-        product,
-    } = inner;
-    let term = multiplied(alloc, product, factor)?;
+    let (inner, term) = with_factor(alloc, inner, factor)?;
     Ok(Reader {
         outer,
-        inner: Bracket {
-            call,
-            first,
-            sum,
-            product: None,
-        },
+        inner,
         place: ReadPlace::Operator(term),
     })
 }
@@ -166,17 +179,14 @@ fn close(alloc: Global, mut outer: Vec<Bracket>, inner: Bracket, term: Expr) -> 
     ensures { ReachesLevels (λ o i. close_step o i (tree_of_expression term)) outer.items inner
         result }
 {
-    let Bracket {
-        call,
-        first,
-        sum,
-        product: _,
-    } = inner;
-    let last = joined(alloc, sum, term)?;
-    match closed(alloc, call, first, last)? {
+    let last = with_term(alloc, inner, term)?;
+    match closed(alloc, last.call, last.first, last.sum)? {
         None => Err(Stop::Unexpected),
         Some(factor) => match outer.pop() {
-            None => Err(Stop::Unexpected),
+            None => {
+                let_go(factor);
+                Err(Stop::Unexpected)
+            }
             Some(inner) => factored(alloc, outer, inner, factor),
         },
     }
@@ -199,26 +209,29 @@ fn operator(
             inner,
             place: ReadPlace::Operator(term),
         }),
-        Sign::Plus => summed(alloc, outer, inner, term),
+        Sign::Plus => before_term(alloc, outer, inner, term),
         Sign::Dot => Ok(before_factor(outer, inner, term)),
         Sign::Comma => comma(alloc, outer, inner, term),
         Sign::Close => close(alloc, outer, inner, term),
-        _ => Err(Stop::Unexpected),
+        _ => {
+            let_go(inner);
+            let_go(term);
+            Err(Stop::Unexpected)
+        }
     }
 }
 
 // Behind a term and a `+`.
-fn summed(alloc: Global, outer: Vec<Bracket>, inner: Bracket, term: Expr) -> Result<Reader, Stop>
+fn before_term(
+    alloc: Global,
+    outer: Vec<Bracket>,
+    inner: Bracket,
+    term: Expr,
+) -> Result<Reader, Stop>
     ensures { ReachesLevels (λ o i. operator_by Sign.Plus o i (tree_of_expression term)) outer.items
         inner result }
 {
-    let Bracket {
-        call,
-        first,
-        sum,
-        product: _,
-    } = inner;
-    let sum = joined(alloc, sum, term)?;
+    let Summed { call, first, sum } = with_term(alloc, inner, term)?;
     Ok(Reader {
         outer,
         inner: Bracket {
@@ -240,8 +253,9 @@ fn before_factor(outer: Vec<Bracket>, inner: Bracket, term: Expr) -> Reader
         call,
         first,
         sum,
-        product: _,
+        product,
     } = inner;
+    let_go(product);
     Reader {
         outer,
         inner: Bracket {
@@ -259,21 +273,18 @@ fn comma(alloc: Global, outer: Vec<Bracket>, inner: Bracket, term: Expr) -> Resu
     ensures { ReachesLevels (λ o i. comma_step o i (tree_of_expression term)) outer.items inner
         result }
 {
-    let Bracket {
-        call,
-        first,
-        sum,
-        product: _,
-    } = inner;
-    if !takes_comma(call, &first) {
+    if !takes_comma(inner.call, &inner.first) {
+        let_go(inner);
+        let_go(term);
         return Err(Stop::Unexpected);
     }
-    let first = joined(alloc, sum, term)?;
+    let Summed { call, first, sum } = with_term(alloc, inner, term)?;
+    let_go(first);
     Ok(Reader {
         outer,
         inner: Bracket {
             call,
-            first: Some(first),
+            first: Some(sum),
             sum: None,
             product: None,
         },
@@ -321,6 +332,7 @@ fn within(
     match part {
         Part::Letters { word, read } => {
             if !is_next_letter(word, read, byte) {
+                let_go(inner);
                 return Err(Stop::Unexpected);
             }
             letter(alloc, outer, inner, word, read)
@@ -334,7 +346,10 @@ fn within(
             }),
             None => match factor_of(part) {
                 Some(factor) => behind(alloc, outer, inner, factor, byte),
-                None => Err(Stop::Unexpected),
+                None => {
+                    let_go(inner);
+                    Err(Stop::Unexpected)
+                }
             },
         },
     }
@@ -352,25 +367,8 @@ fn behind(
         byte
         result }
 {
-    let Bracket {
-        call,
-        first,
-        sum,
-        product,
-    } = inner;
-    let term = multiplied(alloc, product, factor)?;
-    operator(
-        alloc,
-        outer,
-        Bracket {
-            call,
-            first,
-            sum,
-            product: None,
-        },
-        term,
-        byte,
-    )
+    let (inner, term) = with_factor(alloc, inner, factor)?;
+    operator(alloc, outer, inner, term, byte)
 }
 
 // A token with one byte more, where it goes on by that byte.
@@ -519,6 +517,9 @@ fn named(outer: Vec<Bracket>, inner: Bracket, call: Call, byte: u8) -> Result<Re
     match sign_of(byte) {
         Sign::Blank => Ok(before_bracket(outer, inner, call)),
         Sign::Open => nested(outer, inner, call),
-        _ => Err(Stop::Unexpected),
+        _ => {
+            let_go(inner);
+            Err(Stop::Unexpected)
+        }
     }
 }
