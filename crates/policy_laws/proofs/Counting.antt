@@ -14,11 +14,11 @@ use Rattle.teg_howard.proofs.Turns.{greater_ratio}
 use Rattle.teg_howard.proofs.Optimum.{some_token}
 use Rattle.teg_howard.proofs.RoundStates.{ratio_less}
 use Rattle.teg_howard.proofs.teg_certificates_proofs.Ratios.{ratio_trans_less}
-use Rattle.teg_howard.proofs.Measure.{level, level_rises, level_bound}
 use Rattle.teg_howard.proofs.OneRun.{runs_agree}
 use Rattle.teg_loops.proofs.Straight.{loop_short}
 use Rattle.teg_loops.proofs.Taking.{sum_most}
 use Rattle.policy_laws.specs.RoundCounts.{RoundsOfOneRatioAreFew, most_ratios, RoundsAreFew}
+use Rattle.policy_laws.proofs.RatioCounts.{ratios_up_to, ratios_rise, ratios_few}
 use Rattle.policy_laws.proofs.OneRound.{Gains, LeadsHome, gains}
 use Rattle.policy_laws.proofs.Kept.{ends_below, AllGain, none_keep_on}
 
@@ -148,11 +148,14 @@ module _ (net : NetLists) (parts : List ℕ) (part : ℕ) (ok : IsNet net) (live
     abbrev n : ℕ
     n = length net.transitions
 
+    abbrev T : ℕ
+    T = n * hold
+
     abbrev D : ℕ
     D = n * tokens
 
     abbrev height : ℕ → ℕ
-    height k = level D (time_of net (R k).circuit.places.items) (tokens_of net (R k).circuit.places.items)
+    height k = ratios_up_to T D (time_of net (R k).circuit.places.items) (tokens_of net (R k).circuit.places.items)
 
     around : (f : PlaceId → ℕ) (most : ℕ) → ((id : PlaceId) → id.index < length net.places → f id ≤ most) → (ps : List PlaceId) → IsCircuit net ps → sum_by f ps ≤ n * most
     around f most each ps c =
@@ -196,7 +199,7 @@ module _ (net : NetLists) (parts : List ℕ) (part : ℕ) (ok : IsNet net) (live
         let count : suc (k - old.begin) ≡ suc k - old.begin = omega (arith, in') in
         let ratio : (R k).ratio ≡ (R (suc k)).ratio = sym g.next ∙ ap (λ z. (R z).ratio) next in
         let circuit : (R (suc k)).circuit.places.items ≡ (R k).circuit.places.items = ap (λ z. (R z).circuit.places.items) (sym next) ∙ g.circuit in
-        let high : height (suc k) ≡ height k = ap (λ z. level D (time_of net z) (tokens_of net z)) circuit in
+        let high : height (suc k) ≡ height k = ap (λ z. ratios_up_to T D (time_of net z) (tokens_of net z)) circuit in
         let low = old.low in
         let same : n * height (suc k) ≡ n * height k = ap (λ z. n * z) high in
         record {
@@ -210,9 +213,9 @@ module _ (net : NetLists) (parts : List ℕ) (part : ℕ) (ok : IsNet net) (live
         let c : List PlaceId = (R k).circuit.places.items in
         let e : List PlaceId = (R (suc k)).circuit.places.items in
         let rise : Rises net (R k) (R (suc k)) = subst (λ z. Rises net (R k) (R z)) next up in
-        let higher : height k + 1 ≤ height (suc k) = level_rises D (time_of net c) (tokens_of net c) (time_of net e) (tokens_of net e)
+        let higher : height k + 1 ≤ height (suc k) = ratios_rise T D (time_of net c) (tokens_of net c) (time_of net e) (tokens_of net e)
         (some_token net live c (is_round k (omega (arith, l))).circuit.circuit)
-        (some_token net live e (is_round (suc k) l).circuit.circuit) (tokens_in k (omega (arith, l))) (tokens_in (suc k) l) rise.circuit in
+        (some_token net live e (is_round (suc k) l).circuit.circuit) (tokens_in (suc k) l) (time_in (suc k) l) rise.circuit in
         let wide : n * (height k + 1) ≤ n * height (suc k) = mul-le-mul_left {m = height k + 1} {n = height (suc k)} n higher in
         let spread : n * (height k + 1) ≡ n * height k + n = grind arith in
         record { begin = suc k; within = omega arith; kept = λ j m. absurd (omega (arith, m)); low = omega (arith, before, wide, spread) })
@@ -223,9 +226,9 @@ module _ (net : NetLists) (parts : List ℕ) (part : ℕ) (ok : IsNet net) (live
         let k : ℕ = length rounds - 1 in
         let in' : k < length rounds = omega (arith, l) in
         let up = bounded k in' (counted k in') in
-        let high : height k ≤ n * hold * D * D = level_bound D (n * hold) (time_of net (R k).circuit.places.items) (tokens_of net (R k).circuit.places.items) (time_in k in') in
-        let wide : n * height k ≤ n * (n * hold * D * D) = mul-le-mul_left {m = height k} {n = n * hold * D * D} n high in
-        let spread : n * (n * hold * D * D + 1) ≡ n * (n * hold * D * D) + n = grind arith in
+        let high : height k ≤ T * D = ratios_few T D (time_of net (R k).circuit.places.items) (tokens_of net (R k).circuit.places.items) in
+        let wide : n * height k ≤ n * (T * D) = mul-le-mul_left {m = height k} {n = T * D} n high in
+        let spread : n * (T * D + 1) ≡ n * (T * D) + n = grind arith in
         omega (arith, up, wide, spread, l)
 
 pub one_ratio_few : RoundsOfOneRatioAreFew

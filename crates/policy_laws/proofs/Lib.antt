@@ -1,3 +1,4 @@
 pub mod OneRound
 pub mod Kept
 pub mod Counting
+pub mod RatioCounts

@@ -11,9 +11,10 @@ RoundsOfOneRatioAreFew =
     (net : NetLists) (part_of : List ℕ) (part : ℕ) (rounds : List Round) → IsNet net → IsLive net → IsPolicyRun net part_of part rounds
     → (i k : ℕ) (d : Round) → i ≤ k → k < length rounds → (slice_index_or rounds i d).ratio ≡ (slice_index_or rounds k d).ratio → k < i + length net.transitions
 
--- how many ratios of circuits of a net there can be at most, where no circuit has more time or tokens than this
+-- how many ratios of circuits of a net there can be at most, where no circuit has more time or tokens than this: one of no time, and
+-- one for each time and each number of tokens
 abbrev pub most_ratios : ℕ → ℕ → ℕ
-most_ratios time tokens = time * tokens * tokens + 1
+most_ratios time tokens = time * tokens + 1
 
 -- and so there are at most so many rounds in a run, by the greatest holding time and the most tokens of a place
 abbrev pub RoundsAreFew : Type 0
