@@ -1,5 +1,5 @@
 //! The pace of a net and of its parts, from the answers of calls.
-ghost use Rattle.std.specs.Prelude.{ℕ, ℤ, ◌+ℤ◌, ◌*◌, ◌≤◌, ◌≡◌, ◌⊎◌, ◌↔◌, length, All};
+ghost use Rattle.std.specs.Prelude.{ℕ, ℤ, ◌+ℤ◌, ◌*◌, ◌≤◌, ◌≡◌, ◌⊎◌, ◌↔◌, List, length, All};
 ghost use Rattle.delay_laws.specs.PlannedTimetables.{IsWorkable};
 ghost use Rattle.pace_laws.specs.Eigenspaces.{AreBegunAt, AreInOneCriticalPart, IsSpannedAt};
 ghost use Rattle.pace_laws.specs.TightPotentials.{ArePacedDates, AreTightPotentials, IsCriticalIn, IsTightInto};
@@ -9,7 +9,7 @@ ghost use Rattle.teg_howard.specs.PolicyRounds.{IsPolicyRun};
 ghost use Rattle.teg_net.specs.Certificates.{potential_at};
 ghost use Rattle.teg_net.specs.GreatestRatios.{HasNoCircuit, IsAnyPlace, IsGreatestRatio};
 ghost use Rattle.teg_net.specs.PartAnswers.{IsBestOfPart};
-ghost use Rattle.teg_net.specs.Parts.{to_of, IsMember, IsPlaceOfPart};
+ghost use Rattle.teg_net.specs.Parts.{to_of, IsMember, IsPlaceOfPart, ListsMembers};
 ghost use Rattle.teg_net.specs.Ratios.{Fraction};
 ghost use Rattle.teg_parts.specs.Partitions.{AreParts};
 ghost use Rattle.workable_laws.specs.WorkablePeriods.{AreWorkableFirsts, LeavesCircuitsTime};
@@ -168,7 +168,7 @@ pub fn period_is_workable(net: &Net, live: &Live, ratio: Ratio, period: u64)
     periods_from_the_ratio_are_workable();
 }
 
-/// Policy iteration takes few rounds.
+/// Policy iteration takes few rounds, by the members of the part.
 pub fn rounds_are_within(
     net: &Net,
     live: &Live,
@@ -182,8 +182,9 @@ pub fn rounds_are_within(
     requires run { IsPolicyRun net.now parts.now.part_of part rounds.now }
     requires holds { All (λ p. p.hold ≤ hold) net.now.places }
     requires tokens { All (λ p. p.tokens ≤ tokens) net.now.places }
-    ensures { length rounds.now ≤ length net.now.transitions
-        * most_ratios (length net.now.transitions * hold) (length net.now.transitions * tokens) }
+    ensures { (members : List ℕ) → ListsMembers parts.now.part_of part members
+        → length rounds.now ≤ length members
+        * most_ratios (length members * hold) (length members * tokens) }
 {
     net.rules();
     ranked_nets_are_live();

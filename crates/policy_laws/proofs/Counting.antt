@@ -5,9 +5,10 @@ use Rattle.std.proofs.lemmas.Bool.{cases_lt}
 use Rattle.std.proofs.Math.Nat.{mul-le-mul_left, mul-le-mul_right}
 use Rattle.teg_net.specs.declared.entries.PlaceId.{PlaceId}
 use Rattle.teg_net.specs.declared.rounds.Round.{Round}
-use Rattle.teg_net.specs.Nets.{NetLists, IsNet, IsPlaceOf}
+use Rattle.teg_net.specs.Nets.{NetLists, IsNet}
 use Rattle.teg_net.specs.Ratios.{Fraction}
-use Rattle.teg_net.specs.Circuits.{no_place, place_at, IsCircuit, IsLive, time_of, tokens_of}
+use Rattle.teg_net.specs.Circuits.{no_place, place_at, from_of, IsCircuit, IsLive, time_of, tokens_of}
+use Rattle.teg_net.specs.Parts.{IsPlaceOfPart, ListsMembers}
 use Rattle.teg_howard.specs.Policies.{IsChanged}
 use Rattle.teg_howard.specs.PolicyRounds.{chosen, potential, IsRound, IsRoundOf, KeepsCircuit, FollowsRound, IsRunTo}
 use Rattle.teg_howard.proofs.Turns.{greater_ratio}
@@ -15,12 +16,12 @@ use Rattle.teg_howard.proofs.Optimum.{some_token}
 use Rattle.teg_howard.proofs.RoundStates.{ratio_less}
 use Rattle.teg_howard.proofs.teg_certificates_proofs.Ratios.{ratio_trans_less}
 use Rattle.teg_howard.proofs.OneRun.{runs_agree}
-use Rattle.teg_loops.proofs.Straight.{loop_short}
 use Rattle.teg_loops.proofs.Taking.{sum_most}
 use Rattle.policy_laws.specs.RoundCounts.{RoundsOfOneRatioAreFew, most_ratios, RoundsAreFew}
 use Rattle.policy_laws.proofs.RatioCounts.{ratios_up_to, ratios_rise, ratios_few}
 use Rattle.policy_laws.proofs.OneRound.{Gains, LeadsHome, gains}
-use Rattle.policy_laws.proofs.Kept.{ends_below, AllGain, none_keep_on}
+use Rattle.policy_laws.proofs.InPart.{circuit_in_part}
+use Rattle.policy_laws.proofs.Kept.{AllGain, none_keep_on}
 
 -- a circuit that gains at the ratio of another has the greater ratio
 circuit_less : (a b tc kc td kd : ℕ) → 0 < kc → a * kd < b * td → tc * b ≡ a * kc → tc * kd < td * kc
@@ -41,7 +42,7 @@ pub record Rises (net : NetLists) (r s : Round) : Type 0 where
   pub ratio : r.ratio.time * s.ratio.tokens < s.ratio.time * r.ratio.tokens
   pub circuit : time_of net r.circuit.places.items * tokens_of net s.circuit.places.items < time_of net s.circuit.places.items * tokens_of net r.circuit.places.items
 
-module _ (net : NetLists) (parts : List ℕ) (part : ℕ) (ok : IsNet net) (live : IsLive net) (rounds : List Round) (run : IsRunTo net parts part rounds) (d : Round) where
+module _ (net : NetLists) (parts : List ℕ) (part : ℕ) (ok : IsNet net) (live : IsLive net) (ts : List ℕ) (lists : ListsMembers parts part ts) (rounds : List Round) (run : IsRunTo net parts part rounds) (d : Round) where
   abbrev R : ℕ → Round
   R k = get_or rounds k d
 
@@ -70,26 +71,26 @@ module _ (net : NetLists) (parts : List ℕ) (part : ℕ) (ok : IsNet net) (live
       (λ (keep : KeepsCircuit net parts part r s f.better). inl (gains net parts part r s h (home k (omega (arith, l))) f keep))
       f.next
 
-  -- the net has a transition
-  some : 0 < length rounds → 1 ≤ length net.transitions
+  -- the part has a member
+  some : 0 < length rounds → 1 ≤ length ts
   some l =
       let h : IsRound net parts part (R 0) = is_round 0 l in
       let p : PlaceId = get_or (R 0).circuit.places.items 0 (record { index = 0 }) in
       let inside = h.circuit.inside 0 (record { index = 0 }) h.circuit.circuit.not_empty in
-      let rules : IsPlaceOf net (place_at net p) = ok.each_place p.index no_place inside.in_range in
-      let low = rules.from_in in
+      let has = lists.all (from_of net p) inside.from_member in
+      let low = has.1 in
       omega (arith, low)
 
-  -- rounds that keep their circuit are fewer than the transitions
-  few : (q : Fraction) (i m : ℕ) → i + m < length rounds → AllGain net parts part q R i m → m < length net.transitions
+  -- rounds that keep their circuit are fewer than the members
+  few : (q : Fraction) (i m : ℕ) → i + m < length rounds → AllGain net parts part q R i m → m < length ts
   few q i m l all = ⊎_elim
-      (λ (less : m < length net.transitions). less)
-      (λ (more : length net.transitions ≤ m).
+      (λ (less : m < length ts). less)
+      (λ (more : length ts ≤ m).
       let one = some (omega (arith, l)) in
-      let n : ℕ = length net.transitions - 1 in
-      absurd (none_keep_on net parts part q R ok i n (omega (arith, one)) (λ j k. all j (omega (arith, k, more, one)))
+      let n : ℕ = length ts - 1 in
+      absurd (none_keep_on net parts part q R ts lists i n (omega (arith, one)) (λ j k. all j (omega (arith, k, more, one)))
       (is_round i (omega (arith, l))) (is_round (i + n + 1) (omega (arith, l, more, one))) (home (i + n + 1) (omega (arith, l, more, one)))))
-      (cases_lt m (length net.transitions))
+      (cases_lt m (length ts))
 
   -- ---- between two rounds
 
@@ -131,7 +132,7 @@ module _ (net : NetLists) (parts : List ℕ) (part : ℕ) (ok : IsNet net) (live
       (step (i + m) (omega (arith, l))))
       (between i m (omega (arith, l)))
 
-  pub of_one_ratio : (i k : ℕ) → i ≤ k → k < length rounds → (R i).ratio ≡ (R k).ratio → k < i + length net.transitions
+  pub of_one_ratio : (i k : ℕ) → i ≤ k → k < length rounds → (R i).ratio ≡ (R k).ratio → k < i + length ts
   of_one_ratio i k l m same =
       let e : i + (k - i) ≡ k = omega (arith, l) in
       ⊎_elim
@@ -146,7 +147,7 @@ module _ (net : NetLists) (parts : List ℕ) (part : ℕ) (ok : IsNet net) (live
 
   module _ (hold tokens : ℕ) (holds : All (λ p. p.hold ≤ hold) net.places) (marks : All (λ p. p.tokens ≤ tokens) net.places) where
     abbrev n : ℕ
-    n = length net.transitions
+    n = length ts
 
     abbrev T : ℕ
     T = n * hold
@@ -157,17 +158,17 @@ module _ (net : NetLists) (parts : List ℕ) (part : ℕ) (ok : IsNet net) (live
     abbrev height : ℕ → ℕ
     height k = ratios_up_to T D (time_of net (R k).circuit.places.items) (tokens_of net (R k).circuit.places.items)
 
-    around : (f : PlaceId → ℕ) (most : ℕ) → ((id : PlaceId) → id.index < length net.places → f id ≤ most) → (ps : List PlaceId) → IsCircuit net ps → sum_by f ps ≤ n * most
-    around f most each ps c =
+    around : (f : PlaceId → ℕ) (most : ℕ) → ((id : PlaceId) → id.index < length net.places → f id ≤ most) → (ps : List PlaceId) → IsCircuit net ps → All (IsPlaceOfPart net parts part) ps → sum_by f ps ≤ n * most
+    around f most each ps c inside =
         let one = sum_most f most net each ps c.closed.0 c.closed.0 c.closed.1 in
-        let two : length ps * most ≤ n * most = mul-le-mul_right {m = length ps} {n = n} most (loop_short net n ps (ends_below net ok) c) in
+        let two : length ps * most ≤ n * most = mul-le-mul_right {m = length ps} {n = n} most (circuit_in_part net parts part ts lists ps c inside) in
         omega (arith, one, two)
 
     time_in : (k : ℕ) → k < length rounds → time_of net (R k).circuit.places.items ≤ n * hold
-    time_in k l = around (λ p. (place_at net p).hold) hold (λ id m. holds id.index no_place m) (R k).circuit.places.items (is_round k l).circuit.circuit
+    time_in k l = around (λ p. (place_at net p).hold) hold (λ id m. holds id.index no_place m) (R k).circuit.places.items (is_round k l).circuit.circuit (is_round k l).circuit.inside
 
     tokens_in : (k : ℕ) → k < length rounds → tokens_of net (R k).circuit.places.items ≤ D
-    tokens_in k l = around (λ p. (place_at net p).tokens) tokens (λ id m. marks id.index no_place m) (R k).circuit.places.items (is_round k l).circuit.circuit
+    tokens_in k l = around (λ p. (place_at net p).tokens) tokens (λ id m. marks id.index no_place m) (R k).circuit.places.items (is_round k l).circuit.circuit (is_round k l).circuit.inside
 
     -- the rounds that lead up to round k with its circuit begin at one that is not past n times its height
     record IsCounted (k : ℕ) : Type 0 where
@@ -232,12 +233,12 @@ module _ (net : NetLists) (parts : List ℕ) (part : ℕ) (ok : IsNet net) (live
         omega (arith, up, wide, spread, l)
 
 pub one_ratio_few : RoundsOfOneRatioAreFew
-one_ratio_few net part_of part rounds ok live run i k d l m same = of_one_ratio net part_of part ok live rounds run.run d i k l m same
+one_ratio_few net part_of part members rounds ok live lists run i k d l m same = of_one_ratio net part_of part ok live members lists rounds run.run d i k l m same
 
 pub few_rounds : RoundsAreFew
-few_rounds net part_of part hold tokens rounds ok live run holds marks = by_first net part_of part hold tokens rounds ok live run.run holds marks run.run.some where
-  by_first : (net : NetLists) (part_of : List ℕ) (part hold tokens : ℕ) (rounds : List Round) → IsNet net → IsLive net
+few_rounds net part_of part members hold tokens rounds ok live lists run holds marks = by_first net part_of part members hold tokens rounds ok live lists run.run holds marks run.run.some where
+  by_first : (net : NetLists) (part_of : List ℕ) (part : ℕ) (members : List ℕ) (hold tokens : ℕ) (rounds : List Round) → IsNet net → IsLive net → ListsMembers part_of part members
       → IsRunTo net part_of part rounds → All (λ p. p.hold ≤ hold) net.places → All (λ p. p.tokens ≤ tokens) net.places → 0 < length rounds
-      → length rounds ≤ length net.transitions * most_ratios (length net.transitions * hold) (length net.transitions * tokens)
-  by_first net part_of part hold tokens (r ∷ rounds) ok live run holds marks l = all_few net part_of part ok live (r ∷ rounds) run r hold tokens holds marks l
-  by_first net part_of part hold tokens [] ok live run holds marks l = absurd (omega arith)
+      → length rounds ≤ length members * most_ratios (length members * hold) (length members * tokens)
+  by_first net part_of part members hold tokens (r ∷ rounds) ok live lists run holds marks l = all_few net part_of part ok live members lists (r ∷ rounds) run r hold tokens holds marks l
+  by_first net part_of part members hold tokens [] ok live lists run holds marks l = absurd (omega arith)

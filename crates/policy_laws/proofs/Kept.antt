@@ -1,26 +1,19 @@
--- As many rounds as there are transitions cannot all keep their circuit.
+-- As many rounds as a part has members cannot all keep their circuit.
 use Rattle.std.proofs.Common.{ℕ, zero, suc, ◌+◌, ◌-◌, ◌<◌, ◌≤◌, ◌≡◌, List, [], ◌∷◌, length, refl, sym, ap, subst, ◌∙◌, arith}
 use Rattle.std.specs.Prelude.{pos, ◌+ℤ◌, ◌≤ℤ◌, All}
 use Rattle.std.proofs.lemmas.Int.{ints}
 use Rattle.std.proofs.lemmas.List.Elements.{All-tail}
 use Rattle.teg_net.specs.declared.entries.PlaceId.{PlaceId}
 use Rattle.teg_net.specs.declared.rounds.Round.{Round}
-use Rattle.teg_net.specs.Nets.{NetLists, IsNet, IsPlaceOf}
+use Rattle.teg_net.specs.Nets.{NetLists}
 use Rattle.teg_net.specs.Ratios.{Fraction}
-use Rattle.teg_net.specs.Circuits.{no_place, place_at, from_of, IsPathBetween}
-use Rattle.teg_net.specs.Parts.{to_of, IsMember, IsPlaceOfPart}
+use Rattle.teg_net.specs.Circuits.{from_of, IsPathBetween}
+use Rattle.teg_net.specs.Parts.{to_of, IsMember, IsPlaceOfPart, ListsMembers}
 use Rattle.teg_net.specs.ReducedTimes.{reduced_time_of}
 use Rattle.teg_net.specs.PartAnswers.{first_transition_of}
 use Rattle.teg_howard.specs.Policies.{Enters}
 use Rattle.teg_howard.specs.PolicyRounds.{potential, IsRound}
-use Rattle.teg_loops.specs.Loops.{EndsBelow}
 use Rattle.policy_laws.proofs.OneRound.{Gains, LeadsHome, IsShortPath, short_path}
-
-pub ends_below : (net : NetLists) → IsNet net → EndsBelow net (length net.transitions)
-ends_below net ok = record {
-  from_in = λ id l. (let rules : IsPlaceOf net (place_at net id) = ok.each_place id.index no_place l in rules.from_in);
-  to_in = λ id l. (let rules : IsPlaceOf net (place_at net id) = ok.each_place id.index no_place l in rules.to_in);
-}
 
 module _ (net : NetLists) (parts : List ℕ) (part : ℕ) (q : Fraction) (R : ℕ → Round) where
   -- from round i on so many rounds are followed by one that keeps ratio and circuit
@@ -71,22 +64,19 @@ module _ (net : NetLists) (parts : List ℕ) (part : ℕ) (q : Fraction) (R : �
   last : (i n : ℕ) → AllGain i (suc n) → Gains net parts part q (R (i + n)) (R (i + n + 1))
   last i n all = all n (omega arith)
 
-  -- as many as there are transitions: then the last gains nothing
-  pub none_keep_on : (ok : IsNet net) (i n : ℕ) → length net.transitions ≡ suc n → AllGain i (suc n) → IsRound net parts part (R i)
+  -- as many as the part has members: then the last gains nothing
+  pub none_keep_on : (ts : List ℕ) → ListsMembers parts part ts → (i n : ℕ) → length ts ≡ suc n → AllGain i (suc n) → IsRound net parts part (R i)
       → IsRound net parts part (R (i + n + 1)) → LeadsHome net parts part (R (i + n + 1)) → ⊥
-  none_keep_on ok i n count all h k home =
+  none_keep_on ts lists i n count all h k home =
       let g = last i n all in
       let up = g.improvable in
       let t : ℕ = up.0 in
       let p : PlaceId = up.1 in
       let more = up.2.more in
-      let rules : IsPlaceOf net (place_at net p) = ok.each_place p.index no_place up.2.enters.inside.in_range in
-      let to_in = rules.to_in in
       let ends = up.2.enters.ends in
-      let t_in : t < length net.transitions = omega (arith, to_in, ends) in
       let m : IsMember parts part t = subst (IsMember parts part) ends up.2.enters.inside.to_member in
       let taken = g.taken t p m up.2.enters in
-      let w : IsShortPath net parts part (R (i + n + 1)) (length net.transitions) t = short_path net parts part (R (i + n + 1)) k home (length net.transitions) (ends_below net ok) t t_in m in
+      let w : IsShortPath net parts part (R (i + n + 1)) (length ts) t = short_path net parts part (R (i + n + 1)) k home ts lists t m in
       let ps : List PlaceId = w.places in
       let size : length ps ≤ n = (let s = w.short in omega (arith, s, count)) in
       let circuit : (R (i + n + 1)).circuit.places.items ≡ (R i).circuit.places.items =

@@ -1,3 +1,4 @@
+pub mod InPart
 pub mod OneRound
 pub mod Kept
 pub mod Counting

@@ -1,22 +1,21 @@
 -- What a round that keeps its circuit gains: no potential falls, and each reaches what places offered it.
-use Rattle.std.proofs.Common.{ℕ, ◌<◌, ◌≡◌, List, [], ◌∷◌, ◌++◌, length, get_or, refl, ap, subst, ◌∙◌, arith, ⊎_elim}
+use Rattle.std.proofs.Common.{ℕ, ◌<◌, ◌≡◌, List, [], ◌∷◌, length, get_or, refl, ap, subst, ◌∙◌, arith, ⊎_elim}
 use Rattle.std.specs.Prelude.{ℤ, pos, ◌+ℤ◌, ◌≤ℤ◌, ◌<ℤ◌, All}
 use Rattle.std.proofs.lemmas.Int.{ints, by_lt_z}
-use Rattle.std.proofs.lemmas.List.Elements.{All-nil, All-cons, All-tail, All-append}
+use Rattle.std.proofs.lemmas.List.Elements.{All-tail}
 use Rattle.teg_net.specs.declared.entries.PlaceId.{PlaceId}
 use Rattle.teg_net.specs.declared.rounds.Round.{Round}
 use Rattle.teg_net.specs.Nets.{NetLists}
 use Rattle.teg_net.specs.Ratios.{Fraction}
 use Rattle.teg_net.specs.Circuits.{from_of, IsPathBetween}
-use Rattle.teg_net.specs.Parts.{to_of, IsMember, IsPlaceOfPart}
+use Rattle.teg_net.specs.Parts.{to_of, IsMember, IsPlaceOfPart, ListsMembers}
 use Rattle.teg_net.specs.ReducedTimes.{reduced_time, reduced_time_of}
 use Rattle.teg_net.specs.PartAnswers.{first_transition_of}
 use Rattle.teg_howard.specs.Policies.{Enters, LeadsBack, AreSums, Improves, offer_of}
 use Rattle.teg_howard.specs.PolicyRounds.{chosen, potential, IsRound, KeepsCircuit, FollowsRound}
 use Rattle.teg_howard.proofs.Turns.{cases_improves, everywhere, better_is_policy, offers, rises}
 use Rattle.teg_howard.proofs.Back.{trail, trail_leads, trail_inside, trail_own}
-use Rattle.teg_loops.specs.Loops.{EndsBelow}
-use Rattle.teg_loops.proofs.Taking.{by_loops}
+use Rattle.policy_laws.proofs.InPart.{shorten_in}
 
 -- both rounds have the ratio and the circuit, no potential of the first falls, and each of the second is at least what a
 -- place of the part offered its end
@@ -105,14 +104,6 @@ module _ (net : NetLists) (parts : List ℕ) (part : ℕ) where
       let from : v (from_of net p) ≡ v s = ap v l.1 in
       omega (arith, ints, here, rest, from)
 
-  all_left : (P : PlaceId → Type 0) (xs ys : List PlaceId) → All P (xs ++ ys) → All P xs
-  all_left P [] ys h = All-nil P
-  all_left P (x ∷ xs) ys h = All-cons P x xs (h 0 x (omega arith)) (all_left P xs ys (All-tail P x (xs ++ ys) h))
-
-  all_right : (P : PlaceId → Type 0) (xs ys : List PlaceId) → All P (xs ++ ys) → All P ys
-  all_right P [] ys h = h
-  all_right P (x ∷ xs) ys h = all_right P xs ys (All-tail P x (xs ++ ys) h)
-
   pub record IsShortPath (r : Round) (n t : ℕ) : Type 0 where
     pub places : List PlaceId
     pub path : IsPathBetween net (first_transition_of net r.circuit.places.items) places t
@@ -120,8 +111,8 @@ module _ (net : NetLists) (parts : List ℕ) (part : ℕ) where
     pub short : length places < n
     pub is : potential r t ≡ reduced_time_of net r.ratio.time r.ratio.tokens places
 
-  pub short_path : (r : Round) → IsRound net parts part r → LeadsHome r → (n : ℕ) → EndsBelow net n → (t : ℕ) → t < n → IsMember parts part t → IsShortPath r n t
-  short_path r h home n ends t l m =
+  pub short_path : (r : Round) → IsRound net parts part r → LeadsHome r → (ts : List ℕ) → ListsMembers parts part ts → (t : ℕ) → IsMember parts part t → IsShortPath r (length ts) t
+  short_path r h home ts lists t m =
       let root : ℕ = first_transition_of net r.circuit.places.items in
       let v : ℕ → ℤ = potential r in
       let P : PlaceId → Type 0 = IsTightPlace r.ratio v in
@@ -133,12 +124,7 @@ module _ (net : NetLists) (parts : List ℕ) (part : ℕ) where
       let inside = trail_inside net parts part (chosen r) h.policy back.0 t m i d k in
       let at = everywhere net parts part (chosen r) h.policy r.ratio.time r.ratio.tokens r.circuit.places.items h.circuit h.ratio.same v h.sums (to_of net (get_or ps i d)) inside.to_member in
       record { inside = inside; tight = at ∙ ap (offer_of net r.ratio.time r.ratio.tokens v) own }) in
-      let w = by_loops net n root t (λ qs. All P qs → (zs : List PlaceId) × IsPathBetween net root zs t × All P zs × (length zs < n)) ends l
-      (λ qs g k all. (qs, g, all, k))
-      (λ qs g loop old all.
-      let whole : All P (loop.before ++ (loop.loop ++ loop.after)) = subst (λ z. All P z) loop.is all in
-      old (All-append P loop.before loop.after (all_left P loop.before (loop.loop ++ loop.after) whole) (all_right P loop.loop loop.after (all_right P loop.before (loop.loop ++ loop.after) whole))))
-      ps path tight in
+      let w = shorten_in net parts part ts lists P (λ p q. q.inside) ps root t m path tight in
       let sum = tight_sum r.ratio v w.0 root t w.1 w.2 in
       let start : v root ≡ pos 0 = h.sums.start in
       record { places = w.0; path = w.1; inside = λ i d k. (w.2 i d k).inside; short = w.3; is = omega (arith, ints, sum, start) }
