@@ -10,16 +10,19 @@ ghost use Rattle.growth_laws.specs.DateLines.{ArePotentialsInto, AreStartsBelow}
 ghost use Rattle.late_laws.specs.LateLines.{IsLineUnderDues};
 ghost use Rattle.run_laws.specs.EarliestRuns.{IsEarliestRun};
 ghost use Rattle.run_laws.specs.Runs.{dates_of_transition};
+ghost use Rattle.settled_laws.specs.SettledForms.{IsSettledFormOf};
 ghost use Rattle.due_laws.specs.MeetingDueDates.{inputs_at_zero};
 ghost use Rattle.teg_check.specs.Ranks.{IsRanking};
 ghost use Rattle.teg_model.specs.Datings.{IsLeastDating, IsLeastUnder};
 ghost use Rattle.teg_model.specs.dioid.declared.dates.Date.{Date};
 ghost use Rattle.teg_model.specs.dioid.declared.dates.Date.TheVariants.{At};
+ghost use Rattle.teg_model.specs.dioid.Dates.{IsAtMostDate};
 ghost use Rattle.std.specs.Prelude.{pos};
 ghost use Rattle.teg_net.specs.Circuits.{time_of, tokens_of, IsPathBetween};
 ghost use Rattle.teg_replay.specs.Games.{IsGameOf};
 
 use counter_laws::{counters_count_firings, counters_exist, counters_solve_min_plus_equations};
+use date_counts::{count_by, live_nets_have_counters};
 use endless_due::EndlessRow;
 use game_laws::{
     earliest_runs_are_first, earliest_runs_are_whole, earliest_runs_exist,
@@ -30,6 +33,7 @@ use run_laws::Fired;
 use teg_check::{Live, ranked_nets_are_live};
 use teg_net::{Net, PlaceId, Ratio, TransitionId};
 use teg_replay::Game;
+use teg_settle::Settled;
 
 /// Counts solve the equations of the net.
 pub fn counts_are_least(net: &Net, transition: TransitionId, date: u64, number: u64)
@@ -49,6 +53,38 @@ pub fn counts_are_one(net: &Net, transition: TransitionId, date: u64)
         → AreCounters net.now x other → c transition.index date ≡ other transition.index date }
 {
     counters_exist();
+}
+
+/// A live net has counters, and by its settled form what they are at a date.
+pub fn count_of_counters(
+    net: &Net,
+    live: &Live,
+    settled: &Settled,
+    transition: TransitionId,
+    date: u64,
+) -> Option<u128>
+    requires live { IsRanking net.now live.now }
+    requires form { IsSettledFormOf net.now settled.now }
+    requires transition { transition.index < length net.now.transitions }
+    ensures { (x : ℕ → ℕ → Date) → IsLeastDating net.now x
+        → (c : ℕ → ℕ → Option ℕ) × AreCounters net.now x c × (c transition.index date ≡ result) }
+{
+    net.rules();
+    ranked_nets_are_live();
+    live_nets_have_counters();
+    count_by(net, settled, transition, date)
+}
+
+/// Counts tell the dates that are not before 0.
+pub fn counts_tell_date(net: &Net, transition: TransitionId, number: u64)
+    requires transition { transition.index < length net.now.transitions }
+    requires number { 1 ≤ number }
+    ensures { (x y : ℕ → ℕ → Date) (c : ℕ → ℕ → Option ℕ) → AreCounters net.now x c
+        → AreCounters net.now y c → IsAtMostDate (At (pos 0)) (x transition.index number)
+        → IsAtMostDate (At (pos 0)) (y transition.index number)
+        → x transition.index number ≡ y transition.index number }
+{
+    live_nets_have_counters();
 }
 
 /// A count is that of the firings of an earliest run.

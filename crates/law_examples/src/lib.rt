@@ -24,51 +24,108 @@ mod semirings;
 mod timetables;
 mod turns;
 
-pub use asked::{
-    cycle_with_longer_hold, feasible_plan, grows_by_cycle_time, settle_with_longer_hold,
-    transfer_of_only_input,
-};
-pub use bounds::{dates_are_between_forms, plan_moves_dates, waits_are_told};
-pub use changed::{
-    dates_are_later, further_places, hold_longer, pace_is_no_better, slower_twice, take_tokens,
-    try_hold, try_tokens,
-};
-pub use counts::{
-    counts_are_least, counts_are_of_runs, counts_are_one, date_is_reached, game_is_no_earlier,
-    has_earliest_run, row_is_late, row_is_not_late, run_is_whole,
-};
-pub use forms::{
-    answer_draws_lines, dates_are_responses, dates_stay_below, grows_by_ratio, has_slope,
-    net_is_strong, period_divides, series_is_realized, still_form, transfer_is_periodic,
-    transfer_tells_dates,
-};
-pub use games::{
-    fires_on, has_earliest_date, may_fire_or_fails, never_fired, place_is_within, shows_life,
-    tokens_stay,
-};
-pub use left::{net_after_game, rest_is_least};
-pub use paces::{
-    circuit_is_tight, has_pace, has_tight_potentials, period_is_workable, period_leaves_time,
-    potential_is_spanned, potentials_are_paced, potentials_are_tight, potentials_begin,
-    potentials_move_as_one, rounds_are_within,
-};
-pub use periods::{dates_repeat, period_divides_by_size, transfer_divides};
-pub use plans::{
-    feasible_meet, has_latest_dates, later_inputs_meet, meets_by_floats, meets_up_to_plan,
-    met_when_later, plan_is_feasible, plan_is_later, plan_is_least_ahead, plan_moves,
-    plans_are_superposed, shift_does_not_grow, walk_bounds, walk_refuses, zero_inputs_by_plan,
-};
-pub use semirings::{
-    dates_commute, feedback_keeps, matrices_are_a_dioid, matrices_have_residuals,
-    matrices_have_stars, residual_is_within, solved_by_residual, star_divides_itself,
-    star_is_square, zero_is_least,
-};
-pub use timetables::{
-    clock_tells_period, job_may_take_longer, no_token_waits, period_between_is_kept,
-    times_are_kept_by_ratio,
-};
-pub use turns::{
-    Window, date_some_periods_on, dates_move_on, dates_move_on_from, dates_settle_where_none_falls,
-    dues_are_kept_between, form_is_past_limit, other_period_goes_on, planned_dates_move_on,
-    runs_tell, turns_in_time,
-};
+pub use asked::cycle_with_longer_hold;
+pub use asked::feasible_plan;
+pub use asked::grows_by_cycle_time;
+pub use asked::settle_with_longer_hold;
+pub use asked::transfer_of_only_input;
+pub use bounds::dates_are_between_forms;
+pub use bounds::plan_moves_dates;
+pub use bounds::waits_are_told;
+pub use changed::dates_are_later;
+pub use changed::further_places;
+pub use changed::hold_longer;
+pub use changed::pace_is_no_better;
+pub use changed::slower_twice;
+pub use changed::take_tokens;
+pub use changed::try_hold;
+pub use changed::try_tokens;
+pub use counts::count_of_counters;
+pub use counts::counts_are_least;
+pub use counts::counts_are_of_runs;
+pub use counts::counts_are_one;
+pub use counts::counts_tell_date;
+pub use counts::date_is_reached;
+pub use counts::game_is_no_earlier;
+pub use counts::has_earliest_run;
+pub use counts::row_is_late;
+pub use counts::row_is_not_late;
+pub use counts::run_is_whole;
+pub use forms::answer_draws_lines;
+pub use forms::dates_are_responses;
+pub use forms::dates_stay_below;
+pub use forms::grows_by_ratio;
+pub use forms::has_slope;
+pub use forms::net_is_strong;
+pub use forms::period_divides;
+pub use forms::series_is_realized;
+pub use forms::still_form;
+pub use forms::transfer_is_periodic;
+pub use forms::transfer_tells_dates;
+pub use games::fires_on;
+pub use games::has_earliest_date;
+pub use games::may_fire_or_fails;
+pub use games::never_fired;
+pub use games::place_is_within;
+pub use games::shows_life;
+pub use games::tokens_stay;
+pub use left::net_after_game;
+pub use left::rest_is_least;
+pub use paces::circuit_is_tight;
+pub use paces::has_pace;
+pub use paces::has_tight_potentials;
+pub use paces::period_is_workable;
+pub use paces::period_leaves_time;
+pub use paces::potential_is_spanned;
+pub use paces::potentials_are_paced;
+pub use paces::potentials_are_tight;
+pub use paces::potentials_begin;
+pub use paces::potentials_move_as_one;
+pub use paces::rounds_are_within;
+pub use periods::dates_repeat;
+pub use periods::period_divides_by_size;
+pub use periods::transfer_divides;
+pub use plans::feasible_meet;
+pub use plans::has_latest_dates;
+pub use plans::later_inputs_meet;
+pub use plans::meets_by_floats;
+pub use plans::meets_up_to_plan;
+pub use plans::met_when_later;
+pub use plans::plan_is_feasible;
+pub use plans::plan_is_later;
+pub use plans::plan_is_least_ahead;
+pub use plans::plan_moves;
+pub use plans::plans_are_superposed;
+pub use plans::shift_does_not_grow;
+pub use plans::walk_bounds;
+pub use plans::walk_refuses;
+pub use plans::zero_inputs_by_plan;
+pub use semirings::dates_commute;
+pub use semirings::feedback_keeps;
+pub use semirings::greatest_weight;
+pub use semirings::matrices_are_a_dioid;
+pub use semirings::matrices_have_residuals;
+pub use semirings::matrices_have_stars;
+pub use semirings::residual_is_within;
+pub use semirings::solved_by_residual;
+pub use semirings::star_divides_itself;
+pub use semirings::star_is_square;
+pub use semirings::zero_is_least;
+pub use timetables::clock_tells_period;
+pub use timetables::earliest_is_one;
+pub use timetables::job_may_take_longer;
+pub use timetables::no_token_waits;
+pub use timetables::period_between_is_kept;
+pub use timetables::period_has_earliest;
+pub use timetables::times_are_kept_by_ratio;
+pub use turns::Window;
+pub use turns::date_some_periods_on;
+pub use turns::dates_move_on;
+pub use turns::dates_move_on_from;
+pub use turns::dates_settle_where_none_falls;
+pub use turns::dues_are_kept_between;
+pub use turns::form_is_past_limit;
+pub use turns::other_period_goes_on;
+pub use turns::planned_dates_move_on;
+pub use turns::runs_tell;
+pub use turns::turns_in_time;

@@ -1,15 +1,20 @@
 //! Laws of semirings at elements that a program has.
-ghost use Rattle.std.specs.Prelude.{◌≡◌, ◌↔◌};
+ghost use Rattle.std.specs.Prelude.{◌≡◌, ◌↔◌, ◌<◌, IfOk};
+ghost use Rattle.algebra_laws.specs.WalkWeights.{dates, HasGreatestWeights};
 ghost use Rattle.dioid.specs.Dates.{date_product};
 ghost use Rattle.dioid.specs.DioidAxioms.{IsAtMost};
+ghost use Rattle.dioid_matrix.specs.Tables.{entry_of};
 ghost use Rattle.dioid_laws.specs.SquareMatrices.{SquaresAreDioid, SquaresHaveResiduals, SquaresHaveStars};
 
+use algebra_laws::stars_have_greatest_weights;
 use dioid::{Date, Dioid, Kleene, Residuated};
 use dioid_laws::{
     equations_are_solved_by_residuals, feedback_keeps_transfers, products_commute,
     residuals_are_lawful, square_matrices_are_a_dioid, square_matrices_have_residuals,
     square_matrices_have_stars, stars_are_lawful, stars_have_residuals, sums_are_ordered,
 };
+use dioid_matrix::{Matrix, MatrixRefused};
+use std::alloc::Global;
 
 /// Zero is at most each element.
 pub fn zero_is_least<D: Dioid>(a: &D)
@@ -90,4 +95,20 @@ pub fn solved_by_residual<D: Residuated>(a: &D, b: &D)
         ↔ (D.product a.now (D.left a.now b.now) ≡ b.now) }
 {
     equations_are_solved_by_residuals::<D>();
+}
+
+/// The greatest weight of the walks from a row to a column of a matrix of dates.
+pub fn greatest_weight(
+    alloc: Global,
+    matrix: &Matrix<Date>,
+    row: usize,
+    column: usize,
+) -> Result<Date, MatrixRefused>
+    requires row { row < matrix.now.rows }
+    requires column { column < matrix.now.columns }
+    ensures { IfOk result (HasGreatestWeights matrix.now.rows (entry_of dates matrix.now) row column) }
+{
+    stars_have_greatest_weights();
+    let star = matrix.star(alloc)?;
+    Ok(*star.entry(row, column))
 }

@@ -1,18 +1,22 @@
-//! What a timetable keeps besides the places of a net: greatest times, longer jobs, a clock.
-ghost use Rattle.std.specs.Prelude.{ℕ, ◌+◌, ◌*◌, ◌<◌, ◌≤◌, ◌≡◌, ◌↔◌, List, length};
+//! What a timetable keeps besides the places of a net: greatest times, longer jobs, a clock; and the
+//! earliest one of a period.
+ghost use Rattle.std.specs.Prelude.{ℕ, ◌+◌, ◌*◌, ◌<◌, ◌≤◌, ◌≡◌, ◌↔◌, List, length, slice_index, IfOk};
 ghost use Rattle.planning_laws.specs.Clocks.{each_period, HasClock};
 ghost use Rattle.planning_laws.specs.GreatestTimes.{date_by, with_places, without_wait, ArePlacesBack, CanKeepAll, GreatestTime, KeepsGreatestTime};
 ghost use Rattle.planning_laws.specs.LongerJobs.{IsLongerJob, IsWithinSlack};
 ghost use Rattle.teg_check.specs.Ranks.{IsRanking};
 ghost use Rattle.teg_net.specs.GreatestRatios.{IsAnyPlace, IsGreatestRatio};
+ghost use Rattle.timetable_calls.specs.Earliest.{AreLeastFirsts};
 ghost use Rattle.workable_laws.specs.WorkablePeriods.{LeavesCircuitsTime, LeavesPlaceTime};
 
 use planning_laws::{
     clocks_tell_periods, greatest_times_are_places_back, jobs_may_take_longer,
     periods_between_keep_greatest_times,
 };
+use std::alloc::Global;
 use teg_check::{Live, ranked_nets_are_live};
 use teg_net::{Net, Place, PlaceId, Ratio, TransitionId};
+use timetable_calls::{PeriodRefused, earliest_timetable, earliest_timetables_exist};
 
 /// Greatest times can be kept just at the periods from the cycle time of the net with their places
 /// back on.
@@ -73,4 +77,29 @@ pub fn clock_tells_period(net: &Net, clocked: &Net, clock: TransitionId, period:
         ↔ LeavesCircuitsTime net.now period }
 {
     clocks_tell_periods();
+}
+
+/// A period that leaves each circuit its time has a least list of first departures.
+pub fn period_has_earliest(net: &Net, period: u64)
+    requires { LeavesCircuitsTime net.now period }
+    ensures { (first : ℕ → ℕ) × AreLeastFirsts net.now period first }
+{
+    net.rules();
+    earliest_timetables_exist();
+}
+
+/// The earliest timetable of a period, whose first departures are those of each least list.
+pub fn earliest_is_one(
+    alloc: Global,
+    net: &Net,
+    live: &Live,
+    period: u64,
+) -> Result<Vec<u64>, PeriodRefused>
+    requires { IsRanking net.now live.now }
+    ensures { IfOk result (λ firsts. (other : ℕ → ℕ) → AreLeastFirsts net.now period other
+        → (t : ℕ) → t < length net.now.transitions → slice_index firsts.items t ≡ other t) }
+{
+    earliest_timetables_exist();
+    let firsts = earliest_timetable(alloc, net, live, period)?;
+    Ok(firsts)
 }
