@@ -5,6 +5,7 @@ ghost use Rattle.teg_due.specs.RowRules.{IsDueOf};
 use dioid::Date;
 use dispatch::Dispatcher;
 use example_nets::{due_rows, held, place_named, read, transition_named};
+use pace_pieces::{Piece, pace_by_hold};
 use run_laws::Fired;
 use std::alloc::Global;
 use std::test::Fail;
@@ -208,5 +209,33 @@ fn is_tried(alloc: Global, held: &LiveNet) -> Result<bool, Fail> {
 fn a_change_is_tried(rt: HostRuntime) -> Result<(), Fail> {
     let is_tried = is_tried(rt.alloc(), &held(rt.alloc(), CARDS)?);
     assert!(rt; is_tried?);
+    Ok(())
+}
+
+// The pace as the work on c takes from nothing to 10 units.
+fn pace_of_work(alloc: Global, held: &LiveNet) -> Result<Vec<Piece>, Fail> {
+    let work = place_named(held.net(), "bc")?;
+    let pieces = pace_by_hold(alloc, held, work, 0, 10)?;
+    Ok(pieces.ok_or("no circuit")?)
+}
+
+// Whether up to 3 a and b hold the net up, at 5, and from 4 on b and c, at 2 more than the work.
+fn are_two(pieces: &[Piece]) -> bool {
+    let [first, second] = pieces else {
+        return false;
+    };
+    first.to == 3
+        && first.line.base == 5
+        && first.line.passes == 0
+        && second.from == 4
+        && second.line.base == 2
+        && second.line.passes == 1
+}
+
+#[test]
+fn a_pace_has_pieces(rt: HostRuntime) -> Result<(), Fail> {
+    let held = held(rt.alloc(), CARDS)?;
+    let pieces = pace_of_work(rt.alloc(), &held)?;
+    assert!(rt; are_two(&pieces));
     Ok(())
 }
