@@ -42,92 +42,86 @@ place = [
 
 // How many firings the text of `teg list` shows of this net.
 fn listed(alloc: Global, net: &str, text: &str) -> Option<u32> {
-    let Ok(net) = read_net(alloc, net.as_bytes()) else {
-        return None;
-    };
+    let net = read_net(alloc, net.as_bytes()).ok()?;
     shown_list(alloc, &net, text).ok().flatten()
 }
 
 // The date that the text of `teg date` shows with that of `teg list` of this net.
 fn dated(alloc: Global, net: &str, list: &str, text: &str) -> Option<Date> {
-    let Ok(net) = read_net(alloc, net.as_bytes()) else {
-        return None;
-    };
+    let net = read_net(alloc, net.as_bytes()).ok()?;
     match shown_date(alloc, &net, list, text) {
         Ok(Some(shown)) => Some(shown.date),
         _ => None,
     }
 }
 
-// Whether the text shows that this net has no circuit.
-fn has_none(alloc: Global, net: &str, text: &str) -> bool {
-    let Ok(net) = read_net(alloc, net.as_bytes()) else {
-        return false;
-    };
-    shown_no_circuit(alloc, &net, text).unwrap_or(false)
+// Whether the text shows that this net has no circuit; none where the net is not read.
+fn has_none(alloc: Global, net: &str, text: &str) -> Option<bool> {
+    let net = read_net(alloc, net.as_bytes()).ok()?;
+    shown_no_circuit(alloc, &net, text).ok()
 }
 
 // The time and the tokens of the ratio that the text of `teg slack` shows of this net.
 fn paced(alloc: Global, net: &str, text: &str) -> Option<(u64, u64)> {
-    let Ok(net) = read_net(alloc, net.as_bytes()) else {
-        return None;
-    };
+    let net = read_net(alloc, net.as_bytes()).ok()?;
     match shown_slack(alloc, &net, text) {
         Ok(Some(ratio)) => Some((ratio.time(), ratio.tokens())),
         _ => None,
     }
 }
 
-#[test]
-fn lists_are_shown(rt: HostRuntime) {
-    let told = "dates of 3 firings
-transition m1 m2 m3
-1 0 4 10
-2 4 10 16
-3 8 16 22
-";
-    assert!(rt; listed(rt.alloc(), KANBAN, told) == Some(3));
-    let date = "dates of 2 firings
-transition m1 m2 m3
-1 0 4 10
-2 4 10 17
-";
-    assert!(rt; listed(rt.alloc(), KANBAN, date).is_none());
-    let number = "dates of 2 firings
-transition m1 m2 m3
-1 0 4 10
-3 4 10 16
-";
-    assert!(rt; listed(rt.alloc(), KANBAN, number).is_none());
-    let dead = "dates of 1 firings
-transition a b
-1 5 5
-";
-    assert!(rt; listed(rt.alloc(), DEAD, dead).is_none());
-}
+// Nets, texts of lists, and how many firings these show.
+const LISTS: [(&str, &str, Option<u32>); 4] = [
+    (
+        KANBAN,
+        "dates of 3 firings\ntransition m1 m2 m3\n1 0 4 10\n2 4 10 16\n3 8 16 22\n",
+        Some(3),
+    ),
+    (
+        KANBAN,
+        "dates of 2 firings\ntransition m1 m2 m3\n1 0 4 10\n2 4 10 17\n",
+        None,
+    ),
+    (
+        KANBAN,
+        "dates of 2 firings\ntransition m1 m2 m3\n1 0 4 10\n3 4 10 16\n",
+        None,
+    ),
+    (DEAD, "dates of 1 firings\ntransition a b\n1 5 5\n", None),
+];
+
+// The list of two firings of the kanban line.
+const LIST: &str = "dates of 2 firings\ntransition m1 m2 m3\n1 0 4 10\n2 4 10 16\n";
+
+// Texts of dates, and which date each shows with that list.
+const DATES: [(&str, Option<Date>); 3] = [
+    ("date m3 2 16\n", Some(Date::At(16))),
+    ("date m3 2 17\n", None),
+    ("date m3 3 22\n", None),
+];
 
 #[test]
-fn dates_are_shown_by_lists(rt: HostRuntime) {
-    let list = "dates of 2 firings
-transition m1 m2 m3
-1 0 4 10
-2 4 10 16
-";
-    assert!(rt; dated(rt.alloc(), KANBAN, list, "date m3 2 16\n") == Some(Date::At(16)));
-    assert!(rt; dated(rt.alloc(), KANBAN, list, "date m3 2 17\n").is_none());
-    assert!(rt; dated(rt.alloc(), KANBAN, list, "date m3 3 22\n").is_none());
+fn lists_and_dates_are_shown(rt: HostRuntime) {
+    for (net, text, firings) in &LISTS {
+        assert!(rt; listed(rt.alloc(), net, text) == *firings, "{text}");
+    }
+    for (text, date) in &DATES {
+        assert!(rt; dated(rt.alloc(), KANBAN, LIST, text) == *date, "{text}");
+    }
 }
 
-#[test]
-fn nets_without_a_circuit_are_shown(rt: HostRuntime) {
-    assert!(rt; has_none(rt.alloc(), PLAIN, "no circuit\n"));
-    assert!(rt; !has_none(rt.alloc(), PLAIN, "no circuit\nno circuit\n"));
-    assert!(rt; !has_none(rt.alloc(), LOOSE, "no circuit\n"));
-}
+// Nets, texts, and whether these show that the net has no circuit.
+const NO_CIRCUITS: [(&str, &str, bool); 3] = [
+    (PLAIN, "no circuit\n", true),
+    (PLAIN, "no circuit\nno circuit\n", false),
+    (LOOSE, "no circuit\n", false),
+];
 
-#[test]
-fn slacks_are_shown(rt: HostRuntime) {
-    let kanban = "cycle time 6/1
+// Nets, texts of slacks, and the time and the tokens of the ratio that these show.
+const SLACKS: [(&str, &str, Option<(u64, u64)>); 5] = [
+    (
+        KANBAN,
+        "cycle time 6/1
 place s1 slack 2
 place s2 critical
 place s3 slack 1
@@ -135,34 +129,61 @@ place f12 slack 8
 place f23 slack 6
 place c21 slack 8
 place c32 slack 6
-";
-    assert!(rt; paced(rt.alloc(), KANBAN, kanban) == Some((6, 1)));
-    let loose = "cycle time 3/2
+",
+        Some((6, 1)),
+    ),
+    (
+        LOOSE,
+        "cycle time 3/2
 place own critical
 place there slack 2
 place back slack 2
 place out no circuit
-";
-    assert!(rt; paced(rt.alloc(), LOOSE, loose) == Some((3, 2)));
-    let less = "cycle time 3/2
+",
+        Some((3, 2)),
+    ),
+    // a slack less, one more, and another pace
+    (
+        LOOSE,
+        "cycle time 3/2
 place own critical
 place there slack 1
 place back slack 2
 place out no circuit
-";
-    assert!(rt; paced(rt.alloc(), LOOSE, less).is_none());
-    let more = "cycle time 3/2
+",
+        None,
+    ),
+    (
+        LOOSE,
+        "cycle time 3/2
 place own critical
 place there slack 3
 place back slack 2
 place out no circuit
-";
-    assert!(rt; paced(rt.alloc(), LOOSE, more).is_none());
-    let pace = "cycle time 2/1
+",
+        None,
+    ),
+    (
+        LOOSE,
+        "cycle time 2/1
 place own critical
 place there slack 4
 place back slack 4
 place out no circuit
-";
-    assert!(rt; paced(rt.alloc(), LOOSE, pace).is_none());
+",
+        None,
+    ),
+];
+
+#[test]
+fn nets_without_a_circuit_and_slacks_are_shown(rt: HostRuntime) {
+    for (net, text, is_right) in &NO_CIRCUITS {
+        assert!(rt;
+            has_none(rt.alloc(), net, text) == Some(*is_right),
+            "{text}"
+        );
+    }
+    for (net, text, ratio) in &SLACKS {
+        assert!(rt; paced(rt.alloc(), net, text) == *ratio, "{text}");
+    }
 }

@@ -3,7 +3,7 @@ use delay_check::shown_kept;
 use delay_laws::{Delay, Timetable};
 use std::alloc::{AllocError, Global};
 use std::test::Fail;
-use teg_net::TransitionId;
+use teg_net::{Net, OutOfMemory, TransitionId};
 use teg_reader::read_net;
 
 const RAILWAY: &str =
@@ -40,24 +40,49 @@ fn table(alloc: Global, by: u64) -> Result<Timetable, AllocError> {
     })
 }
 
-// How many places the circuit has that the text shows of the railway with this period and delay.
-fn shown(alloc: Global, period: u64, by: u64, text: &str) -> Result<Option<usize>, Fail> {
-    let net = read_net(alloc, RAILWAY.as_bytes())?;
-    let circuit = shown_kept(alloc, &net, period, &table(alloc, by)?, text)?;
-    Ok(circuit.map(|circuit| circuit.places.len()))
+// How many places the circuit has that the text shows of the railway with this period and
+// timetable.
+fn shown_of(
+    alloc: Global,
+    railway: &Net,
+    period: u64,
+    table: &Timetable,
+    text: &str,
+) -> Result<Option<usize>, OutOfMemory> {
+    Ok(match shown_kept(alloc, railway, period, table, text)? {
+        Some(circuit) => Some(circuit.places.len()),
+        None => None,
+    })
 }
+
+// The same with this period and delay.
+fn shown(alloc: Global, period: u64, by: u64, text: &str) -> Result<Option<usize>, Fail> {
+    let table = table(alloc, by)?;
+    let railway = read_net(alloc, RAILWAY.as_bytes())?;
+    let told = shown_of(alloc, &railway, period, &table, text);
+    Ok(told?)
+}
+
+const RECOVERED: &str =
+    "settled after 2 period 1\nrecovered after 2\ncircuit south_down south_up\n";
+
+// Periods, delays, texts, and how many places has the circuit that these show.
+const TEXTS: [(u64, u64, &str, Option<usize>); 6] = [
+    (30, 10, KEPT, Some(2)),
+    // The plan leaves 5 of them to spare on the way to Centre>South.
+    (30, 5, KEPT, None),
+    (30, 0, KEPT, None),
+    // No train has the time that it takes, or each has time to spare.
+    (24, 10, KEPT, None),
+    (31, 10, KEPT, None),
+    (30, 10, RECOVERED, None),
+];
 
 #[test]
 fn kept_delays_are_shown(rt: HostRuntime) -> Result<(), Fail> {
-    let alloc = rt.alloc();
-    assert!(rt; shown(alloc, 30, 10, KEPT)? == Some(2));
-    // The plan leaves 5 of them to spare on the way to Centre>South.
-    assert!(rt; shown(alloc, 30, 5, KEPT)?.is_none());
-    assert!(rt; shown(alloc, 30, 0, KEPT)?.is_none());
-    // No train has the time that it takes, or each has time to spare.
-    assert!(rt; shown(alloc, 24, 10, KEPT)?.is_none());
-    assert!(rt; shown(alloc, 31, 10, KEPT)?.is_none());
-    let recovered = "settled after 2 period 1\nrecovered after 2\ncircuit south_down south_up\n";
-    assert!(rt; shown(alloc, 30, 10, recovered)?.is_none());
+    for (period, by, text, places) in &TEXTS {
+        let told = shown(rt.alloc(), *period, *by, text)?;
+        assert!(rt; told == *places, "{period} {by} {text}");
+    }
     Ok(())
 }

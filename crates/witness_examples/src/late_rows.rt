@@ -1,8 +1,8 @@
 //! The first row that comes late.
 use dating_check::shown_first_late;
 use std::alloc::Global;
-use std::test::Fail;
 use teg_due::read_due;
+use teg_net::Net;
 use teg_reader::read_net;
 
 const SHOP: &str =
@@ -26,23 +26,36 @@ path drill 1 by drill_free drill 2 by to_ship ship 2
 ";
 
 // The least date that the text shows of the shop with these due dates.
-fn shown(alloc: Global, due: &str, text: &str) -> Result<Option<u128>, Fail> {
-    let net = read_net(alloc, SHOP.as_bytes())?;
+fn shown_of(alloc: Global, shop: &Net, due: &str, text: &str) -> Option<u128> {
     let bytes = due.as_bytes();
     if bytes.len() > 100 {
-        return Ok(None);
+        return None;
     }
-    let due = read_due(alloc, &net, bytes)?;
-    Ok(shown_first_late(alloc, &net, &due, text)?.map(|late| late.least))
+    let due = read_due(alloc, shop, bytes).ok()?;
+    match shown_first_late(alloc, shop, &due, text) {
+        Ok(Some(late)) => Some(late.least),
+        _ => None,
+    }
 }
 
-#[test]
-fn late_rows_are_shown(rt: HostRuntime) -> Result<(), Fail> {
-    let alloc = rt.alloc();
-    assert!(rt; shown(alloc, "ship,1,15\nship,2,20\n", LATE)? == Some(22));
+// The same of the shop as its file has it.
+fn shown(alloc: Global, due: &str, text: &str) -> Option<u128> {
+    let shop = read_net(alloc, SHOP.as_bytes()).ok()?;
+    shown_of(alloc, &shop, due, text)
+}
+
+// Due dates, texts, and the least date that these show.
+const TEXTS: [(&str, &str, Option<u128>); 4] = [
+    ("ship,1,15\nship,2,20\n", LATE, Some(22)),
     // An earlier row comes late too, or the row is not due then.
-    assert!(rt; shown(alloc, "ship,1,3\nship,2,20\n", LATE)?.is_none());
-    assert!(rt; shown(alloc, "ship,2,21\n", LATE)?.is_none());
-    assert!(rt; shown(alloc, "ship,2,10\n", SOONER)?.is_none());
-    Ok(())
+    ("ship,1,3\nship,2,20\n", LATE, None),
+    ("ship,2,21\n", LATE, None),
+    ("ship,2,10\n", SOONER, None),
+];
+
+#[test]
+fn late_rows_are_shown(rt: HostRuntime) {
+    for (due, text, least) in &TEXTS {
+        assert!(rt; shown(rt.alloc(), due, text) == *least, "{due}");
+    }
 }

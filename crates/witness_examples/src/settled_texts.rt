@@ -34,98 +34,129 @@ place = [{ name = \"to_saw\", from = \"feed\", to = \"saw\", hold = 2 }]
 
 // The number and the period that the text shows of this net.
 fn shown(alloc: Global, net: &str, text: &str) -> Option<(u64, u64)> {
-    let Ok(net) = read_net(alloc, net.as_bytes()) else {
-        return None;
-    };
-    let Ok(Some(shown)) = shown_settled(alloc, &net, text) else {
-        return None;
-    };
-    Some((shown.after, shown.period))
+    let net = read_net(alloc, net.as_bytes()).ok()?;
+    match shown_settled(alloc, &net, text) {
+        Ok(Some(shown)) => Some((shown.after, shown.period)),
+        _ => None,
+    }
 }
 
-#[test]
-fn dates_are_shown(rt: HostRuntime) {
-    let told = "settled after 4 period 1
+// Nets, texts, and the number and the period that these show.
+const TEXTS: [(&str, &str, Option<(u64, u64)>); 12] = [
+    (
+        KANBAN,
+        "settled after 4 period 1
 transition m1 0 4 8 12 16 step 6
 transition m2 4 10 16 22 28 step 6
 transition m3 10 16 22 28 34 step 6
-";
-    assert!(rt; shown(rt.alloc(), KANBAN, told) == Some((4, 1)));
-    let date = "settled after 4 period 1
+",
+        Some((4, 1)),
+    ),
+    // a date, a step and a number changed, a line less, and another name
+    (
+        KANBAN,
+        "settled after 4 period 1
 transition m1 0 4 8 12 16 step 6
 transition m2 4 10 17 22 28 step 6
 transition m3 10 16 22 28 34 step 6
-";
-    assert!(rt; shown(rt.alloc(), KANBAN, date).is_none());
-    let step = "settled after 4 period 1
+",
+        None,
+    ),
+    (
+        KANBAN,
+        "settled after 4 period 1
 transition m1 0 4 8 12 16 step 6
 transition m2 4 10 16 22 28 step 6
 transition m3 10 16 22 28 34 step 7
-";
-    assert!(rt; shown(rt.alloc(), KANBAN, step).is_none());
-    let early = "settled after 3 period 1
+",
+        None,
+    ),
+    (
+        KANBAN,
+        "settled after 3 period 1
 transition m1 0 4 8 12 step 6
 transition m2 4 10 16 22 step 6
 transition m3 10 16 22 28 step 6
-";
-    assert!(rt; shown(rt.alloc(), KANBAN, early).is_none());
-    let line_less = "settled after 4 period 1
+",
+        None,
+    ),
+    (
+        KANBAN,
+        "settled after 4 period 1
 transition m1 0 4 8 12 16 step 6
 transition m2 4 10 16 22 28 step 6
-";
-    assert!(rt; shown(rt.alloc(), KANBAN, line_less).is_none());
-    let named = "settled after 4 period 1
+",
+        None,
+    ),
+    (
+        KANBAN,
+        "settled after 4 period 1
 transition m1 0 4 8 12 16 step 6
 transition m3 4 10 16 22 28 step 6
 transition m3 10 16 22 28 34 step 6
-";
-    assert!(rt; shown(rt.alloc(), KANBAN, named).is_none());
-}
-
-#[test]
-fn longer_periods_are_shown(rt: HostRuntime) {
-    let told = "settled after 0 period 3
+",
+        None,
+    ),
+    (
+        TRAINS,
+        "settled after 0 period 3
 transition North 0 24 55 step 80
 transition Centre>North 0 31 56 step 80
 transition Centre>South 0 25 49 step 80
 transition South 15 40 64 step 80
-";
-    assert!(rt; shown(rt.alloc(), TRAINS, told) == Some((0, 3)));
-    let other = "settled after 0 period 3
+",
+        Some((0, 3)),
+    ),
+    (
+        TRAINS,
+        "settled after 0 period 3
 transition North 0 24 55 step 80
 transition Centre>North 0 31 56 step 80
 transition Centre>South 0 25 49 step 80
 transition South 15 40 65 step 80
-";
-    assert!(rt; shown(rt.alloc(), TRAINS, other).is_none());
-}
-
-#[test]
-fn only_the_least_are_shown(rt: HostRuntime) {
-    let later = "settled after 5 period 1
+",
+        None,
+    ),
+    // numbers or periods that are not the least
+    (
+        KANBAN,
+        "settled after 5 period 1
 transition m1 0 4 8 12 16 22 step 6
 transition m2 4 10 16 22 28 34 step 6
 transition m3 10 16 22 28 34 40 step 6
-";
-    assert!(rt; shown(rt.alloc(), KANBAN, later).is_none());
-    let longer = "settled after 4 period 2
+",
+        None,
+    ),
+    (
+        KANBAN,
+        "settled after 4 period 2
 transition m1 0 4 8 12 16 22 step 12
 transition m2 4 10 16 22 28 34 step 12
 transition m3 10 16 22 28 34 40 step 12
-";
-    assert!(rt; shown(rt.alloc(), KANBAN, longer).is_none());
-}
-
-#[test]
-fn dates_that_are_never_are_shown(rt: HostRuntime) {
-    let told = "settled after 2 period 1
+",
+        None,
+    ),
+    (
+        ENDS,
+        "settled after 2 period 1
 transition feed 0 3 never step 0
 transition saw 2 5 never step 0
-";
-    assert!(rt; shown(rt.alloc(), ENDS, told) == Some((2, 1)));
-    let other = "settled after 2 period 1
+",
+        Some((2, 1)),
+    ),
+    (
+        ENDS,
+        "settled after 2 period 1
 transition feed 0 3 never step 0
 transition saw 2 5 8 step 0
-";
-    assert!(rt; shown(rt.alloc(), ENDS, other).is_none());
+",
+        None,
+    ),
+];
+
+#[test]
+fn dates_are_shown(rt: HostRuntime) {
+    for (net, text, numbers) in &TEXTS {
+        assert!(rt; shown(rt.alloc(), net, text) == *numbers, "{text}");
+    }
 }

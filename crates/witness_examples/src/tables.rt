@@ -2,6 +2,7 @@
 use dating_check::shown_table;
 use std::alloc::Global;
 use teg_due::read_due;
+use teg_net::Net;
 use teg_reader::read_net;
 
 const SHOP: &str =
@@ -31,89 +32,92 @@ latest ship 3 free
 ";
 
 // The number that the text shows of the shop with these due dates.
-fn shown(alloc: Global, due: &str, text: &str) -> Option<u32> {
-    let Ok(net) = read_net(alloc, SHOP.as_bytes()) else {
-        return None;
-    };
+fn shown_of(alloc: Global, shop: &Net, due: &str, text: &str) -> Option<u32> {
     let bytes = due.as_bytes();
     if bytes.len() > 100 {
         return None;
     }
-    let Ok(due) = read_due(alloc, &net, bytes) else {
-        return None;
-    };
-    match shown_table(alloc, &net, &due, text) {
-        Ok(numbers) => numbers,
-        Err(_) => None,
-    }
+    let due = read_due(alloc, shop, bytes).ok()?;
+    shown_table(alloc, shop, &due, text).ok().flatten()
 }
 
-#[test]
-fn tables_are_shown(rt: HostRuntime) {
-    let due = "ship,2,40\ndrill,3,36\n";
-    assert!(rt; shown(rt.alloc(), due, PLAN) == Some(3));
-    let later = "ship,2,40\ndrill,3,37\n";
-    assert!(rt; shown(rt.alloc(), later, PLAN).is_none());
-    let more = "ship,2,40\ndrill,3,36\nship,4,90\n";
-    assert!(rt; shown(rt.alloc(), more, PLAN).is_none());
+// The same of the shop as its file has it.
+fn shown(alloc: Global, due: &str, text: &str) -> Option<u32> {
+    let shop = read_net(alloc, SHOP.as_bytes()).ok()?;
+    shown_of(alloc, &shop, due, text)
 }
 
-#[test]
-fn tables_that_no_inputs_keep_are_not(rt: HostRuntime) {
-    let due = "ship,1,15\n";
-    let from_zero = "latest inputs for 1 firings
+// Due dates, texts, and the number that these show.
+const TABLES: [(&str, &str, Option<u32>); 9] = [
+    ("ship,2,40\ndrill,3,36\n", PLAN, Some(3)),
+    ("ship,2,40\ndrill,3,37\n", PLAN, None),
+    ("ship,2,40\ndrill,3,36\nship,4,90\n", PLAN, None),
+    // what no inputs keep shows nothing, and no table with another step, date or role
+    (
+        "ship,1,15\n",
+        "latest inputs for 1 firings
 input material 1 0 by feed
 latest saw 1 2 by to_drill
 latest drill 1 7 by to_ship
 latest ship 1 15 due
-";
-    assert!(rt; shown(rt.alloc(), due, from_zero) == Some(1));
-    let sooner = "ship,1,14\n";
-    let below_zero = "latest inputs for 1 firings
+",
+        Some(1),
+    ),
+    (
+        "ship,1,14\n",
+        "latest inputs for 1 firings
 input material 1 -1 by feed
 latest saw 1 1 by to_drill
 latest drill 1 6 by to_ship
 latest ship 1 14 due
-";
-    assert!(rt; shown(rt.alloc(), sooner, below_zero).is_none());
-}
-
-#[test]
-fn other_tables_are_not(rt: HostRuntime) {
-    let due = "ship,1,15\n";
-    let told = "latest inputs for 1 firings
-input material 1 0 by feed
-latest saw 1 2 by to_drill
-latest drill 1 7 by to_ship
-latest ship 1 15 due
-";
-    assert!(rt; shown(rt.alloc(), due, told) == Some(1));
-    let sooner = "latest inputs for 1 firings
+",
+        None,
+    ),
+    (
+        "ship,1,15\n",
+        "latest inputs for 1 firings
 input material 1 0 by feed
 latest saw 1 1 by to_drill
 latest drill 1 7 by to_ship
 latest ship 1 15 due
-";
-    assert!(rt; shown(rt.alloc(), due, sooner).is_none());
-    let free = "latest inputs for 1 firings
+",
+        None,
+    ),
+    (
+        "ship,1,15\n",
+        "latest inputs for 1 firings
 input material 1 free
 latest saw 1 2 by to_drill
 latest drill 1 7 by to_ship
 latest ship 1 15 due
-";
-    assert!(rt; shown(rt.alloc(), due, free).is_none());
-    let step = "latest inputs for 1 firings
+",
+        None,
+    ),
+    (
+        "ship,1,15\n",
+        "latest inputs for 1 firings
 input material 1 0 by feed
 latest saw 1 2 by to_drill
 latest drill 1 7 next
 latest ship 1 15 due
-";
-    assert!(rt; shown(rt.alloc(), due, step).is_none());
-    let role = "latest inputs for 1 firings
+",
+        None,
+    ),
+    (
+        "ship,1,15\n",
+        "latest inputs for 1 firings
 latest material 1 0 by feed
 latest saw 1 2 by to_drill
 latest drill 1 7 by to_ship
 latest ship 1 15 due
-";
-    assert!(rt; shown(rt.alloc(), due, role).is_none());
+",
+        None,
+    ),
+];
+
+#[test]
+fn tables_are_shown(rt: HostRuntime) {
+    for (due, text, number) in &TABLES {
+        assert!(rt; shown(rt.alloc(), due, text) == *number, "{due}");
+    }
 }
