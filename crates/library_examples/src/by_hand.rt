@@ -12,20 +12,43 @@ fn keeps_misfits() -> bool {
     is_told && left.earlier(right) == right && right.less(right) == Ok(Date::At(0))
 }
 
+// The row of two entries.
+fn row_of(alloc: Global, entries: &[Date; 2]) -> Result<Matrix<Date>, Fail> {
+    Ok(Matrix::new(1, 2, Vec::from_slice(alloc, entries)?)?)
+}
+
+// Why the row is not multiplied with the other.
+fn why_no_product(
+    alloc: Global,
+    row: &Matrix<Date>,
+    other: &Matrix<Date>,
+) -> Option<MatrixRefused> {
+    row.times(alloc, other).err()
+}
+
+// Whether these are the entries of the sum of two matrices of one shape.
+fn has_sum(alloc: Global, row: &Matrix<Date>, other: &Matrix<Date>, sum: &[Date]) -> bool {
+    if row.rows() != other.rows() {
+        return false;
+    }
+    if row.columns() != other.columns() {
+        return false;
+    }
+    is(row.plus(alloc, other), sum)
+}
+
 // Whether a row is not multiplied with a row, and its sum with another is the later of each.
 fn is_a_row(alloc: Global) -> Result<bool, Fail> {
-    let row = Matrix::new(1, 2, Vec::from_slice(alloc, &[Date::At(1), Date::Early])?)?;
-    let other = Matrix::new(1, 2, Vec::from_slice(alloc, &[Date::At(2), Date::Never])?)?;
+    let row = row_of(alloc, &[Date::At(1), Date::Early])?;
+    let other = row_of(alloc, &[Date::At(2), Date::Never])?;
     let refused = MatrixRefused::Shape {
         left_columns: 2,
         right_rows: 1,
     };
-    let product = match row.times(alloc, &other) {
-        Ok(_) => None,
-        Err(why) => Some(why),
-    };
-    let is_sum = is(row.plus(alloc, &other), &[Date::At(2), Date::Never]);
-    Ok(product == Some(refused) && is_sum)
+    Ok(
+        why_no_product(alloc, &row, &other) == Some(refused)
+            && has_sum(alloc, &row, &other, &[Date::At(2), Date::Never]),
+    )
 }
 
 // Whether three entries are too few for two rows and columns.

@@ -1,5 +1,7 @@
 //! Chapters of the page on the library: a net that is read, checked, asked for its pace, changed
 //! and asked again, and an answer that is checked.
+use example_nets::held;
+use std::alloc::Global;
 use std::test::Fail;
 use teg_certificates::check_cycle;
 use teg_check::LiveNet;
@@ -41,15 +43,19 @@ fn a_net_has_a_pace_and_a_bottleneck(rt: HostRuntime) -> Result<(), Fail> {
     Ok(())
 }
 
-#[test]
-fn a_net_is_changed_and_asked_again(rt: HostRuntime) -> Result<(), Fail> {
-    let alloc = rt.alloc();
-    let mut held = LiveNet::new(alloc, read_net(alloc, NET)?)?;
+// The pace of the net where the machine takes 5 units for a part.
+fn pace_when_slower(alloc: Global, held: &mut LiveNet) -> Result<Option<Ratio>, Fail> {
     let busy = held.net().find_place("busy").ok_or("no such place")?;
     held.set_hold(busy, 5);
     let parts = split(alloc, held.net())?;
     let answer = cycle(alloc, held.net(), held.live(), &parts)?;
-    assert!(rt; best_ratio(&answer) == Some(Ratio::of(5, 1)));
+    Ok(best_ratio(&answer))
+}
+
+#[test]
+fn a_net_is_changed_and_asked_again(rt: HostRuntime) -> Result<(), Fail> {
+    let pace = pace_when_slower(rt.alloc(), &mut held(rt.alloc(), NET)?);
+    assert!(rt; pace? == Some(Ratio::of(5, 1)));
     Ok(())
 }
 

@@ -105,10 +105,10 @@ fn missed_at_8(alloc: Global, shop: &Dispatcher, due: &Due) -> Result<usize, Fai
 }
 
 // The shop before anything happened in it.
-fn open(alloc: Global, net: Net) -> Result<Dispatcher, Fail>
-    ensures { IfOk result (λ shop. shop.net ≡ net) }
+fn open(alloc: Global, net: &Net) -> Result<Dispatcher, Fail>
+    ensures { IfOk result (λ shop. shop.net ≡ net.now) }
 {
-    Ok(Dispatcher::new(alloc, LiveNet::new(alloc, net)?)?)
+    Ok(Dispatcher::new(alloc, LiveNet::new(alloc, net.copy(alloc)?)?)?)
 }
 
 // The dates of work and how many due dates are missed, as they are told at 8.
@@ -128,17 +128,18 @@ fn told_at_8(
 }
 
 // The same of the shop that this net is.
-fn seen_at_8(alloc: Global, net: Net) -> Result<([Date; 4], usize), Fail> {
-    let entry = transition_named(&net, "in")?;
-    let work = transition_named(&net, "work")?;
-    let due = due_rows(alloc, &net, b"work,1,2\nwork,2,9\nwork,3,11\nwork,4,14\n")?;
+fn seen_at_8(alloc: Global, net: &Net) -> Result<([Date; 4], usize), Fail> {
+    let entry = transition_named(net, "in")?;
+    let work = transition_named(net, "work")?;
+    let due = due_rows(alloc, net, b"work,1,2\nwork,2,9\nwork,3,11\nwork,4,14\n")?;
     let mut shop = open(alloc, net)?;
     told_at_8(alloc, &mut shop, &due, entry, work)
 }
 
 #[test]
 fn a_late_part_is_seen(rt: HostRuntime) -> Result<(), Fail> {
-    let (dates, missed) = seen_at_8(rt.alloc(), read(rt.alloc(), NET)?)?;
+    let seen = seen_at_8(rt.alloc(), &read(rt.alloc(), NET)?);
+    let (dates, missed) = seen?;
     assert!(rt; dates == [Date::At(2), Date::At(9), Date::At(12), Date::At(15)]);
     assert!(rt; missed == 2);
     Ok(())
@@ -184,10 +185,10 @@ fn pace_with_card(alloc: Global, held: &LiveNet) -> Result<Option<Ratio>, Fail> 
 // Lays a further card between b and c in a copy, and tells how many there are then.
 fn with_card(alloc: Global, held: &LiveNet) -> Result<u32, Fail> {
     let cards = place_named(held.net(), "cb")?;
-    let mut trial = held.copy(alloc)?;
-    if !may_add_tokens(&trial, cards, 1) {
+    if !may_add_tokens(held, cards, 1) {
         return Err(Fail::new("no card may be laid"));
     }
+    let mut trial = held.copy(alloc)?;
     trial.add_tokens(cards, 1);
     Ok(trial.net().place(cards).tokens)
 }

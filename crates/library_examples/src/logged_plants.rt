@@ -1,11 +1,9 @@
 //! The log of a machine, asked in the middle of its work.
 use dioid::Date;
 use dispatcher::{Outlook, Plant};
+use example_nets::{due_rows, held, place_named, transition_named};
 use std::alloc::Global;
 use std::test::Fail;
-use teg_check::LiveNet;
-use teg_due::read_due;
-use teg_reader::read_net;
 
 const NET: &[u8] = b"transition = [{name = 'in', role = 'input'}, {name = 'work'}]
 place = [
@@ -17,14 +15,17 @@ input = [{transition = 'in', dates = [0], every = 1, gap = 4}]
 
 // Two parts came in, the second late, and the first was worked at sooner than the belt allows.
 fn plant(alloc: Global) -> Result<Plant, Fail> {
-    let held = LiveNet::new(alloc, read_net(alloc, NET)?)?;
-    Ok(Plant::of_log(alloc, held, b"transition,date\nin,0\nwork,1\nin,7\n")?)
+    Ok(Plant::of_log(
+        alloc,
+        held(alloc, NET)?,
+        b"transition,date\nin,0\nwork,1\nin,7\n",
+    )?)
 }
 
 // How often the machine fired and when first, and how many parts are on the belt.
 fn told(plant: &Plant) -> Result<(u64, Option<u64>, u64), Fail> {
-    let work = plant.net().find("work").ok_or("no such transition")?;
-    let belt = plant.net().find_place("belt").ok_or("no such place")?;
+    let work = transition_named(plant.net(), "work")?;
+    let belt = place_named(plant.net(), "belt")?;
     Ok((plant.fired(work), plant.date(work, 1), plant.tokens(belt)))
 }
 
@@ -43,25 +44,29 @@ fn outlook(alloc: Global) -> Result<Outlook, Fail> {
 
 // When the machine next works.
 fn next_date(alloc: Global, outlook: &Outlook) -> Result<Date, Fail> {
-    let work = outlook.net().find("work").ok_or("no such transition")?;
+    let work = transition_named(outlook.net(), "work")?;
     Ok(outlook.first_dates(alloc, 2)?.date(work, 1))
 }
 
 // How many firings from now on are planned where its second one is due at 20.
 fn planned(alloc: Global, outlook: &Outlook) -> Result<u32, Fail> {
-    let due = read_due(alloc, outlook.net(), b"work,2,20\n")?;
+    let due = due_rows(alloc, outlook.net(), b"work,2,20\n")?;
     let plan = outlook.latest_inputs(alloc, &due);
     Ok(plan?.numbers())
 }
 
+// Whether it next works at 9, two firings are planned, and all goes on in a period of 1.
+fn goes_on(alloc: Global, outlook: &Outlook) -> Result<bool, Fail> {
+    Ok(
+        next_date(alloc, outlook)? == Date::At(9)
+            && planned(alloc, outlook)? == 2
+            && outlook.settle(alloc)?.period() == 1,
+    )
+}
+
 #[test]
 fn a_log_is_asked_from_now_on(rt: HostRuntime) -> Result<(), Fail> {
-    let alloc = rt.alloc();
-    let date = next_date(alloc, &outlook(alloc)?);
-    assert!(rt; date? == Date::At(9));
-    let numbers = planned(alloc, &outlook(alloc)?);
-    assert!(rt; numbers? == 2);
-    let form = outlook(alloc)?.settle(alloc);
-    assert!(rt; form?.period() == 1);
+    let goes_on = goes_on(rt.alloc(), &outlook(rt.alloc())?);
+    assert!(rt; goes_on?);
     Ok(())
 }

@@ -55,29 +55,50 @@ fn column<D: Dioid + Copy>(alloc: Global, entries: &[D; 2]) -> Result<Matrix<D>,
     Ok(Matrix::new(2, 1, Vec::from_slice(alloc, entries)?)?)
 }
 
-// The date at this time.
-fn at(time: i64) -> Date {
-    Date::At(time as i128)
+// Whether each operation on this square and this column has these entries: each sum with itself, the
+// product and the residual of both, the star of the square, and the least solution.
+fn are_worked_out<D: Kleene + Residuated + Copy>(
+    alloc: Global,
+    of_square: &[D; 4],
+    of_column: &[D; 2],
+    product: &[D; 2],
+    residual: &[D; 2],
+    star: &[D; 4],
+    least: &[D; 2],
+) -> Result<bool, Fail> {
+    let a = square(alloc, of_square)?;
+    let b = column(alloc, of_column)?;
+    Ok(
+        is(a.plus(alloc, &a), of_square)
+            && is(b.plus(alloc, &b), of_column)
+            && multiplies(alloc, &a, &b, product, residual)
+            && solves(alloc, &a, &b, star, least),
+    )
 }
 
 #[test]
 fn flags_and_dates_through_the_bounds(rt: HostRuntime) -> Result<(), Fail> {
-    let alloc = rt.alloc();
     let (no, yes) = (Flag::No, Flag::Yes);
-    let (a, b) = (
-        square(alloc, &[no, yes, no, no])?,
-        column(alloc, &[no, yes])?,
+    let are_flags = are_worked_out(
+        rt.alloc(),
+        &[no, yes, no, no],
+        &[no, yes],
+        &[yes, no],
+        &[yes, no],
+        &[yes, yes, no, yes],
+        &[yes, yes],
     );
-    assert!(rt; is(a.plus(alloc, &a), &[no, yes, no, no]));
-    assert!(rt; multiplies(alloc, &a, &b, &[yes, no], &[yes, no]));
-    assert!(rt; solves(alloc, &a, &b, &[yes, yes, no, yes], &[yes, yes]));
-    let early = Date::Early;
-    let a = square(alloc, &[early, at(2), at(-3), early])?;
-    let b = column(alloc, &[at(0), at(10)])?;
-    assert!(rt; is(b.plus(alloc, &b), &[at(0), at(10)]));
-    assert!(rt; multiplies(alloc, &a, &b, &[at(12), at(-3)], &[at(13), at(-2)]));
-    let star = [at(0), at(2), at(-3), at(0)];
-    assert!(rt; solves(alloc, &a, &b, &star, &[at(12), at(10)]));
+    assert!(rt; are_flags?);
+    let are_dates = are_worked_out(
+        rt.alloc(),
+        &[Date::Early, Date::At(2), Date::At(-3), Date::Early],
+        &[Date::At(0), Date::At(10)],
+        &[Date::At(12), Date::At(-3)],
+        &[Date::At(13), Date::At(-2)],
+        &[Date::At(0), Date::At(2), Date::At(-3), Date::At(0)],
+        &[Date::At(12), Date::At(10)],
+    );
+    assert!(rt; are_dates?);
     Ok(())
 }
 
@@ -101,24 +122,31 @@ fn is_full(answer: Result<Matrix<Flag>, MatrixRefused>, rows: usize) -> bool {
     matrix.rows() == rows
 }
 
+// Whether the sum, the products and the residual of a column and a row of 4,096 are full.
+fn are_full(alloc: Global, column: &Matrix<Flag>, row: &Matrix<Flag>) -> bool {
+    is_full(column.plus(alloc, column), 4096)
+        && is_full(row.times(alloc, column), 1)
+        && is_full(column.times(alloc, row), 4096)
+        && is_full(column.left_residual(alloc, column), 1)
+}
+
+// Whether the star of a square of 100 and its least solution for a column are full.
+fn are_solved(alloc: Global, square: &Matrix<Flag>, right: &Matrix<Flag>) -> bool {
+    is_full(square.star(alloc), 100) && is_full(square.solve_least(alloc, right), 100)
+}
+
 #[test]
 fn matrices_of_the_greatest_sizes(rt: HostRuntime) -> Result<(), Fail> {
-    let alloc = rt.alloc();
-    let column = Matrix::new(4096, 1, many(alloc, 4096)?)?;
-    let row = Matrix::new(1, 4096, many(alloc, 4096)?)?;
-    assert!(rt; is_full(column.plus(alloc, &column), 4096));
-    assert!(rt; is_full(row.times(alloc, &column), 1));
-    assert!(rt; is_full(column.times(alloc, &row), 4096));
-    assert!(rt; is_full(column.left_residual(alloc, &column), 1));
+    let column = Matrix::new(4096, 1, many(rt.alloc(), 4096)?)?;
+    let row = Matrix::new(1, 4096, many(rt.alloc(), 4096)?)?;
+    assert!(rt; are_full(rt.alloc(), &column, &row));
     Ok(())
 }
 
 #[test]
 fn stars_of_long_rows(rt: HostRuntime) -> Result<(), Fail> {
-    let alloc = rt.alloc();
-    let square = Matrix::new(100, 100, many(alloc, 10_000)?)?;
-    let right = Matrix::new(100, 1, many(alloc, 100)?)?;
-    assert!(rt; is_full(square.star(alloc), 100));
-    assert!(rt; is_full(square.solve_least(alloc, &right), 100));
+    let square = Matrix::new(100, 100, many(rt.alloc(), 10_000)?)?;
+    let right = Matrix::new(100, 1, many(rt.alloc(), 100)?)?;
+    assert!(rt; are_solved(rt.alloc(), &square, &right));
     Ok(())
 }
