@@ -1,0 +1,2 @@
+pub mod NetEntries
+pub mod TransferStars
