@@ -74,6 +74,67 @@ potential drill 1
 potential paint 8
 ";
 
+// The same with a potential that no place exceeds, and that is not the earliest.
+const LATER: &str = "cycle time 8/1
+circuit to_paint paint_room
+part 1 ratio 8/1
+circuit to_paint paint_room
+potential cut -14
+potential drill 0
+potential paint 8
+";
+
+// The same with all potentials later by one.
+const MOVED: &str = "cycle time 8/1
+circuit to_paint paint_room
+part 1 ratio 8/1
+circuit to_paint paint_room
+potential cut -15
+potential drill 1
+potential paint 9
+";
+
+// The same from the other place of the circuit on.
+const TURNED: &str = "cycle time 8/1
+circuit paint_room to_paint
+part 1 ratio 8/1
+circuit paint_room to_paint
+potential cut -16
+potential drill 0
+potential paint 8
+";
+
+// Two machines that do not wait for each other, and what is told of them.
+const APART: &[u8] = b"transition = [{ name = \"a\" }, { name = \"b\" }, { name = \"c\" }]
+place = [
+ { name = \"own_a\", from = \"a\", to = \"a\", hold = 3, tokens = 1 },
+ { name = \"own_b\", from = \"b\", to = \"b\", hold = 5, tokens = 1 },
+ { name = \"bc\", from = \"b\", to = \"c\", hold = 1 },
+]
+";
+
+const PARTS: &str = "cycle time 5/1
+circuit own_b
+part 1 ratio 3/1
+circuit own_a
+potential a 0
+part 2 ratio 5/1
+circuit own_b
+potential b 0
+part 3 no circuit
+member c
+";
+
+// Texts of parts in another order, of one that is no part, and of parts that are taken as one.
+const OTHER_PARTS: [&str; 3] = [
+    "cycle time 5/1\ncircuit own_b\npart 1 ratio 5/1\ncircuit own_b\npotential b 0
+part 2 ratio 3/1\ncircuit own_a\npotential a 0\npart 3 no circuit\nmember c\n",
+    "cycle time 5/1\ncircuit own_b\npart 1 ratio 3/1\ncircuit own_a\npotential a 0
+part 2 ratio 5/1\ncircuit own_b\npotential b 0\npart 3 no circuit\nmember c\npart 4 no circuit\n",
+    "cycle time 5/1\ncircuit own_b\npart 1 ratio 5/1\ncircuit own_b\npotential a 0
+potential b 0\npart 2 no circuit\nmember c\n",
+];
+
 // The cycle time that the text shows of the line.
 fn pace_shown(alloc: Global, text: &str) -> Result<Option<Ratio>, Fail> {
     let shown = shown_pace(alloc, &read(alloc, LINE)?, text);
@@ -85,6 +146,19 @@ fn a_pace_is_shown(rt: HostRuntime) -> Result<(), Fail> {
     assert!(rt; pace_shown(rt.alloc(), PACE)? == Some(Ratio::of(8, 1)));
     assert!(rt; pace_shown(rt.alloc(), SLOWER)?.is_none());
     assert!(rt; pace_shown(rt.alloc(), LIFTED)?.is_none());
+    assert!(rt; pace_shown(rt.alloc(), LATER)?.is_none());
+    assert!(rt; pace_shown(rt.alloc(), MOVED)?.is_none());
+    assert!(rt; pace_shown(rt.alloc(), TURNED)?.is_none());
+    Ok(())
+}
+
+#[test]
+fn parts_are_shown_in_order(rt: HostRuntime) -> Result<(), Fail> {
+    let net = read(rt.alloc(), APART)?;
+    assert!(rt; shown_pace(rt.alloc(), &net, PARTS)? == Some(Ratio::of(5, 1)));
+    for other in &OTHER_PARTS {
+        assert!(rt; shown_pace(rt.alloc(), &net, other)?.is_none());
+    }
     Ok(())
 }
 

@@ -1,2 +1,4 @@
 mod Bounding
+mod Lowest
+mod PathSums
 mod Paces

@@ -1,5 +1,6 @@
 pub mod Witnesses
 pub mod Liveness
+pub mod PathSums
 pub mod ShownCycles
 pub mod ShownSizes
 pub mod ShownWalks

@@ -17,17 +17,19 @@
 //! ever, all latest dates, or delays that stay, are those of `dating_check` and `delay_check`.
 //!
 //! The crate stands on `teg_net` for nets and walks, on `teg_text` and `teg_lines` for texts, on `teg_due` for rows
-//! that are due, on `teg_certificates` for checkers, and on `latest_laws` for what walks show; no
-//! crate of the program's search is below it. Its examples stand in `library_examples`.
+//! that are due, on `teg_certificates` for checkers, on `teg_parts` for strong parts, and on
+//! `latest_laws` for what walks show; no crate that finds paces, plans or dates is below it. Its examples stand in `library_examples`.
 #![tactic(auto)]
 
 mod beginnings;
+mod circuits;
 mod deadlock;
 mod late;
 mod latest;
 mod live;
 mod names;
 mod pace;
+mod path_sums;
 mod potentials;
 mod reading;
 mod size_reading;

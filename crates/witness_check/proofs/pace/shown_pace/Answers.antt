@@ -1,4 +1,4 @@
-use Rattle.std.proofs.Common.{rules, IsTrue}
+use Rattle.std.proofs.Common.{rules}
 use Rattle.teg_net.specs.Certificates.{IsCertificate}
 use Rattle.witness_check.proofs.Paces.{best_is_greatest}
 use Rattle.witness_check.proofs.pace.shown_pace.Goals as goal
@@ -12,5 +12,5 @@ returns c =
     record {
       live = c.in_ok-is_seen_live.ensures (search rules);
       greatest = best_is_greatest net answer.parts.items answer.best ratio (c.certificates_tell.ensures.nets net answer c.rules.ensures sure) (search rules);
-      times = (answer, search rules, record { certificate = sure; parts = c.certificates_tell.ensures.parts net answer sure; told = search rules });
+      times = (answer, search rules, record { certificate = sure; strong = search rules; parts = search rules; told = search rules });
     }

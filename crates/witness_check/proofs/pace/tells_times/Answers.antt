@@ -1,7 +1,3 @@
-use Rattle.std.proofs.Common.{rules, append-nil, ap, ◌∙◌, ◌≡◌}
-use Rattle.teg_text.specs.Lines.{written}
-use Rattle.teg_lines.specs.CycleLines.{cycle_lines}
-use Rattle.teg_lines.specs.CycleMeanings.{cycle_lists}
 use Rattle.witness_check.proofs.Paces.{part_is_named}
 use Rattle.witness_check.proofs.pace.tells_times.Goals as goal
 
