@@ -3,17 +3,22 @@
 
     tools/forged_answers.py [--teg PATH] [--runner PATH]
 
-PATH is the built program, or that of the checker; where none is named it is the one that `rt ci` leaves. Fifteen nets, those of
-examples/ and drawn ones, are asked some hundred questions of the commands that the checker reads. Of each answer a number,
-a name, a word or a line is changed, left out, doubled or moved, one at a time, and each text is handed to the checker. A
-text that it shows has to be, in what it shows, the answer of `teg` itself: the line that is shown stands in the answer, or,
-of a size, is the first one of the answer to what it asks.
+PATH is the built program, or that of the checker; where none is named it is the one that `rt ci` leaves. Sixteen nets, those of
+examples/, drawn ones and one without a circuit, are asked some hundred and fifty questions of the commands that the checker
+reads. Of each answer a number, a name, a word or a line is changed, left out, doubled or moved, one at a time, and each text is
+handed to the checker.
 
-For each command it tells how many texts were tried and how many were shown, and each false one. The last line is
-'N passed, M failed', where a text fails that is shown and false, or an answer of `teg` that is not shown. The exit status is
-0 where none failed.
+A text that it shows has to be true by `teg` itself: it is what the program prints for what the text itself asks (so many firings
+of a list, a place and a target of a size), or differs from that in a witness alone (a circuit, the path of a late firing, the
+step of a latest date), of which several are right and which the checker looks at. Any other is false, and told with its first
+line that the program does not print.
+
+For each command it tells how many texts were tried, how many were shown, and how many of these are what the program prints,
+have another witness, and are false. The last line is 'N passed, M failed', where a text fails that is shown and false, or an
+answer of `teg` that is not shown. The exit status is 0 where none failed.
 """
 import argparse
+import itertools
 import os
 import re
 import sys
@@ -23,13 +28,36 @@ from built_program import BUILT, TOP, WITNESS, is_there, run, summed_up
 
 EXAMPLES = ("job_shop", "kanban", "loop", "no_cards", "production_line", "railway", "single_track", "workshop")
 DRAWN = [(4, 7, 1), (4, 9, 2), (5, 9, 3), (6, 12, 4), (6, 14, 5), (7, 12, 6), (8, 20, 7)]
-SHOWN = "shown "
+LOOSE = """[[transition]]
+name = "a"
+[[transition]]
+name = "b"
+[[transition]]
+name = "c"
+[[place]]
+name = "ab"
+from = "a"
+to = "b"
+hold = 3
+[[place]]
+name = "bc"
+from = "b"
+to = "c"
+hold = 2
+tokens = 1
+"""
+# How lines begin that name a witness, and how the lines end that name a step.
+WITNESSES = ("circuit ", "path ")
+STEP = re.compile(r" (by \S+|next|due)$")
+# What is counted of each command.
+TRIED, SHOWN, SAID, OTHER, FALSE = range(5)
 
 
 def nets(folder):
-    """The nets, by the paths of their files: those of examples/, and drawn ones that are written there."""
+    """The nets, by the paths of their files: those of examples/, one without a circuit and drawn ones that are written there."""
     for name in EXAMPLES:
         yield f"{TOP}/examples/{name}.toml"
+    yield written(f"{folder}/loose.toml", LOOSE.splitlines())
     for transitions, places, seed in DRAWN:
         path = f"{folder}/net{seed}.toml"
         text = run([sys.executable, f"{TOP}/tools/random_net.py", str(transitions), str(places), str(seed)], folder)[1]
@@ -63,6 +91,8 @@ def questions(net, folder):
     yield ["check", net], []
     yield ["cycle", net], []
     yield ["dates", net], []
+    yield ["list", net, "3"], []
+    yield ["slack", net], []
     if places:
         yield ["size", net, places[-1], "5/1"], []
     if asked:
@@ -106,41 +136,62 @@ def forged(text, names):
     yield text.replace("\n", "\r\n")
 
 
-def told(runner, net, beside, text, folder):
-    """The status of the checker for a text, and the lines that it shows."""
+def status_of(runner, net, beside, text, folder):
+    """The status of the checker for a text."""
     path = f"{folder}/answer.txt"
     with open(path, "w", encoding="utf-8", newline="") as file:
         file.write(text)
-    status, lines = run([runner, net, path, *beside], folder)
-    return status, [line[len(SHOWN) :] for line in lines.splitlines() if line.startswith(SHOWN)]
+    return run([runner, net, path, *beside], folder)[0]
 
 
-def is_said(teg, words, own, line):
-    """Whether the program says the line: of these words, or of a size for what the line itself asks."""
-    if line in own or words[0] != "size":
-        return line in own
-    return run([teg, "size", words[1], *line.split()[1:3]], ".")[1].splitlines()[:1] == [line]
+def asked_by(words, text):
+    """The words of the question that the text answers: of a list its number, of a size its place and its target, else these."""
+    first = text.split("\n", 1)[0].split()
+    if words[0] == "list" and len(first) == 4:
+        return ["list", words[1], first[2]]
+    if words[0] == "size" and len(first) > 2:
+        return ["size", words[1], *first[1:3]]
+    return words
+
+
+def without_witness(line):
+    """A line without the witness that it names."""
+    for first in WITNESSES:
+        if line.startswith(first):
+            return first
+    return STEP.sub("", line)
+
+
+def truth_of(teg, words, text, folder):
+    """Whether the text is what the program prints, has another witness, or is false, with its first line that is not printed."""
+    own = run([teg, *asked_by(words, text)], folder)[1]
+    if own == text:
+        return SAID, None
+    if [without_witness(line) for line in own.split("\n")] == [without_witness(line) for line in text.split("\n")]:
+        return OTHER, None
+    pairs = itertools.zip_longest(own.split("\n"), text.split("\n"))
+    return FALSE, next(line for other, line in pairs if other != line)
 
 
 def tried(teg, runner, words, beside, names, folder):
-    """How many texts were tried of the answer to these words, how many were shown, and the faults."""
+    """What was counted of the answer to these words, and the faults."""
     text = run([teg, *words], folder)[1]
-    own = text.splitlines()
-    status, shown = told(runner, words[1], beside, text, folder)
+    counts = [0] * 5
+    status = status_of(runner, words[1], beside, text, folder)
     if status == 4:
-        return 0, 0, []
-    faults = [] if status == 0 and shown else [f"{' '.join(words)}: its answer is not shown ({status})"]
-    count = yes = 0
+        return counts, []
+    faults = [] if status == 0 else [f"{' '.join(words)}: its answer is not shown ({status})"]
     for other in dict.fromkeys(forged(text, names)):
         if other == text:
             continue
-        count += 1
-        status, shown = told(runner, words[1], beside, other, folder)
-        yes += status == 0
-        for line in shown:
-            if not is_said(teg, words, own, line):
+        counts[TRIED] += 1
+        if status_of(runner, words[1], beside, other, folder) == 0:
+            truth, line = truth_of(teg, words, other, folder)
+            counts[SHOWN] += 1
+            counts[truth] += 1
+            if truth == FALSE:
                 faults.append(f"{' '.join(words)}: shown and false: {line}")
-    return count, yes, faults
+    return counts, faults
 
 
 def main():
@@ -156,17 +207,20 @@ def main():
         for net in nets(folder):
             _, places, transitions = names_of(net)
             for question, beside in questions(net, folder):
-                count, yes, faults = tried(teg, runner, question, beside, places + transitions, folder)
-                answers += count > 0
-                tries, all_yes = counts.get(question[0], (0, 0))
-                counts[question[0]] = tries + count, all_yes + yes
+                told, faults = tried(teg, runner, question, beside, places + transitions, folder)
+                answers += told[TRIED] > 0
+                before = counts.get(question[0], [0] * 5)
+                counts[question[0]] = [own + more for own, more in zip(before, told)]
                 failed += len(faults)
                 for fault in faults:
                     print(fault)
-    for command, (tries, yes) in counts.items():
-        print(f"{command}: {tries} forged texts, {yes} shown")
+    for command, told in counts.items():
+        print(
+            f"{command}: {told[TRIED]} forged texts, {told[SHOWN]} shown:"
+            f" {told[SAID]} as the program prints, {told[OTHER]} with another witness, {told[FALSE]} false"
+        )
     print(f"{answers} answers")
-    return summed_up(sum(tries for tries, _ in counts.values()), failed)
+    return summed_up(sum(told[TRIED] for told in counts.values()), failed)
 
 
 if __name__ == "__main__":
