@@ -11,6 +11,7 @@ use Rattle.teg_net.specs.Parts.{to_of}
 use Rattle.timetable_calls.specs.Departures.{IsMoved, IsFirstReady, AreStarts, IsRoundUpTo, AreRounded}
 use Rattle.timetable_calls.specs.LeastFirsts.{LeastFirstsExist, LeastFirstsAreOne}
 use Rattle.timetable_calls.proofs.Moving.{ready_more, starts_more, round_more}
+use Rattle.timetable_calls.proofs.Units.{by_units, in_units}
 use Rattle.timetable_calls.proofs.Rounding.{rounded_first, rounded_more, earliest}
 
 -- a list in which one date is moved
@@ -25,23 +26,23 @@ moved before at date l =
       },
     )
 
-ready_first : (period : ℕ) (ready : List ℕ) (k : ℕ) → k ≤ length ready → (first : ℕ) × IsFirstReady period ready k first
-ready_first period ready zero l = (0, record { late = λ j m. absurd (omega arith); least = λ d h. omega arith })
-ready_first period ready (suc k) l =
-    let w = ready_first period ready k (omega arith) in
-    let own : ℕ = slice_index ready k - period * k in
+ready_first : (scale period : ℕ) (ready : List ℕ) (k : ℕ) → k ≤ length ready → (first : ℕ) × IsFirstReady scale period ready k first
+ready_first scale period ready zero l = (0, record { late = λ j m. absurd (omega arith); least = λ d h. omega arith })
+ready_first scale period ready (suc k) l =
+    let w = ready_first scale period ready k (omega arith) in
+    let own : ℕ = scale * slice_index ready k - period * k in
     let e : k + 1 ≡ suc k = omega arith in
     ⊎_elim
     (λ (m : w.0 < own).
-    let next : (first : ℕ) × IsFirstReady period ready (k + 1) first = (own, ready_more period ready k w.0 own own w.1 (omega arith) refl (omega arith) (omega arith) (inr refl)) in
+    let next : (first : ℕ) × IsFirstReady scale period ready (k + 1) first = (own, ready_more scale period ready k w.0 own own w.1 (omega arith) refl (omega arith) (omega arith) (inr refl)) in
     rw e at next)
     (λ (m : own ≤ w.0).
-    let next : (first : ℕ) × IsFirstReady period ready (k + 1) first = (w.0, ready_more period ready k w.0 own w.0 w.1 (omega arith) refl (omega arith) m (inl refl)) in
+    let next : (first : ℕ) × IsFirstReady scale period ready (k + 1) first = (w.0, ready_more scale period ready k w.0 own w.0 w.1 (omega arith) refl (omega arith) m (inl refl)) in
     rw e at next)
     (cases_lt w.0 own)
 
-module _ (net : NetLists) (period : ℕ) (ok : IsNet net) where
-  none_yet : AreStarts net period 0 (replicate (length net.transitions) 0)
+module _ (net : NetLists) (scale period : ℕ) (ok : IsNet net) where
+  none_yet : AreStarts net scale period 0 (replicate (length net.transitions) 0)
   none_yet =
       let long : length (replicate {A = ℕ} (length net.transitions) 0) ≡ length net.transitions = length-replicate (length net.transitions) 0 in
       record {
@@ -53,46 +54,46 @@ module _ (net : NetLists) (period : ℕ) (ok : IsNet net) where
         at_zero : (t : ℕ) → t < length net.transitions → slice_index (replicate {A = ℕ} (length net.transitions) 0) t ≡ 0
         at_zero t l = get_or-replicate (length net.transitions) t 0 0 l
 
-  starts_up_to : (k : ℕ) → k ≤ length net.places → (firsts : List ℕ) × AreStarts net period k firsts
+  starts_up_to : (k : ℕ) → k ≤ length net.places → (firsts : List ℕ) × AreStarts net scale period k firsts
   starts_up_to zero l = (replicate (length net.transitions) 0, none_yet)
   starts_up_to (suc k) l =
       let old = starts_up_to k (omega arith) in
       let id : PlaceId = record { index = k } in
       let ready : List ℕ = (place_at net id).ready in
-      let w = ready_first period ready (length ready) (omega arith) in
+      let w = ready_first scale period ready (length ready) (omega arith) in
       let count = old.1.count in
       let low = (ok.each_place k no_place (omega arith)).to_in in
       let new = moved old.0 (to_of net id) w.0 (omega arith) in
       let e : k + 1 ≡ suc k = omega arith in
-      let next : (firsts : List ℕ) × AreStarts net period (k + 1) firsts = (new.0, starts_more net period k w.0 old.0 new.0 ok old.1 (omega arith) new.1 w.1.late w.1.least) in
+      let next : (firsts : List ℕ) × AreStarts net scale period (k + 1) firsts = (new.0, starts_more net scale period k w.0 old.0 new.0 ok old.1 (omega arith) new.1 w.1.late w.1.least) in
       rw e at next
 
-  round_up_to : (before : List ℕ) → length before ≡ length net.transitions → (k : ℕ) → k ≤ length net.places → (after : List ℕ) × IsRoundUpTo net period before k after
+  round_up_to : (before : List ℕ) → length before ≡ length net.transitions → (k : ℕ) → k ≤ length net.places → (after : List ℕ) × IsRoundUpTo net scale period before k after
   round_up_to before long zero l = (before, record { count = refl; kept = λ t. omega arith; late = λ p m. absurd (omega arith); by = λ t. inl refl })
   round_up_to before long (suc k) l =
       let old = round_up_to before long k (omega arith) in
       let id : PlaceId = record { index = k } in
       let count = old.1.count in
       let low = (ok.each_place k no_place (omega arith)).to_in in
-      let date : ℕ = (slice_index before (from_of net id) + (place_at net id).hold) - period * (place_at net id).tokens in
+      let date : ℕ = (slice_index before (from_of net id) + scale * (place_at net id).hold) - period * (place_at net id).tokens in
       let new = moved old.0 (to_of net id) date (omega arith) in
       let e : k + 1 ≡ suc k = omega arith in
-      let next : (after : List ℕ) × IsRoundUpTo net period before (k + 1) after = (new.0, round_more net period k date before old.0 new.0 old.1 (omega arith) new.1 refl) in
+      let next : (after : List ℕ) × IsRoundUpTo net scale period before (k + 1) after = (new.0, round_more net scale period k date before old.0 new.0 old.1 (omega arith) new.1 refl) in
       rw e at next
 
-  rounds : (k : ℕ) → (firsts : List ℕ) × AreRounded net period k firsts
-  rounds zero = let w = starts_up_to (length net.places) (omega arith) in (w.0, rounded_first net period ok w.0 w.1)
+  rounds : (k : ℕ) → (firsts : List ℕ) × AreRounded net scale period k firsts
+  rounds zero = let w = starts_up_to (length net.places) (omega arith) in (w.0, rounded_first net scale period ok w.0 w.1)
   rounds (suc k) =
       let old = rounds k in
       let new = round_up_to old.0 old.1.count (length net.places) (omega arith) in
       let e : k + 1 ≡ suc k = omega arith in
-      let next : (firsts : List ℕ) × AreRounded net period (k + 1) firsts = (new.0, rounded_more net period ok k old.0 new.0 old.1 new.1) in
+      let next : (firsts : List ℕ) × AreRounded net scale period (k + 1) firsts = (new.0, rounded_more net scale period ok k old.0 new.0 old.1 new.1) in
       rw e at next
 
 pub firsts_exist : LeastFirstsExist
 firsts_exist net period ok time =
-    let w = rounds net period ok (length net.transitions) in
-    (slice_index w.0, (earliest net period ok time w.0 w.1).least)
+    let w = rounds net 1 period ok (length net.transitions) in
+    (slice_index w.0, (by_units net period w.0 (earliest net 1 period ok (in_units net period time) w.0 w.1)).least)
 
 pub firsts_one : LeastFirstsAreOne
 firsts_one net period f g a b t l = let up = a.least g b.workable t l in let down = b.least f a.workable t l in omega arith

@@ -2,13 +2,14 @@
 use Rattle.std.proofs.Common.{ℕ, ◌+◌, ◌-◌, ◌*◌, ◌<◌, ◌≤◌, ◌≡◌, ◌≢◌, ◌⊎◌, inl, inr, List, length, sym, ap, subst, ◌∙◌, arith, ⊎_elim}
 use Rattle.std.specs.Prelude.{slice_index}
 use Rattle.std.proofs.lemmas.Bool.{cases_lt, cases_eq}
+use Rattle.std.proofs.Math.Nat.{mul-le-mul_left}
 use Rattle.teg_net.specs.declared.entries.PlaceId.{PlaceId}
 use Rattle.teg_net.specs.Limits.{greatest_input_date}
 use Rattle.teg_net.specs.Nets.{NetLists, IsNet}
 use Rattle.teg_net.specs.ReadyDates.{ready_date}
 use Rattle.teg_net.specs.Circuits.{no_place, place_at, from_of}
 use Rattle.teg_net.specs.Parts.{to_of}
-use Rattle.workable_laws.specs.WorkablePeriods.{AreWorkableFirsts}
+use Rattle.timetable_calls.specs.FractionPeriods.{AreFirstsAt}
 use Rattle.timetable_calls.specs.Departures.{IsMoved, IsFirstReady, AreStarts, IsBy, IsRoundUpTo}
 
 -- no departure is moved back
@@ -37,24 +38,24 @@ few_ready net ok p l =
     ⊎_elim (λ (z : length (place_at net p).ready ≡ 0). omega arith) (λ (s : length (place_at net p).ready ≡ (place_at net p).tokens). omega arith) own.ready_all
 
 -- workable dates wait for the ready dates of each place
-pub waits : (net : NetLists) (period : ℕ) (g : ℕ → ℕ) → IsNet net → AreWorkableFirsts net period g → (p : PlaceId) → p.index < length net.places → (k : ℕ) → k < length (place_at net p).ready
-    → slice_index (place_at net p).ready k ≤ g (to_of net p) + period * k
-waits net period g ok w p l k below =
+pub waits : (net : NetLists) (scale period : ℕ) (g : ℕ → ℕ) → IsNet net → AreFirstsAt net scale period g → (p : PlaceId) → p.index < length net.places → (k : ℕ) → k < length (place_at net p).ready
+    → scale * slice_index (place_at net p).ready k ≤ g (to_of net p) + period * k
+waits net scale period g ok w p l k below =
     let few = few_ready net ok p l in
     let own = (w p.index no_place l).ready (k + 1) (omega arith) (omega arith) in
     let same : (k + 1) - 1 ≡ k = omega arith in
-    let read : ready_date (place_at net p) (k + 1) ≤ g (to_of net p) + period * ((k + 1) - 1) = own in
+    let read : scale * ready_date (place_at net p) (k + 1) ≤ g (to_of net p) + period * ((k + 1) - 1) = own in
     rw same at read
 
 -- past a ready date for which the departures are moved, if they are too early
-pub ready_more : (period : ℕ) (ready : List ℕ) (k first own new : ℕ) → IsFirstReady period ready k first → k < length ready → own ≡ slice_index ready k - period * k
-    → first ≤ new → own ≤ new → (new ≡ first) ⊎ (new ≡ own) → IsFirstReady period ready (k + 1) new
-ready_more period ready k first own new h l is up over one = record {
+pub ready_more : (scale period : ℕ) (ready : List ℕ) (k first own new : ℕ) → IsFirstReady scale period ready k first → k < length ready → own ≡ scale * slice_index ready k - period * k
+    → first ≤ new → own ≤ new → (new ≡ first) ⊎ (new ≡ own) → IsFirstReady scale period ready (k + 1) new
+ready_more scale period ready k first own new h l is up over one = record {
   late = λ j m. ⊎_elim
       (λ (q : j < k). let low = h.late j q in omega arith)
       (λ (q : k ≤ j).
       let e : j ≡ k = omega arith in
-      let same : slice_index ready j ≡ slice_index ready k = ap (slice_index ready) e in
+      let same : scale * slice_index ready j ≡ scale * slice_index ready k = ap (λ (z : ℕ). scale * slice_index ready z) e in
       let paid : period * j ≡ period * k = ap (λ (z : ℕ). period * z) e in
       omega arith)
       (cases_lt j k);
@@ -62,12 +63,12 @@ ready_more period ready k first own new h l is up over one = record {
 }
 
 -- past a place whose end is moved to wait for its ready dates
-pub starts_more : (net : NetLists) (period k first : ℕ) (before after : List ℕ) → IsNet net → AreStarts net period k before → k < length net.places
+pub starts_more : (net : NetLists) (scale period k first : ℕ) (before after : List ℕ) → IsNet net → AreStarts net scale period k before → k < length net.places
     → IsMoved before (to_of net (record { index = k })) first after
-    → ((j : ℕ) → j < length (place_at net (record { index = k })).ready → slice_index (place_at net (record { index = k })).ready j ≤ first + period * j)
-    → ((d : ℕ) → ((j : ℕ) → j < length (place_at net (record { index = k })).ready → slice_index (place_at net (record { index = k })).ready j ≤ d + period * j) → first ≤ d)
-    → AreStarts net period (k + 1) after
-starts_more net period k first before after ok h in' m late least =
+    → ((j : ℕ) → j < length (place_at net (record { index = k })).ready → scale * slice_index (place_at net (record { index = k })).ready j ≤ first + period * j)
+    → ((d : ℕ) → ((j : ℕ) → j < length (place_at net (record { index = k })).ready → scale * slice_index (place_at net (record { index = k })).ready j ≤ d + period * j) → first ≤ d)
+    → AreStarts net scale period (k + 1) after
+starts_more net scale period k first before after ok h in' m late least =
     let id : PlaceId = record { index = k } in
     let at : ℕ = to_of net id in
     let long = m.count in
@@ -78,12 +79,12 @@ starts_more net period k first before after ok h in' m late least =
           (λ (q : p.index < k). let old = h.ready p q p_in j below in let up = no_earlier before after at first m (to_of net p) in omega arith)
           (λ (q : k ≤ p.index).
           let e : p ≡ id = same_number p k (omega arith) in
-          subst (λ (z : PlaceId). j < length (place_at net z).ready → slice_index (place_at net z).ready j ≤ slice_index after (to_of net z) + period * j) (sym e)
+          subst (λ (z : PlaceId). j < length (place_at net z).ready → scale * slice_index (place_at net z).ready j ≤ slice_index after (to_of net z) + period * j) (sym e)
           (λ low. let own = late j low in let up = late_enough before after at first m in omega arith) below)
           (cases_lt p.index k);
       least = λ g w t l. moved (g t) t (h.least g w t l) (λ e.
-          least (g t) (λ j low. subst (λ (z : ℕ). slice_index (place_at net id).ready j ≤ g z + period * j) (sym e) (waits net period g ok w id in' j low)));
-      small = λ t l. moved greatest_input_date t (h.small t (omega arith)) (λ e. least greatest_input_date (λ j low. let own = dated j low in omega arith));
+          least (g t) (λ j low. subst (λ (z : ℕ). scale * slice_index (place_at net id).ready j ≤ g z + period * j) (sym e) (waits net scale period g ok w id in' j low)));
+      small = λ t l. moved (scale * greatest_input_date) t (h.small t (omega arith)) (λ e. least (scale * greatest_input_date) (λ j low. let own = dated j low in omega arith));
     } where
       moved : (most t : ℕ) → slice_index before t ≤ most → (t ≡ to_of net (record { index = k }) → first ≤ most) → slice_index after t ≤ most
       moved most t old new = ⊎_elim
@@ -96,15 +97,15 @@ starts_more net period k first before after ok h in' m late least =
           (λ (n : t ≢ to_of net (record { index = k })). let same = m.others t n in omega arith)
           (cases_eq t (to_of net (record { index = k })))
 
-      dated : (j : ℕ) → j < length (place_at net (record { index = k })).ready → slice_index (place_at net (record { index = k })).ready j ≤ greatest_input_date
-      dated j low = (ok.each_place k no_place in').ready_in j 0 low
+      dated : (j : ℕ) → j < length (place_at net (record { index = k })).ready → scale * slice_index (place_at net (record { index = k })).ready j ≤ scale * greatest_input_date
+      dated j low = mul-le-mul_left scale ((ok.each_place k no_place in').ready_in j 0 low)
 
 -- past a place that has moved its end
-pub round_more : (net : NetLists) (period k date : ℕ) (before old after : List ℕ) → IsRoundUpTo net period before k old → k < length net.places
+pub round_more : (net : NetLists) (scale period k date : ℕ) (before old after : List ℕ) → IsRoundUpTo net scale period before k old → k < length net.places
     → IsMoved old (to_of net (record { index = k })) date after
-    → date ≡ (slice_index before (from_of net (record { index = k })) + (place_at net (record { index = k })).hold) - period * (place_at net (record { index = k })).tokens
-    → IsRoundUpTo net period before (k + 1) after
-round_more net period k date before old after h in' m is =
+    → date ≡ (slice_index before (from_of net (record { index = k })) + scale * (place_at net (record { index = k })).hold) - period * (place_at net (record { index = k })).tokens
+    → IsRoundUpTo net scale period before (k + 1) after
+round_more net scale period k date before old after h in' m is =
     let id : PlaceId = record { index = k } in
     let at : ℕ = to_of net id in
     let long = m.count in
@@ -116,8 +117,8 @@ round_more net period k date before old after h in' m is =
           (λ (q : p.index < k). let own = h.late p q p_in in let up = no_earlier old after at date m (to_of net p) in omega arith)
           (λ (q : k ≤ p.index).
           let e : p ≡ id = same_number p k (omega arith) in
-          subst (λ (z : PlaceId). slice_index before (from_of net z) + (place_at net z).hold ≤ slice_index after (to_of net z) + period * (place_at net z).tokens) (sym e)
-          (let up = late_enough old after at date m in by_numbers (slice_index before (from_of net id) + (place_at net id).hold) (period * (place_at net id).tokens) date (slice_index after at) is up))
+          subst (λ (z : PlaceId). slice_index before (from_of net z) + scale * (place_at net z).hold ≤ slice_index after (to_of net z) + period * (place_at net z).tokens) (sym e)
+          (let up = late_enough old after at date m in by_numbers (slice_index before (from_of net id) + scale * (place_at net id).hold) (period * (place_at net id).tokens) date (slice_index after at) is up))
           (cases_lt p.index k);
       by = λ t. ⊎_elim
           (λ (e : t ≡ at).
@@ -131,7 +132,7 @@ round_more net period k date before old after h in' m is =
                 let one : slice_index old t ≡ slice_index old at = ap (slice_index old) e in
                 let two : slice_index after t ≡ slice_index after at = ap (slice_index after) e in
                 let three : slice_index after t ≡ date = omega arith in
-                moved_by (slice_index before (from_of net id) + (place_at net id).hold) (period * (place_at net id).tokens) date (slice_index after t) (slice_index old t) is three more);
+                moved_by (slice_index before (from_of net id) + scale * (place_at net id).hold) (period * (place_at net id).tokens) date (slice_index after t) (slice_index old t) is three more);
           }))
           (λ (less : date ≤ slice_index old t).
           let here = m.here in
@@ -148,8 +149,8 @@ round_more net period k date before old after h in' m is =
       moved_by : (sum paid date new was : ℕ) → date ≡ sum - paid → new ≡ date → was < date → new + paid ≤ sum
       moved_by sum paid date new was e f l = omega arith
 
-      same : (t : ℕ) → slice_index after t ≡ slice_index old t → (slice_index after t ≡ slice_index before t) ⊎ IsBy net period before t (slice_index after t)
+      same : (t : ℕ) → slice_index after t ≡ slice_index old t → (slice_index after t ≡ slice_index before t) ⊎ IsBy net scale period before t (slice_index after t)
       same t e = ⊎_elim
           (λ (q : slice_index old t ≡ slice_index before t). inl (e ∙ q))
-          (λ (q : IsBy net period before t (slice_index old t)). inr (subst (λ (z : ℕ). IsBy net period before t z) (sym e) q))
+          (λ (q : IsBy net scale period before t (slice_index old t)). inr (subst (λ (z : ℕ). IsBy net scale period before t z) (sym e) q))
           (h.by t)

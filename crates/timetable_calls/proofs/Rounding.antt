@@ -2,6 +2,7 @@
 use Rattle.std.proofs.Common.{ℕ, ◌+◌, ◌-◌, ◌*◌, ◌<◌, ◌≤◌, ◌≡◌, ◌⊎◌, inl, inr, List, [], ◌∷◌, ◌++◌, length, refl, sym, ap, subst, ◌∙◌, arith, ⊎_elim}
 use Rattle.std.specs.Prelude.{slice_index, sum_by}
 use Rattle.std.proofs.lemmas.Bool.{cases_lt}
+use Rattle.std.proofs.Math.Nat.{mul-le-mul_left}
 use Rattle.std.proofs.lemmas.List.{get_or_default, get_or_past, length-append}
 use Rattle.std.proofs.lemmas.List.Sums.{sum_by-cons, sum_by-append}
 use Rattle.teg_net.specs.declared.entries.PlaceId.{PlaceId}
@@ -14,10 +15,19 @@ use Rattle.teg_net.proofs.PathLaws.{IsPathBetween-append, IsPathBetween-split}
 use Rattle.teg_loops.specs.Loops.{EndsBelow}
 use Rattle.teg_loops.proofs.Splitting.{shorten}
 use Rattle.teg_loops.proofs.Straight.{straight_short}
-use Rattle.workable_laws.specs.WorkablePeriods.{LeavesCircuitsTime, LeavesPlaceTime}
-use Rattle.workable_laws.proofs.Workable.{along}
+use Rattle.timetable_calls.specs.FractionPeriods.{AreEarliestAt, LeavesCircuitsTimeAt, LeavesTimeAt}
+use Rattle.timetable_calls.proofs.Along.{along}
 use Rattle.timetable_calls.specs.Departures.{AreUpTo, AreStarts, IsBy, IsRoundUpTo, IsBacked, AreRounded}
-use Rattle.timetable_calls.specs.Earliest.{AreEarliest}
+
+-- what a path takes, in parts of the unit
+takes_of : (net : NetLists) (scale : ℕ) (ps : List PlaceId) → sum_by (λ p. scale * (place_at net p).hold) ps ≡ scale * time_of net ps
+takes_of net scale [] = omega arith
+takes_of net scale (p ∷ ps) =
+    let one = sum_by-cons (λ q. scale * (place_at net q).hold) p ps in
+    let two = sum_by-cons (λ q. (place_at net q).hold) p ps in
+    let rest = takes_of net scale ps in
+    let three : scale * time_of net (p ∷ ps) ≡ scale * (place_at net p).hold + scale * time_of net ps = rw two (grind arith) in
+    omega arith
 
 -- what a path costs at the period
 cost_of : (net : NetLists) (period : ℕ) (ps : List PlaceId) → sum_by (λ p. period * (place_at net p).tokens) ps ≡ period * tokens_of net ps
@@ -30,8 +40,12 @@ cost_of net period (p ∷ ps) =
     omega arith
 
 -- a path with one place more
-time_more : (net : NetLists) (ps : List PlaceId) (p : PlaceId) → time_of net (ps ++ p ∷ []) ≡ time_of net ps + (place_at net p).hold
-time_more net ps p = let one = sum_by-append (λ q. (place_at net q).hold) ps (p ∷ []) in let two = sum_by-cons (λ q. (place_at net q).hold) p [] in omega arith
+time_more : (net : NetLists) (scale : ℕ) (ps : List PlaceId) (p : PlaceId) → scale * time_of net (ps ++ p ∷ []) ≡ scale * time_of net ps + scale * (place_at net p).hold
+time_more net scale ps p =
+    let one = sum_by-append (λ q. (place_at net q).hold) ps (p ∷ []) in
+    let two = sum_by-cons (λ q. (place_at net q).hold) p [] in
+    let three : time_of net (ps ++ p ∷ []) ≡ time_of net ps + (place_at net p).hold = omega arith in
+    rw three (grind arith)
 
 tokens_more : (net : NetLists) (period : ℕ) (ps : List PlaceId) (p : PlaceId) → period * tokens_of net (ps ++ p ∷ []) ≡ period * tokens_of net ps + period * (place_at net p).tokens
 tokens_more net period ps p =
@@ -53,7 +67,7 @@ last_or (p ∷ ps) = inr (⊎_elim
     (λ (h : HasLast ps). record { front = p ∷ h.front; last = h.last; is = ap (λ (z : List PlaceId). p ∷ z) h.is })
     (last_or ps))
 
-module _ (net : NetLists) (period : ℕ) (ok : IsNet net) where
+module _ (net : NetLists) (scale period : ℕ) (ok : IsNet net) where
   abbrev n : ℕ
   n = length net.transitions
 
@@ -67,7 +81,7 @@ module _ (net : NetLists) (period : ℕ) (ok : IsNet net) where
   ends = record { from_in = from_in; to_in = to_in }
 
   -- the first departures are those of no round
-  pub rounded_first : (firsts : List ℕ) → AreStarts net period (length net.places) firsts → AreRounded net period 0 firsts
+  pub rounded_first : (firsts : List ℕ) → AreStarts net scale period (length net.places) firsts → AreRounded net scale period 0 firsts
   rounded_first firsts h = record {
     begun = firsts;
     starts = h;
@@ -76,12 +90,12 @@ module _ (net : NetLists) (period : ℕ) (ok : IsNet net) where
     lower = λ ps s t l path short. at_start ps s t path short;
     backed = λ t l. record { from = t; places = []; path = refl; is = omega arith };
   } where
-    at_start : (ps : List PlaceId) (s t : ℕ) → IsPathBetween net s ps t → length ps ≤ 0 → slice_index firsts s + time_of net ps ≤ slice_index firsts t + period * tokens_of net ps
+    at_start : (ps : List PlaceId) (s t : ℕ) → IsPathBetween net s ps t → length ps ≤ 0 → slice_index firsts s + scale * time_of net ps ≤ slice_index firsts t + period * tokens_of net ps
     at_start [] s t e short = let same : slice_index firsts s ≡ slice_index firsts t = ap (slice_index firsts) e in omega arith
     at_start (p ∷ ps) s t e short = absurd (omega arith)
 
   -- and with a round more
-  pub rounded_more : (k : ℕ) (before after : List ℕ) → AreRounded net period k before → IsRoundUpTo net period before (length net.places) after → AreRounded net period (k + 1) after
+  pub rounded_more : (k : ℕ) (before after : List ℕ) → AreRounded net scale period k before → IsRoundUpTo net scale period before (length net.places) after → AreRounded net scale period (k + 1) after
   rounded_more k before after h r =
       let count = h.count in
       let long = r.count in
@@ -93,19 +107,19 @@ module _ (net : NetLists) (period : ℕ) (ok : IsNet net) where
         lower = λ ps s t l path short. lower ps s t l path short;
         backed = λ t l. backed t l;
       } where
-        up_to : (t : ℕ) → t < length before → slice_index after t ≤ greatest_input_date + (k + 1) * greatest_hold
+        up_to : (t : ℕ) → t < length before → slice_index after t ≤ scale * (greatest_input_date + (k + 1) * greatest_hold)
         up_to t l = ⊎_elim
             (λ (e : slice_index after t ≡ slice_index before t). let old = h.small t l in omega arith)
-            (λ (b : IsBy net period before t (slice_index after t)).
+            (λ (b : IsBy net scale period before t (slice_index after t)).
             let count = h.count in
             let low = from_in b.place b.in_range in
             let old = h.small (from_of net b.place) (omega arith) in
-            let hold = (ok.each_place b.place.index no_place b.in_range).hold_in in
+            let hold : scale * (place_at net b.place).hold ≤ scale * greatest_hold = mul-le-mul_left scale ((ok.each_place b.place.index no_place b.in_range).hold_in) in
             let is = b.is in
             omega arith)
             (r.by t)
 
-        lower : (ps : List PlaceId) (s t : ℕ) → t < n → IsPathBetween net s ps t → length ps ≤ k + 1 → slice_index h.begun s + time_of net ps ≤ slice_index after t + period * tokens_of net ps
+        lower : (ps : List PlaceId) (s t : ℕ) → t < n → IsPathBetween net s ps t → length ps ≤ k + 1 → slice_index h.begun s + scale * time_of net ps ≤ slice_index after t + period * tokens_of net ps
         lower ps s t l path short = ⊎_elim
             (λ (e : ps ≡ []). let none : length ps ≡ 0 = ap (λ (z : List PlaceId). length z) e in let old = h.lower ps s t l path (omega arith) in let up = r.kept t in omega arith)
             (λ (q : HasLast ps).
@@ -119,20 +133,20 @@ module _ (net : NetLists) (period : ℕ) (ok : IsNet net) where
             let old = h.lower q.front s (from_of net p) (from_in p in') first (omega arith) in
             let step = r.late p in' in' in
             let same : slice_index after (to_of net p) ≡ slice_index after t = ap (slice_index after) to in
-            let time : time_of net ps ≡ time_of net (q.front ++ p ∷ []) = ap (time_of net) q.is in
+            let time : scale * time_of net ps ≡ scale * time_of net (q.front ++ p ∷ []) = ap (λ (z : List PlaceId). scale * time_of net z) q.is in
             let tokens : period * tokens_of net ps ≡ period * tokens_of net (q.front ++ p ∷ []) = ap (λ (z : List PlaceId). period * tokens_of net z) q.is in
-            let time_is = time_more net q.front p in
+            let time_is = time_more net scale q.front p in
             let tokens_are = tokens_more net period q.front p in
             omega arith)
             (last_or ps)
 
-        backed : (t : ℕ) → t < n → IsBacked net period h.begun t (slice_index after t)
+        backed : (t : ℕ) → t < n → IsBacked net scale period h.begun t (slice_index after t)
         backed t l = ⊎_elim
-            (λ (e : slice_index after t ≡ slice_index before t). subst (λ (z : ℕ). IsBacked net period h.begun t z) (sym e) (h.backed t l))
-            (λ (b : IsBy net period before t (slice_index after t)).
+            (λ (e : slice_index after t ≡ slice_index before t). subst (λ (z : ℕ). IsBacked net scale period h.begun t z) (sym e) (h.backed t l))
+            (λ (b : IsBy net scale period before t (slice_index after t)).
             let p : PlaceId = b.place in
             let old = h.backed (from_of net p) (from_in p b.in_range) in
-            let time_is = time_more net old.places p in
+            let time_is = time_more net scale old.places p in
             let tokens_are = tokens_more net period old.places p in
             let was = old.is in
             let is = b.is in
@@ -145,36 +159,39 @@ module _ (net : NetLists) (period : ℕ) (ok : IsNet net) where
             (r.by t)
 
   -- no departure is late after a few rounds
-  pub small_enough : (k : ℕ) (firsts : List ℕ) → k ≤ length net.transitions → AreRounded net period k firsts → AreUpTo 1000000000000000 firsts
+  pub small_enough : (k : ℕ) (firsts : List ℕ) → k ≤ length net.transitions → AreRounded net scale period k firsts → AreUpTo (scale * 10000000000000) firsts
   small_enough k firsts few h = λ t l.
       let up = h.small t l in
       let most = ok.few_transitions in
-      omega arith
+      let all : scale * (greatest_input_date + k * greatest_hold) ≤ scale * 10000000000000 = mul-le-mul_left scale (omega (arith, few, most)) in
+      omega (arith, up, all)
 
   -- after as many rounds as there are transitions
-  module _ (time : LeavesCircuitsTime net period) (firsts : List ℕ) (h : AreRounded net period (length net.transitions) firsts) where
-    no_gain : (ps : List PlaceId) → IsCircuit net ps → sum_by (λ p. (place_at net p).hold) ps ≤ sum_by (λ p. period * (place_at net p).tokens) ps
-    no_gain ps c = let up = time ps c in let is = cost_of net period ps in omega arith
+  module _ (time : LeavesCircuitsTimeAt net scale period) (firsts : List ℕ) (h : AreRounded net scale period (length net.transitions) firsts) where
+    no_gain : (ps : List PlaceId) → IsCircuit net ps → sum_by (λ p. scale * (place_at net p).hold) ps ≤ sum_by (λ p. period * (place_at net p).tokens) ps
+    no_gain ps c = let up = time ps c in let is = cost_of net period ps in let own = takes_of net scale ps in omega arith
 
     -- no path asks for more, however long
-    far : (ps : List PlaceId) (s t : ℕ) → t < n → IsPathBetween net s ps t → slice_index h.begun s + time_of net ps ≤ slice_index firsts t + period * tokens_of net ps
+    far : (ps : List PlaceId) (s t : ℕ) → t < n → IsPathBetween net s ps t → slice_index h.begun s + scale * time_of net ps ≤ slice_index firsts t + period * tokens_of net ps
     far ps s t l path =
-        let w = shorten net (λ p. (place_at net p).hold) (λ p. period * (place_at net p).tokens) no_gain ps s t path in
+        let w = shorten net (λ p. scale * (place_at net p).hold) (λ p. period * (place_at net p).tokens) no_gain ps s t path in
         let qs : List PlaceId = w.0 in
         let short = straight_short net n qs s t ends l w.1 in
         let low = h.lower qs s t l w.1.path (omega arith) in
-        let weighs : time_of net ps + sum_by (λ p. period * (place_at net p).tokens) qs ≤ time_of net qs + sum_by (λ p. period * (place_at net p).tokens) ps = w.2 in
+        let weighs : sum_by (λ p. scale * (place_at net p).hold) ps + sum_by (λ p. period * (place_at net p).tokens) qs ≤ sum_by (λ p. scale * (place_at net p).hold) qs + sum_by (λ p. period * (place_at net p).tokens) ps = w.2 in
         let one = cost_of net period ps in
         let two = cost_of net period qs in
-        by_numbers (slice_index h.begun s) (slice_index firsts t) (time_of net ps) (time_of net qs) (period * tokens_of net ps) (period * tokens_of net qs) low (omega arith) where
+        let three = takes_of net scale ps in
+        let four = takes_of net scale qs in
+        by_numbers (slice_index h.begun s) (slice_index firsts t) (scale * time_of net ps) (scale * time_of net qs) (period * tokens_of net ps) (period * tokens_of net qs) low (omega arith) where
           by_numbers : (start end time_p time_q paid_p paid_q : ℕ) → start + time_q ≤ end + paid_q → time_p + paid_q ≤ time_q + paid_p → start + time_p ≤ end + paid_p
           by_numbers start end time_p time_q paid_p paid_q one two = omega arith
 
-    leaves : (p : PlaceId) → p.index < length net.places → LeavesPlaceTime period (slice_index firsts) (place_at net p)
+    leaves : (p : PlaceId) → p.index < length net.places → LeavesTimeAt scale period (slice_index firsts) (place_at net p)
     leaves p in' =
         let b = h.backed (from_of net p) (from_in p in') in
         let low = far (b.places ++ p ∷ []) b.from (to_of net p) (to_in p in') (IsPathBetween-append net b.places (p ∷ []) b.from (from_of net p) (to_of net p) b.path (in', refl, refl)) in
-        let time_is = time_more net b.places p in
+        let time_is = time_more net scale b.places p in
         let tokens_are = tokens_more net period b.places p in
         let is = b.is in
         let begun = far [] (to_of net p) (to_of net p) (to_in p in') refl in
@@ -183,28 +200,26 @@ module _ (net : NetLists) (period : ℕ) (ok : IsNet net) where
           leaves_time = omega arith;
           ready = λ k some few. waited k some in' begun;
         } where
-          waited : (k : ℕ) → 1 ≤ k → (in' : p.index < length net.places) → slice_index h.begun (to_of net p) + time_of net [] ≤ slice_index firsts (to_of net p) + period * tokens_of net []
-              → ready_date (place_at net p) k ≤ slice_index firsts (to_of net p) + period * (k - 1)
+          waited : (k : ℕ) → 1 ≤ k → (in' : p.index < length net.places) → slice_index h.begun (to_of net p) + scale * time_of net [] ≤ slice_index firsts (to_of net p) + period * tokens_of net []
+              → scale * ready_date (place_at net p) k ≤ slice_index firsts (to_of net p) + period * (k - 1)
           waited k some in' begun = ⊎_elim
               (λ (l : k - 1 < length (place_at net p).ready).
               let own = h.starts.ready p in' in' (k - 1) l in
               let none : period * tokens_of net [] ≡ 0 = omega arith in
               omega arith)
-              (λ (g : length (place_at net p).ready ≤ k - 1). let e : ready_date (place_at net p) k ≡ 0 = get_or_past (place_at net p).ready (k - 1) 0 g in omega arith)
+              (λ (g : length (place_at net p).ready ≤ k - 1). let e : scale * ready_date (place_at net p) k ≡ scale * 0 = ap (λ (z : ℕ). scale * z) (get_or_past (place_at net p).ready (k - 1) 0 g) in omega arith)
               (cases_lt (k - 1) (length (place_at net p).ready))
 
-    pub earliest : AreEarliest net period firsts
+    pub earliest : AreEarliestAt net scale period firsts
     earliest = record {
       one_each = h.count;
-      least = record {
-        workable = λ i d l. subst (LeavesPlaceTime period (slice_index firsts)) (get_or_default net.places i no_place d l) (leaves (record { index = i }) l);
-        least = λ g w t l.
-            let b = h.backed t l in
-            let start = h.starts.least g w b.from (begins b.places b.from t l b.path) in
-            let up = along net period g (λ p m. (w p.index no_place m).leaves_time) b.places b.from t b.path in
-            let is = b.is in
-            omega arith;
-      };
+      workable = λ i d l. subst (LeavesTimeAt scale period (slice_index firsts)) (get_or_default net.places i no_place d l) (leaves (record { index = i }) l);
+      least = λ g w t l.
+          let b = h.backed t l in
+          let start = h.starts.least g w b.from (begins b.places b.from t l b.path) in
+          let up = along net scale period g (λ p m. (w p.index no_place m).leaves_time) b.places b.from t b.path in
+          let is = b.is in
+          omega arith;
     } where
       begins : (ps : List PlaceId) (s t : ℕ) → t < n → IsPathBetween net s ps t → s < n
       begins [] s t l e = let same : s ≡ t = e in omega arith

@@ -1,11 +1,11 @@
--- Working definitions of the departures that rounds over the places make later.
+-- Working definitions of the departures that rounds over the places make later: dates in parts of the unit, of which `scale` make one.
 use Rattle.std.specs.Prelude.{ℕ, ◌+◌, ◌*◌, ◌<◌, ◌≤◌, ◌≡◌, ◌≢◌, ◌⊎◌, List, length, slice_index, max}
 use Rattle.teg_net.specs.declared.entries.PlaceId.{PlaceId}
 use Rattle.teg_net.specs.Limits.{greatest_hold, greatest_input_date}
 use Rattle.teg_net.specs.Nets.{NetLists}
 use Rattle.teg_net.specs.Circuits.{place_at, from_of, IsPathBetween, time_of, tokens_of}
 use Rattle.teg_net.specs.Parts.{to_of}
-use Rattle.workable_laws.specs.WorkablePeriods.{AreWorkableFirsts}
+use Rattle.timetable_calls.specs.FractionPeriods.{AreFirstsAt}
 
 -- no date is later than this
 abbrev pub AreUpTo : ℕ → List ℕ → Type 0
@@ -18,49 +18,49 @@ pub record IsMoved (before : List ℕ) (at date : ℕ) (after : List ℕ) : Type
   pub others : (t : ℕ) → t ≢ at → slice_index after t ≡ slice_index before t
 
 -- the least date from which departures, one in each period, wait for the first so many of these ready dates
-pub record IsFirstReady (period : ℕ) (ready : List ℕ) (k first : ℕ) : Type 0 where
-  pub late : (j : ℕ) → j < k → slice_index ready j ≤ first + period * j
-  pub least : (d : ℕ) → ((j : ℕ) → j < length ready → slice_index ready j ≤ d + period * j) → first ≤ d
+pub record IsFirstReady (scale period : ℕ) (ready : List ℕ) (k first : ℕ) : Type 0 where
+  pub late : (j : ℕ) → j < k → scale * slice_index ready j ≤ first + period * j
+  pub least : (d : ℕ) → ((j : ℕ) → j < length ready → scale * slice_index ready j ≤ d + period * j) → first ≤ d
 
 -- the least departures that wait for the ready dates of the first so many places
-pub record AreStarts (net : NetLists) (period places : ℕ) (firsts : List ℕ) : Type 0 where
+pub record AreStarts (net : NetLists) (scale period places : ℕ) (firsts : List ℕ) : Type 0 where
   pub count : length firsts ≡ length net.transitions
   pub ready :
       (p : PlaceId) → p.index < places → p.index < length net.places → (k : ℕ) → k < length (place_at net p).ready
-      → slice_index (place_at net p).ready k ≤ slice_index firsts (to_of net p) + period * k
-  pub least : (g : ℕ → ℕ) → AreWorkableFirsts net period g → (t : ℕ) → t < length net.transitions → slice_index firsts t ≤ g t
-  pub small : AreUpTo greatest_input_date firsts
+      → scale * slice_index (place_at net p).ready k ≤ slice_index firsts (to_of net p) + period * k
+  pub least : (g : ℕ → ℕ) → AreFirstsAt net scale period g → (t : ℕ) → t < length net.transitions → slice_index firsts t ≤ g t
+  pub small : AreUpTo (scale * greatest_input_date) firsts
 
 -- by the departures before, the place makes its end so late
-pub record IsBy (net : NetLists) (period : ℕ) (before : List ℕ) (t date : ℕ) : Type 0 where
+pub record IsBy (net : NetLists) (scale period : ℕ) (before : List ℕ) (t date : ℕ) : Type 0 where
   pub place : PlaceId
   pub in_range : place.index < length net.places
   pub to : to_of net place ≡ t
-  pub is : date + period * (place_at net place).tokens ≤ slice_index before (from_of net place) + (place_at net place).hold
+  pub is : date + period * (place_at net place).tokens ≤ slice_index before (from_of net place) + scale * (place_at net place).hold
 
 -- each departure is as before, or by one of the places, and late enough after the first so many
-pub record IsRoundUpTo (net : NetLists) (period : ℕ) (before : List ℕ) (places : ℕ) (after : List ℕ) : Type 0 where
+pub record IsRoundUpTo (net : NetLists) (scale period : ℕ) (before : List ℕ) (places : ℕ) (after : List ℕ) : Type 0 where
   pub count : length after ≡ length before
   pub kept : (t : ℕ) → slice_index before t ≤ slice_index after t
   pub late :
       (p : PlaceId) → p.index < places → p.index < length net.places
-      → slice_index before (from_of net p) + (place_at net p).hold ≤ slice_index after (to_of net p) + period * (place_at net p).tokens
-  pub by : (t : ℕ) → (slice_index after t ≡ slice_index before t) ⊎ IsBy net period before t (slice_index after t)
+      → slice_index before (from_of net p) + scale * (place_at net p).hold ≤ slice_index after (to_of net p) + period * (place_at net p).tokens
+  pub by : (t : ℕ) → (slice_index after t ≡ slice_index before t) ⊎ IsBy net scale period before t (slice_index after t)
 
 -- the date is that of a path from a first departure, or earlier
-pub record IsBacked (net : NetLists) (period : ℕ) (begun : List ℕ) (t date : ℕ) : Type 0 where
+pub record IsBacked (net : NetLists) (scale period : ℕ) (begun : List ℕ) (t date : ℕ) : Type 0 where
   pub from : ℕ
   pub places : List PlaceId
   pub path : IsPathBetween net from places t
-  pub is : date + period * tokens_of net places ≤ slice_index begun from + time_of net places
+  pub is : date + period * tokens_of net places ≤ slice_index begun from + scale * time_of net places
 
 -- departures after so many rounds: late enough for each path of so many places, and each is that of some path
-pub record AreRounded (net : NetLists) (period rounds : ℕ) (firsts : List ℕ) : Type 0 where
+pub record AreRounded (net : NetLists) (scale period rounds : ℕ) (firsts : List ℕ) : Type 0 where
   pub begun : List ℕ
-  pub starts : AreStarts net period (length net.places) begun
+  pub starts : AreStarts net scale period (length net.places) begun
   pub count : length firsts ≡ length net.transitions
-  pub small : AreUpTo (greatest_input_date + rounds * greatest_hold) firsts
+  pub small : AreUpTo (scale * (greatest_input_date + rounds * greatest_hold)) firsts
   pub lower :
       (ps : List PlaceId) (s t : ℕ) → t < length net.transitions → IsPathBetween net s ps t → length ps ≤ rounds
-      → slice_index begun s + time_of net ps ≤ slice_index firsts t + period * tokens_of net ps
-  pub backed : (t : ℕ) → t < length net.transitions → IsBacked net period begun t (slice_index firsts t)
+      → slice_index begun s + scale * time_of net ps ≤ slice_index firsts t + period * tokens_of net ps
+  pub backed : (t : ℕ) → t < length net.transitions → IsBacked net scale period begun t (slice_index firsts t)

@@ -1,3 +1,4 @@
 pub mod Earliest
+pub mod FractionPeriods
 pub mod Departures
 pub mod LeastFirsts

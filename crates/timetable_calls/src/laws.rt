@@ -1,5 +1,6 @@
-//! The law of earliest timetables: a function that does nothing when it runs, whose contract is the
-//! law.
+//! The laws of earliest timetables: functions that do nothing when they run, whose contracts are the
+//! laws.
+ghost use Rattle.timetable_calls.specs.FractionPeriods.{WholeDatesKeepPlaces, WholeDatesRepeat};
 ghost use Rattle.timetable_calls.specs.LeastFirsts.{LeastFirstsAreOne, LeastFirstsExist};
 
 /// Earliest timetables exist: where a period leaves each circuit of a net its time, there are dates
@@ -11,4 +12,12 @@ ghost use Rattle.timetable_calls.specs.LeastFirsts.{LeastFirstsAreOne, LeastFirs
 pub fn earliest_timetables_exist()
     ensures exist { LeastFirstsExist }
     ensures one { LeastFirstsAreOne }
+{}
+
+/// Whole dates of a timetable whose period is a fraction: rounded down, its dates leave each place
+/// its time and wait for its ready dates, and they repeat, at a period `a / b` each `b` firings, `a`
+/// later (chapters 2 and 3). At 7/2 a machine begins at 0, 3, 7, 10, 14, and so on.
+pub fn whole_dates_keep_places()
+    ensures keep { WholeDatesKeepPlaces }
+    ensures repeat { WholeDatesRepeat }
 {}

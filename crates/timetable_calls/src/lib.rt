@@ -2,9 +2,11 @@
 //!
 //! [`earliest_timetable`] answers the least first departures with which each place has its time,
 //! or a circuit that takes longer than the period gives it, exactly where there are no such
-//! departures. It stands on `teg_cycle` for the circuit of greatest ratio, on `workable_laws` for
-//! what a period leaves a net, on `teg_loops` for paths, on `teg_parts`, on `teg_check` for nets
-//! that are live, and on `teg_net`. No crate of the program stands on it.
+//! departures, and [`earliest_timetable_at`] the same where the period is a fraction, in parts of
+//! the unit, of which [`whole_date`] tells the whole dates. The crate stands on `teg_cycle` for the
+//! circuit of greatest ratio, on `workable_laws` for what a period leaves a net, on `teg_loops` for
+//! paths, on `teg_parts`, on `teg_check` for nets that are live, and on `teg_net`. No crate of the
+//! program stands on it.
 //!
 //! ## How it works
 //!
@@ -21,6 +23,6 @@ mod refusal;
 mod rounds;
 mod starts;
 
-pub use earliest::earliest_timetable;
-pub use laws::earliest_timetables_exist;
+pub use earliest::{earliest_timetable, earliest_timetable_at, whole_date};
+pub use laws::{earliest_timetables_exist, whole_dates_keep_places};
 pub use refusal::PeriodRefused;

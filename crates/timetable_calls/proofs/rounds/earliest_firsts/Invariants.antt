@@ -2,4 +2,4 @@ use Rattle.timetable_calls.specs.Departures.{AreRounded}
 use Rattle.timetable_calls.proofs.rounds.earliest_firsts.Given as goal
 
 abbrev pub invariant-loop-number : goal.invariant-loop-number
-invariant-loop-number l = AreRounded l.net l.period l._number l.firsts.items
+invariant-loop-number l = AreRounded l.net l.scale l.period l._number l.firsts.items

@@ -17,6 +17,6 @@ loop-index-preserved c =
     let old : List ℕ = c.loop-index.after.items in
     let new : List ℕ = c.move_to.new.firsts.items in
     let date : ℕ = c.after_place-date.result in
-    round_more net c.args.period k date c.args.before.now old new c.loop-index.invariant l
+    round_more net c.args.scale c.args.period k date c.args.before.now old new c.loop-index.invariant l
     (subst (λ (z : Place). IsMoved old z.to.index date new) place c.move_to.ensures)
-    (subst (λ (z : Place). date ≡ (get_or c.args.before.now z.from.index 0 + z.hold) - c.args.period * z.tokens) place c.after_place-date.ensures)
+    (subst (λ (z : Place). date ≡ (get_or c.args.before.now z.from.index 0 + c.args.scale * z.hold) - c.args.period * z.tokens) place c.after_place-date.ensures)

@@ -10,6 +10,7 @@ use Rattle.timetable_calls.proofs.starts.starts.Goals as goal
 pub loop-index-preserved : goal.loop-index-preserved
 loop-index-preserved c =
     let net = c.args.net.now in
+    let scale = c.args.scale in
     let period = c.args.period in
     let k = c.loop-index.index in
     let id : PlaceId = record { index = k } in
@@ -18,9 +19,9 @@ loop-index-preserved c =
     let old : List ℕ = c.loop-index.firsts.items in
     let new : List ℕ = c.move_to.new.firsts.items in
     let first : ℕ = c.first_ready-first.result in
-    let late = subst (λ (xs : List ℕ). (j : ℕ) → j < length xs → get_or xs j 0 ≤ first + period * j) c.as_slice.ensures c.first_ready-first.ensures.late in
-    let least = subst (λ (xs : List ℕ). (d : ℕ) → ((j : ℕ) → j < length xs → get_or xs j 0 ≤ d + period * j) → first ≤ d) c.as_slice.ensures c.first_ready-first.ensures.least in
-    starts_more net period k first old new c.places-place-items.ensures.rules c.loop-index.invariant l
+    let late = subst (λ (xs : List ℕ). (j : ℕ) → j < length xs → scale * get_or xs j 0 ≤ first + period * j) c.as_slice.ensures c.first_ready-first.ensures.late in
+    let least = subst (λ (xs : List ℕ). (d : ℕ) → ((j : ℕ) → j < length xs → scale * get_or xs j 0 ≤ d + period * j) → first ≤ d) c.as_slice.ensures c.first_ready-first.ensures.least in
+    starts_more net scale period k first old new c.places-place-items.ensures.rules c.loop-index.invariant l
     (subst (λ (z : Place). IsMoved old z.to.index first new) place c.move_to.ensures)
-    (subst (λ (z : Place). (j : ℕ) → j < length z.ready → get_or z.ready j 0 ≤ first + period * j) place late)
-    (subst (λ (z : Place). (d : ℕ) → ((j : ℕ) → j < length z.ready → get_or z.ready j 0 ≤ d + period * j) → first ≤ d) place least)
+    (subst (λ (z : Place). (j : ℕ) → j < length z.ready → scale * get_or z.ready j 0 ≤ first + period * j) place late)
+    (subst (λ (z : Place). (d : ℕ) → ((j : ℕ) → j < length z.ready → scale * get_or z.ready j 0 ≤ d + period * j) → first ≤ d) place least)
