@@ -1,2 +1,5 @@
 pub mod NetEntries
 pub mod TransferStars
+pub mod PlacesBetween
+pub mod TransferMatrices
+pub mod SettledSeries

@@ -1,0 +1,5 @@
+use Rattle.net_matrices.proofs.SettledRows.{dates_never_fall}
+use Rattle.net_matrices.proofs.settled.series_of_dates.Goals as goal
+
+pub series_of_row-requires-clause-rising : goal.series_of_row-requires-clause-rising
+series_of_row-requires-clause-rising c = dates_never_fall c.args._net.now c.args.form.now c.requires.form
