@@ -31,7 +31,7 @@ pub struct Spot {
 
 /// Why the bytes of a net file give no net. The variants stand in the order in which the reader
 /// looks for them: the first one that is found is the answer.
-#[derive(Debug, Drop)]
+#[derive(Drop)]
 pub enum ReadRefusal {
     /// The bytes are no text, or the grammar of TOML does not read them.
     NotToml,
@@ -103,48 +103,87 @@ pub enum ReadRefusal {
 
 impl fmt::Display for Spot {
     fn fmt<W: fmt::Write>(&self, f: &mut fmt::Formatter<W>) -> fmt::Result {
-        let position = self.position;
-        match self.section {
-            Section::Top => f.write_str("top"),
-            Section::Transition => write!(f, "transition {position}"),
-            Section::Place => write!(f, "place {position}"),
-            Section::Input => write!(f, "input {position}"),
-        }
+        let entry = match self.section {
+            Section::Top => return f.write_str("top"),
+            Section::Transition => "transition",
+            Section::Place => "place",
+            Section::Input => "input",
+        };
+        write!(f, "{entry} {}", self.position)
     }
+}
+
+// Tells what is wrong at a part of the file, and with which of its keys.
+fn at_spot<W: fmt::Write>(
+    f: &mut fmt::Formatter<W>,
+    spot: Spot,
+    fault: &str,
+    key: &str,
+) -> fmt::Result {
+    write!(f, "{spot} {fault}{key}")
+}
+
+// Tells what a part of the file has that is unknown, as it stands there.
+fn unknown_at<W: fmt::Write>(
+    f: &mut fmt::Formatter<W>,
+    spot: Spot,
+    fault: &str,
+    label: &Label,
+) -> fmt::Result {
+    write!(f, "{spot} unknown {fault} {:?}", label.as_str())
+}
+
+// Tells what is wrong with a place.
+fn of_place<W: fmt::Write>(f: &mut fmt::Formatter<W>, place: &Name, fault: &str) -> fmt::Result {
+    write!(f, "place {} {fault}", place.as_str())
+}
+
+// Tells two numbers that do not fit a place, each with what it counts.
+fn counts_of_place<W: fmt::Write>(
+    f: &mut fmt::Formatter<W>,
+    place: &Name,
+    first: u32,
+    firsts: &str,
+    second: u32,
+    seconds: &str,
+) -> fmt::Result {
+    write!(
+        f,
+        "place {} has {first} {firsts} {second} {seconds}",
+        place.as_str()
+    )
 }
 
 impl fmt::Display for ReadRefusal {
     fn fmt<W: fmt::Write>(&self, f: &mut fmt::Formatter<W>) -> fmt::Result {
         match self {
             ReadRefusal::NotToml => f.write_str("not TOML"),
-            ReadRefusal::UnknownKey { spot, key } => {
-                write!(f, "{spot} unknown key {:?}", key.as_str())
-            }
-            ReadRefusal::WrongKind { spot, key } => write!(f, "{spot} wrong kind {}", key.text()),
-            ReadRefusal::MissingKey { spot, key } => write!(f, "{spot} missing {}", key.text()),
-            ReadRefusal::BadName { spot } => write!(f, "{spot} bad name"),
-            ReadRefusal::Repeated { spot } => write!(f, "{spot} repeated"),
-            ReadRefusal::OutOfRange { spot, key } => {
-                write!(f, "{spot} out of range {}", key.text())
-            }
+            ReadRefusal::UnknownKey { spot, key } => unknown_at(f, *spot, "key", key),
+            ReadRefusal::WrongKind { spot, key } => at_spot(f, *spot, "wrong kind ", key.text()),
+            ReadRefusal::MissingKey { spot, key } => at_spot(f, *spot, "missing ", key.text()),
+            ReadRefusal::BadName { spot } => at_spot(f, *spot, "bad name", ""),
+            ReadRefusal::Repeated { spot } => at_spot(f, *spot, "repeated", ""),
+            ReadRefusal::OutOfRange { spot, key } => at_spot(f, *spot, "out of range ", key.text()),
             ReadRefusal::NoTransitions => f.write_str("no transitions"),
-            ReadRefusal::UnknownTransition { spot, name } => {
-                write!(f, "{spot} unknown transition {:?}", name.as_str())
-            }
+            ReadRefusal::UnknownTransition { spot, name } => unknown_at(
+                f,
+                *spot,
+                "transition",
+                name,
+            ),
             ReadRefusal::NotEventGraph {
                 place,
                 producers,
                 consumers,
-            } => {
-                let place = place.as_str();
-                write!(
-                    f,
-                    "place {place} has {producers} producers and {consumers} consumers"
-                )
-            }
-            ReadRefusal::InputHasUpstream { place } => {
-                write!(f, "place {} enters an input", place.as_str())
-            }
+            } => counts_of_place(
+                f,
+                place,
+                *producers,
+                "producers and",
+                *consumers,
+                "consumers",
+            ),
+            ReadRefusal::InputHasUpstream { place } => of_place(f, place, "enters an input"),
             ReadRefusal::BadInput {
                 transition,
                 position,
@@ -153,18 +192,17 @@ impl fmt::Display for ReadRefusal {
                 place,
                 given,
                 tokens,
-            } => {
-                let place = place.as_str();
-                write!(
-                    f,
-                    "place {place} has {given} ready dates for {tokens} tokens"
-                )
-            }
-            ReadRefusal::TooSlow { place } => {
-                write!(f, "place {} hold exceeds 1000000000", place.as_str())
-            }
+            } => counts_of_place(f, place, *given, "ready dates for", *tokens, "tokens"),
+            ReadRefusal::TooSlow { place } => of_place(f, place, "hold exceeds 1000000000"),
             ReadRefusal::OutOfMemory => f.write_str("out of memory"),
         }
+    }
+}
+
+// `{:?}` tells the same line.
+impl fmt::Debug for ReadRefusal {
+    fn fmt<W: fmt::Write>(&self, f: &mut fmt::Formatter<W>) -> fmt::Result {
+        fmt::Display::fmt(self, f)
     }
 }
 

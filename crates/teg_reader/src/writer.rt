@@ -1,5 +1,5 @@
 //! Writes a net as a file of the second version.
-ghost use Rattle.std.specs.Prelude.{◌≡◌, ◌≤◌, ◌<◌, ◌^◌, map, length, IfOk, OnOk, Some, Ok, All};
+ghost use Rattle.std.specs.Prelude.{◌≡◌, ◌≤◌, ◌<◌, ◌^◌, map, length, IfOk, Some, Ok, All};
 ghost use Rattle.toml.specs.Data.{string, no_members};
 ghost use Rattle.toml.specs.View.{view, table_view};
 ghost use Rattle.teg_net.specs.Limits.{greatest_input_date};
@@ -22,23 +22,24 @@ fn new_table(alloc: Global) -> Table
     Table::new(alloc)
 }
 
-// Puts a value under a key.
-fn put(alloc: Global, table: &mut Table, key: Key, value: Value) -> Result<(), AllocError>
-    ensures { OnOk result (table_view table.new ≡ with_member (key_text key) (view value)
-        (table_view table.old)) }
+// The table with a value under a key.
+fn with_value(alloc: Global, table: Table, key: Key, value: Value) -> Result<Table, AllocError>
+    ensures { IfOk result (λ t. table_view t ≡ with_member (key_text key) (view value)
+        (table_view table)) }
 {
+    let mut table = table;
     let key = String::from_str(alloc, key.text())?;
     table.insert(key, value)?;
-    Ok(())
+    Ok(table)
 }
 
-// Puts a text under a key.
-fn put_text(alloc: Global, table: &mut Table, key: Key, text: &str) -> Result<(), AllocError>
-    ensures { OnOk result (table_view table.new ≡ with_member (key_text key) (string text.now)
-        (table_view table.old)) }
+// The table with a text under a key.
+fn with_text(alloc: Global, table: Table, key: Key, text: &str) -> Result<Table, AllocError>
+    ensures { IfOk result (λ t. table_view t ≡ with_member (key_text key) (string text.now)
+        (table_view table)) }
 {
     let value = Value::string(alloc, text)?;
-    put(alloc, table, key, value)
+    with_value(alloc, table, key, value)
 }
 
 // A number as a value.
@@ -49,29 +50,24 @@ fn number_value(number: u64) -> Value
     Value::Integer(number as i64)
 }
 
-// Puts a number under a key.
-fn put_number(alloc: Global, table: &mut Table, key: Key, number: u64) -> Result<(), AllocError>
+// The table with a number under a key.
+fn with_number(alloc: Global, table: Table, key: Key, number: u64) -> Result<Table, AllocError>
     requires { number < 2 ^ 63 }
-    ensures { OnOk result (table_view table.new ≡ with_member (key_text key) (number_data number)
-        (table_view table.old)) }
+    ensures { IfOk result (λ t. table_view t ≡ with_member (key_text key) (number_data number)
+        (table_view table)) }
 {
-    put(alloc, table, key, number_value(number))
+    with_value(alloc, table, key, number_value(number))
 }
 
-// Puts a list under a key, where there is anything in it.
-fn put_list(
-    alloc: Global,
-    table: &mut Table,
-    key: Key,
-    values: Vec<Value>,
-) -> Result<(), AllocError>
-    ensures { OnOk result (table_view table.new ≡ with_list key (map view values.items)
-        (table_view table.old)) }
+// The table with a list under a key, where there is anything in it.
+fn with_list(alloc: Global, table: Table, key: Key, values: Vec<Value>) -> Result<Table, AllocError>
+    ensures { IfOk result (λ t. table_view t ≡ with_list key (map view values.items)
+        (table_view table)) }
 {
     if values.is_empty() {
-        return Ok(());
+        return Ok(table);
     }
-    put(alloc, table, key, Value::Array(values))
+    with_value(alloc, table, key, Value::Array(values))
 }
 
 // The dates as values.
@@ -102,9 +98,9 @@ fn role_text(role: Role) -> &'static str
 fn transition_value(alloc: Global, transition: &Transition) -> Result<Value, AllocError>
     ensures { IfOk result (λ v. view v ≡ transition_entry transition.now) }
 {
-    let mut table = new_table(alloc);
-    put_text(alloc, &mut table, Key::Name, transition.name.as_str())?;
-    put_text(alloc, &mut table, Key::Role, role_text(transition.role))?;
+    let table = new_table(alloc);
+    let table = with_text(alloc, table, Key::Name, transition.name.as_str())?;
+    let table = with_text(alloc, table, Key::Role, role_text(transition.role))?;
     Ok(Value::Table(table))
 }
 
@@ -133,20 +129,15 @@ fn place_value(alloc: Global, net: &Net, place: &Place) -> Result<Value, AllocEr
     requires { IsPlaceOf net.now place.now }
     ensures { IfOk result (λ v. view v ≡ place_entry net.now.transitions place.now) }
 {
-    let mut table = new_table(alloc);
+    let table = new_table(alloc);
     let transitions = net.transitions();
-    put_text(
-        alloc,
-        &mut table,
-        Key::From,
-        name_of(transitions, place.from),
-    )?;
-    put_number(alloc, &mut table, Key::Hold, place.hold)?;
-    put_text(alloc, &mut table, Key::Name, place.name.as_str())?;
-    put_text(alloc, &mut table, Key::To, name_of(transitions, place.to))?;
-    put_number(alloc, &mut table, Key::Tokens, u64::from(place.tokens))?;
+    let table = with_text(alloc, table, Key::From, name_of(transitions, place.from))?;
+    let table = with_number(alloc, table, Key::Hold, place.hold)?;
+    let table = with_text(alloc, table, Key::Name, place.name.as_str())?;
+    let table = with_text(alloc, table, Key::To, name_of(transitions, place.to))?;
+    let table = with_number(alloc, table, Key::Tokens, u64::from(place.tokens))?;
     let ready = date_values(alloc, place.ready.as_slice())?;
-    put_list(alloc, &mut table, Key::Ready, ready)?;
+    let table = with_list(alloc, table, Key::Ready, ready)?;
     Ok(Value::Table(table))
 }
 
@@ -168,15 +159,15 @@ fn input_value(alloc: Global, net: &Net, input: &InputList) -> Result<Value, All
     requires { IsInputOf net.now input.now }
     ensures { IfOk result (λ v. view v ≡ input_entry net.now.transitions input.now) }
 {
-    let mut table = new_table(alloc);
     let dates = date_values(alloc, input.dates.as_slice())?;
-    put(alloc, &mut table, Key::Dates, Value::Array(dates))?;
+    let table = new_table(alloc);
+    let table = with_value(alloc, table, Key::Dates, Value::Array(dates))?;
     let name = name_of(net.transitions(), input.transition);
-    put_text(alloc, &mut table, Key::Transition, name)?;
+    let table = with_text(alloc, table, Key::Transition, name)?;
     match input.again {
         Some(again) => {
-            put_number(alloc, &mut table, Key::Every, u64::from(again.every))?;
-            put_number(alloc, &mut table, Key::Gap, again.gap)?;
+            let table = with_number(alloc, table, Key::Every, u64::from(again.every))?;
+            let table = with_number(alloc, table, Key::Gap, again.gap)?;
             Ok(Value::Table(table))
         }
         None => Ok(Value::Table(table)),
@@ -200,14 +191,14 @@ fn net_table(alloc: Global, net: &Net) -> Result<Table, AllocError>
     ensures table { IfOk result (λ t. table_view t ≡ migrated net.now) }
     ensures rules { IfOk result (λ _. IsNet net.now) }
 {
-    let mut table = new_table(alloc);
-    put_number(alloc, &mut table, Key::Version, 2)?;
+    let table = new_table(alloc);
+    let table = with_number(alloc, table, Key::Version, 2)?;
     let transitions = transition_values(alloc, net.transitions())?;
-    put_list(alloc, &mut table, Key::Transition, transitions)?;
+    let table = with_list(alloc, table, Key::Transition, transitions)?;
     let places = place_values(alloc, net)?;
-    put_list(alloc, &mut table, Key::Place, places)?;
+    let table = with_list(alloc, table, Key::Place, places)?;
     let inputs = input_values(alloc, net)?;
-    put_list(alloc, &mut table, Key::Input, inputs)?;
+    let table = with_list(alloc, table, Key::Input, inputs)?;
     Ok(table)
 }
 
