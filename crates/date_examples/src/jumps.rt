@@ -1,10 +1,11 @@
 //! Dates of late firings of nets whose rates nearly agree, by rows that are made only near the
 //! numbers at which one circuit overtakes another.
 use dioid::Date;
+use example_nets::{held, transition_named};
 use run_rows::{date_by_jumps, dates_by_jumps};
+use std::alloc::Global;
 use std::test::Fail;
-use teg_check::check;
-use teg_reader::read_net;
+use teg_check::LiveNet;
 
 // Two machines, of which the second one is slower by one unit in 1,000,000,000, with room for 1,000
 // parts between them: the first one waits for it from firing 999,000,000,002 on.
@@ -15,30 +16,40 @@ const NEARLY_ALIKE: &[u8] =
 const IN_TWOS: &[u8] =
     b"transition = [{name = 'in', role = 'input'}, {name = 'm'}]\nplace = [{name = 'feed', from = 'in', to = 'm'}, {name = 'free', from = 'm', to = 'm', hold = 3, tokens = 1}]\n[[input]]\ntransition = 'in'\ndates = [0, 0]\nevery = 2\ngap = 7\n";
 
-#[test]
-fn a_late_date_is_told(rt: HostRuntime) -> Result<(), Fail> {
-    let net = read_net(rt.alloc(), NEARLY_ALIKE)?;
-    let live = check(rt.alloc(), &net)?;
-    let first = net.find("a").ok_or("no such transition")?;
-    let date = date_by_jumps(rt.alloc(), &net, &live, first, 1_000_000_000_000)?;
-    assert!(rt; date == Date::At(999_999_999_000_000_000_000));
-    Ok(())
+// The date of firing 1,000,000,000,000 of a.
+fn late_date(alloc: Global, held: &LiveNet) -> Result<Date, Fail> {
+    let first = transition_named(held.net(), "a")?;
+    let date = date_by_jumps(alloc, held.net(), held.live(), first, 1_000_000_000_000);
+    Ok(date?)
 }
 
+// Early and late dates of the machine.
+fn dates_of_machine(alloc: Global, held: &LiveNet) -> Result<[Date; 5], Fail> {
+    let machine = transition_named(held.net(), "m")?;
+    let rows = dates_by_jumps(alloc, held.net(), held.live(), 1_000_000)?;
+    Ok([
+        rows.date(machine, 1),
+        rows.date(machine, 2),
+        rows.date(machine, 3),
+        rows.date(machine, 999_999),
+        rows.date(machine, 1_000_000),
+    ])
+}
+
+// Those dates: the machine works at 0 and 3, at 7 and 10, and so on.
+const BY_TWOS: [Date; 5] = [
+    Date::At(0),
+    Date::At(3),
+    Date::At(7),
+    Date::At(3_499_993),
+    Date::At(3_499_996),
+];
+
 #[test]
-fn runs_tell_each_date(rt: HostRuntime) -> Result<(), Fail> {
-    let net = read_net(rt.alloc(), IN_TWOS)?;
-    let live = check(rt.alloc(), &net)?;
-    let machine = net.find("m").ok_or("no such transition")?;
-    let rows = dates_by_jumps(rt.alloc(), &net, &live, 1_000_000)?;
-    for (number, date) in [
-        (1, 0),
-        (2, 3),
-        (3, 7),
-        (999_999, 3_499_993),
-        (1_000_000, 3_499_996),
-    ] {
-        assert!(rt; rows.date(machine, number) == Date::At(date), "{number}");
-    }
+fn late_dates_are_told(rt: HostRuntime) -> Result<(), Fail> {
+    let date = late_date(rt.alloc(), &held(rt.alloc(), NEARLY_ALIKE)?);
+    assert!(rt; date? == Date::At(999_999_999_000_000_000_000));
+    let dates = dates_of_machine(rt.alloc(), &held(rt.alloc(), IN_TWOS)?);
+    assert!(rt; dates? == BY_TWOS);
     Ok(())
 }

@@ -1,56 +1,73 @@
 //! What planners ask of a net beside its dates: the earliest timetable of a period, how many firings
 //! come by a date, and how many tokens a place ever holds.
 use date_counts::count_by;
-use example_nets::LOOP;
+use example_nets::{LOOP, held, place_named, transition_named};
+use std::alloc::Global;
 use std::test::Fail;
 use teg_check::LiveNet;
 use teg_net::Ratio;
-use teg_reader::read_net;
 use teg_settle::settle;
 use timetable_calls::{PeriodRefused, earliest_timetable, earliest_timetable_at, whole_date};
 use token_bounds::most_tokens;
 
-#[test]
-fn a_period_has_an_earliest_timetable(rt: HostRuntime) -> Result<(), Fail> {
-    let alloc = rt.alloc();
-    let held = LiveNet::new(alloc, read_net(alloc, LOOP)?)?;
-    let firsts = earliest_timetable(alloc, held.net(), held.live(), 5)?;
-    assert!(rt; firsts.as_slice() == [0, 3].as_slice());
+// Whether these are the least first departures with a period of 5.
+fn has_firsts(alloc: Global, held: &LiveNet, firsts: &[u64]) -> Result<bool, PeriodRefused> {
+    let told = earliest_timetable(alloc, held.net(), held.live(), 5)?;
+    Ok(told.as_slice() == firsts)
+}
+
+// Whether a period of 4 is too short.
+fn is_too_short(alloc: Global, held: &LiveNet) -> bool {
     let refused = earliest_timetable(alloc, held.net(), held.live(), 4);
-    assert!(rt; matches!(&refused, Err(PeriodRefused::TooShort { .. })));
-    Ok(())
+    matches!(&refused, Err(PeriodRefused::TooShort { .. }))
 }
 
-#[test]
-fn a_fraction_has_an_earliest_timetable(rt: HostRuntime) -> Result<(), Fail> {
-    let alloc = rt.alloc();
-    let held = LiveNet::new(alloc, read_net(alloc, LOOP)?)?;
+// Whether these are the least first departures with a period of 11/2, in halves, and their whole
+// dates.
+fn has_halves(alloc: Global, held: &LiveNet, firsts: &[u64]) -> Result<bool, PeriodRefused> {
     let period = Ratio::of(11, 2);
-    let firsts = earliest_timetable_at(alloc, held.net(), held.live(), period)?;
-    assert!(rt; firsts.as_slice() == [0, 6].as_slice());
-    assert!(rt; whole_date(period, 6, 2) == 8 && whole_date(period, 6, 3) == 14);
+    let told = earliest_timetable_at(alloc, held.net(), held.live(), period)?;
+    let whole = whole_date(period, 6, 2) == 8 && whole_date(period, 6, 3) == 14;
+    Ok(told.as_slice() == firsts && whole)
+}
+
+// Whether a period of 9/2 is too short.
+fn is_fraction_too_short(alloc: Global, held: &LiveNet) -> bool {
     let refused = earliest_timetable_at(alloc, held.net(), held.live(), Ratio::of(9, 2));
-    assert!(rt; matches!(&refused, Err(PeriodRefused::TooShort { .. })));
-    Ok(())
+    matches!(&refused, Err(PeriodRefused::TooShort { .. }))
 }
 
-#[test]
-fn firings_are_counted_by_a_date(rt: HostRuntime) -> Result<(), Fail> {
-    let alloc = rt.alloc();
-    let held = LiveNet::new(alloc, read_net(alloc, LOOP)?)?;
+// How many firings of b come by 22, and by 23.
+fn counted(alloc: Global, held: &LiveNet) -> Result<(Option<u128>, Option<u128>), Fail> {
+    let last = transition_named(held.net(), "b")?;
     let form = settle(alloc, held.net(), held.live())?;
-    let last = held.net().find("b").ok_or("no such transition")?;
-    assert!(rt; count_by(held.net(), &form, last, 22) == Some(4));
-    assert!(rt; count_by(held.net(), &form, last, 23) == Some(5));
-    Ok(())
+    let before = count_by(held.net(), &form, last, 22);
+    Ok((before, count_by(held.net(), &form, last, 23)))
+}
+
+// The most tokens of the place from a to b, and how many places has the circuit that keeps them so
+// few.
+fn most_between(alloc: Global, held: &LiveNet) -> Result<(u64, usize), Fail> {
+    let there = place_named(held.net(), "ab")?;
+    let most = most_tokens(alloc, held, there)?.ok_or("on no circuit")?;
+    Ok((most.tokens, most.circuit.places.len()))
+}
+
+// Whether all is told so of the loop.
+fn is_told(alloc: Global, held: &LiveNet) -> Result<bool, Fail> {
+    Ok(
+        has_firsts(alloc, held, &[0, 3])?
+            && is_too_short(alloc, held)
+            && has_halves(alloc, held, &[0, 6])?
+            && is_fraction_too_short(alloc, held)
+            && counted(alloc, held)? == (Some(4), Some(5))
+            && most_between(alloc, held)? == (1, 2),
+    )
 }
 
 #[test]
-fn a_place_holds_so_many_tokens(rt: HostRuntime) -> Result<(), Fail> {
-    let alloc = rt.alloc();
-    let held = LiveNet::new(alloc, read_net(alloc, LOOP)?)?;
-    let there = held.net().find_place("ab").ok_or("no such place")?;
-    let most = most_tokens(alloc, &held, there)?.ok_or("on no circuit")?;
-    assert!(rt; most.tokens == 1 && most.circuit.places.len() == 2);
+fn planners_are_answered(rt: HostRuntime) -> Result<(), Fail> {
+    let is_told = is_told(rt.alloc(), &held(rt.alloc(), LOOP)?);
+    assert!(rt; is_told?);
     Ok(())
 }
