@@ -11,16 +11,15 @@ fn machines(alloc: Global, waits: Date) -> Result<Matrix<Date>, Fail> {
     Ok(Matrix::new(2, 2, Vec::from_array(alloc, entries)?)?)
 }
 
-#[test]
-fn two_machines_have_a_pace(rt: HostRuntime) -> Result<(), Fail> {
-    let alloc = rt.alloc();
-    let matrix = machines(alloc, Date::At(2))?;
-    let found = eigen(alloc, &matrix)?;
-    assert!(rt; found.value == EigenValue { time: 9, steps: 2 });
-    assert!(rt; is_eigen(&matrix, found.value, &found.vector));
-    let alone = eigen(alloc, &machines(alloc, Date::Early)?);
-    assert!(rt; alone.err() == Some(NoSpectrum::Reducible));
-    Ok(())
+// Whether the matrix has this eigenvalue, with a vector that is told to be one of it.
+fn has_value(alloc: Global, matrix: &Matrix<Date>, value: EigenValue) -> Result<bool, NoSpectrum> {
+    let found = eigen(alloc, matrix)?;
+    Ok(found.value == value && is_eigen(matrix, found.value, &found.vector))
+}
+
+// Why the matrix has no eigenvalue.
+fn why_none(alloc: Global, matrix: &Matrix<Date>) -> Option<NoSpectrum> {
+    eigen(alloc, matrix).err()
 }
 
 // The entry there; none outside the matrix.
@@ -31,16 +30,31 @@ fn at(matrix: &Matrix<Date>, row: usize, column: usize) -> Option<Date> {
     None
 }
 
-// The entry there of the product with an identity, and of the transpose.
-fn made_and_turned(alloc: Global) -> Result<(Option<Date>, Option<Date>), Fail> {
-    let matrix = machines(alloc, Date::At(2))?;
-    let product = matrix.times(alloc, &identity::<Date>(alloc, 2)?)?;
-    Ok((at(&product, 0, 1), at(&transpose(alloc, &matrix)?, 0, 1)))
+// The entry of the first row and the second column of the product with an identity, and of the
+// transpose.
+fn made_and_turned(
+    alloc: Global,
+    matrix: &Matrix<Date>,
+) -> Result<(Option<Date>, Option<Date>), Fail> {
+    let product = matrix.times(alloc, &identity::<Date>(alloc, 2)?);
+    let entry = at(&product?, 0, 1);
+    Ok((entry, at(&transpose(alloc, matrix)?, 0, 1)))
+}
+
+// Whether all is told so of two machines that wait for each other.
+fn is_told(alloc: Global, matrix: &Matrix<Date>) -> Result<bool, Fail> {
+    let entries = (Some(Date::At(7)), Some(Date::At(2)));
+    Ok(
+        has_value(alloc, matrix, EigenValue { time: 9, steps: 2 })?
+            && made_and_turned(alloc, matrix)? == entries,
+    )
 }
 
 #[test]
-fn matrices_are_made_and_turned(rt: HostRuntime) -> Result<(), Fail> {
-    let told = made_and_turned(rt.alloc())?;
-    assert!(rt; told == (Some(Date::At(7)), Some(Date::At(2))));
+fn two_machines_have_a_pace(rt: HostRuntime) -> Result<(), Fail> {
+    let is_told = is_told(rt.alloc(), &machines(rt.alloc(), Date::At(2))?);
+    assert!(rt; is_told?);
+    let why = why_none(rt.alloc(), &machines(rt.alloc(), Date::Early)?);
+    assert!(rt; why == Some(NoSpectrum::Reducible));
     Ok(())
 }
