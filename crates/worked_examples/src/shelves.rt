@@ -44,23 +44,42 @@ fn mixed(alloc: Global, count: u32) -> Result<Vec<u8>, Fail> {
     Ok(bytes)
 }
 
+// Two files, of which one has these bytes.
+fn write_files(rt: &HostRuntime, bytes: &[u8]) -> Result<(), Fail> {
+    fs::write(rt, "mixed", bytes)?;
+    fs::write(rt, "other", b"another file".as_slice())?;
+    Ok(())
+}
+
+// Whether both files are as they were written, and no read changed the one or the other.
+fn are_unchanged(rt: &HostRuntime, bytes: &[u8]) -> Result<bool, Fail> {
+    let is_same = fs::read(rt, "mixed")?.as_slice() == bytes;
+    Ok(is_same && fs::read(rt, "other")?.as_slice() == b"another file".as_slice())
+}
+
+// Files, limits, and the fault of the read.
+const READS: [(&str, usize, Option<ShelfFault>); 3] = [
+    ("mixed", 70_000, None),
+    ("mixed", 69_999, Some(ShelfFault::TooLarge)),
+    ("missing", 70_000, Some(ShelfFault::Failed)),
+];
+
+// Whether each read is answered so, where the file that is there has these bytes.
+fn are_read<S: Shelf>(shelf: &mut S, alloc: Global, bytes: &[u8]) -> bool {
+    for (name, limit, fault) in &READS {
+        if !gives(shelf, alloc, (*name, *limit), bytes, *fault) {
+            return false;
+        }
+    }
+    true
+}
+
 #[test]
 fn a_real_file_is_read_as_it_stands_up_to_its_limit(rt: HostRuntime) -> Result<(), Fail> {
     let bytes = mixed(rt.alloc(), 70_000)?;
-    fs::write(&rt, "mixed", bytes.as_slice())?;
-    fs::write(&rt, "other", b"another file".as_slice())?;
-    let mut shelf = FileShelf::new(&rt);
-    for (file, fault) in [
-        (("mixed", 70_000), None),
-        (("mixed", 69_999), Some(ShelfFault::TooLarge)),
-        (("missing", 70_000), Some(ShelfFault::Failed)),
-    ] {
-        let is_right = gives(&mut shelf, rt.alloc(), file, bytes.as_slice(), fault);
-        assert!(rt; is_right, "{file:?}");
-    }
-    // (no read changes a file, neither the one that it reads nor another)
-    assert!(rt; fs::read(&rt, "mixed")?.len() == 70_000);
-    assert!(rt; fs::read(&rt, "other")?.as_slice() == b"another file".as_slice());
+    write_files(&rt, &bytes)?;
+    assert!(rt; are_read(&mut FileShelf::new(&rt), rt.alloc(), &bytes));
+    assert!(rt; are_unchanged(&rt, &bytes)?);
     fs::remove_file(&rt, "mixed")?;
     fs::remove_file(&rt, "other")?;
     Ok(())
