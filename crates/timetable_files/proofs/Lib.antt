@@ -1,0 +1,3 @@
+pub mod EntryRules
+pub mod Splitting
+pub mod Refused
