@@ -1,10 +1,12 @@
-//! Examples of `dating_check` and `delay_check`: texts of the guide that show their dates, latest
-//! dates, late rows and delays that stay, and the same texts with a digit changed, which show nothing. The crate has tests
-//! alone; those of the other answers stand in `library_examples`.
+//! Examples of `dating_check`, `delay_check` and `answer_check`: texts of the guide that show their dates,
+//! latest dates, late rows and delays that stay, and the same texts with a digit changed, which show nothing; and
+//! whole calls of `answer_audit`. The crate has tests alone; those of the other answers stand in `library_examples`.
 #![tactic(auto)]
 
 #[cfg(test)]
 mod answers;
+#[cfg(test)]
+mod audits;
 #[cfg(test)]
 mod kept_delays;
 #[cfg(test)]

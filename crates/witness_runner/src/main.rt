@@ -1,129 +1,67 @@
-//! Checks a printed answer of `teg` by the net and the text alone.
+//! Checks printed answers of `teg` by the net and the text alone.
 //!
-//! `witness_runner NET ANSWER [DUE | PERIOD TIMETABLE]` reads a net file, a file with all that `teg
-//! check`, `list`, `cycle`, `dates`, `slack`, `size`, `jit` or `timetable` printed of it, for `jit`
-//! the due file, and for `timetable` its period and its file. It prints the first line of the answer, of a table of
-//! latest dates also each line that tells a date, and of delays that are kept that line and the
-//! circuit, each behind what is found of it: `shown`, `refuted`, `not shown` or `no checker`. It
-//! ends with status 0 where all is shown, 1 where a line is refuted, 2 where the words are others, 3
-//! where one is not shown, 4 where no checker reads the answer, and 5 where a file is not read.
+//! `witness_runner NET ANSWER [DUE | LIST | PERIOD TIMETABLE]` reads a net file, a file with all
+//! that `teg check`, `list`, `cycle`, `dates`, `date`, `slack`, `size`, `jit` or `timetable` printed
+//! of it, for `jit` the due file, for `date` what `teg list` printed of at least as many firings, and
+//! for `timetable` its period and its file. It prints the first line of the answer, of a table of
+//! latest dates each line that tells a date, and of delays that are kept that line and the circuit,
+//! each behind what is found of it: `shown`, `refuted`, `not shown` or `no checker`. Further
+//! questions may follow, each behind `--`; of one whose file is not read, or says no net, text or
+//! rows, it prints `not read` and the name of the answer. `-` is standard input.
 //!
-//! What is shown is right by the contracts of `witness_check`, `dating_check`, `delay_check` and
-//! `answer_check`, whatever printed it, and whether the net is live is asked before all else: of
-//! `check`, what the text tells; of `list`, all its dates; of `cycle`, the pace of the net and the
-//! greatest ratios of its parts, or that it has no circuit; of `slack`, each slack; of `size`, that
-//! the number is the least that is enough; of `dates`, that its form is the settled form; of latest
-//! dates, that the table is a plan, with a step that attains each date; of `late`, that its row is
-//! the first that comes late, and when; of `kept`, that the circuit keeps delays. Of the other lines
-//! it tells nothing.
+//! It ends with status 0 where all is shown, and else with that of the gravest: 2 where words ask
+//! nothing, 5 where a file is not read, 1 where an answer is refuted, 3 where one is not shown, 4
+//! where no checker reads one; with 65 where it cannot write, and 70 where no memory is found.
 //!
-//! It stands on `witness_check`, `dating_check`, `delay_check` and `answer_check` for what answers
-//! show, on `teg_reader`, `teg_due` and `teg_timetable` for files, and on `teg_net` for nets.
+//! It hands the words, the files and the output to [`audit`] of `answer_audit`, whose contract says
+//! what is found, whatever printed the answer: whether the net is live is asked before all else; of
+//! `check` is shown what the text tells; of `list`, all its dates; of `date`, the date; of `cycle`,
+//! the pace of the net and the greatest ratios of its parts, or that it has no circuit; of `slack`,
+//! each slack; of `size`, that the number is the least that is enough; of `dates`, that its form is
+//! the settled form; of latest dates, that the table is a plan, with a step that attains each date;
+//! of `late`, that its row is the first that comes late, and when; of `kept`, that the circuit keeps
+//! delays. Of the other lines it tells nothing.
+//!
+//! It stands on `answer_audit` and `teg_outside`.
 #![tactic(auto)]
 
-mod claims;
-
-use crate::claims::{Asked, Claim, Finding, claims_of};
-use anyhow::{Context, Result, anyhow, ensure};
-use std::alloc::Global;
+use answer_audit::{AuditStatus, audit};
+use std::alloc::{AllocError, Global};
 use std::process::ExitCode;
-use std::rt::Files;
-use std::{env, fs};
-use teg_due::{Due, read_due};
-use teg_net::Net;
-use teg_reader::read_net;
-use teg_timetable::{Timetable, read_timetable};
+use std::{env, io};
+use teg_outside::{FileShelf, WriterSink};
 
-// The most bytes that a due file or a timetable may have.
-const MOST_BYTES: usize = 4_194_304;
-
-// The status where words are no call, and where a file is not read.
-const NO_CALL: u8 = 2;
-
-const NOT_READ: u8 = 5;
-
-// The text of a file.
-fn text_of(rt: &(impl Files + Alloc<A = Global>), name: &str) -> Result<String> {
-    fs::read_to_string(rt, name).context(format_args!("reading {name}"))
-}
-
-// The rows of a due file.
-fn due_of(alloc: Global, net: &Net, bytes: &[u8]) -> Result<Due> {
-    ensure!(bytes.len() <= MOST_BYTES, "the due file is too long");
-    Ok(read_due(alloc, net, bytes)?)
-}
-
-// The timetable of a file.
-fn table_of(alloc: Global, net: &Net, bytes: &[u8]) -> Result<Timetable> {
-    ensure!(bytes.len() <= MOST_BYTES, "the timetable is too long");
-    match read_timetable(alloc, net, bytes) {
-        Ok(table) => Ok(table),
-        Err(_) => Err(anyhow!("the file is no timetable of the net")),
-    }
-}
-
-// What the answer was asked with.
-fn asked_of(rt: &(impl Files + Alloc<A = Global>), net: &Net, words: &[String]) -> Result<Asked> {
-    let alloc = rt.alloc();
-    match words {
-        [] => Ok(Asked::Nothing),
-        [due] => {
-            let text = text_of(rt, due.as_str())?;
-            Ok(Asked::Due(due_of(alloc, net, text.as_bytes())?))
+// The words after the program's name; none where one of them is no text.
+fn words_of(rt: &HostRuntime, alloc: Global) -> Result<Vec<String>, AllocError> {
+    let mut words = Vec::new(alloc);
+    match env::args(rt) {
+        Ok(args) => {
+            for word in args.skip(1) {
+                words.push(word)?;
+            }
+            Ok(words)
         }
-        [period, table, ..] => {
-            let Ok(period) = period.parse::<u64>() else {
-                return Err(anyhow!("the period is no number"));
-            };
-            let text = text_of(rt, table.as_str())?;
-            Ok(Asked::Timetable(period, table_of(alloc, net, text.as_bytes())?))
-        }
-    }
-}
-
-// The status of an answer with these claims.
-fn status_of(claims: &[Claim<'_>]) -> u8 {
-    for (finding, status) in [
-        (Finding::Refuted, 1),
-        (Finding::NotShown, 3),
-        (Finding::NoChecker, 4),
-    ] {
-        if claims.iter().any(|claim| claim.finding == finding) {
-            return status;
-        }
-    }
-    if claims.is_empty() { 4 } else { 0 }
-}
-
-// Prints what is found of the answer, and gives the status.
-fn audit(rt: &HostRuntime, net: &str, answer: &str, with: &[String]) -> Result<u8> {
-    let alloc = rt.alloc();
-    let net = read_net(alloc, text_of(rt, net)?.as_bytes())?;
-    let text = text_of(rt, answer)?;
-    let asked = asked_of(rt, &net, with)?;
-    let claims = claims_of(alloc, &net, &asked, text.as_str())?;
-    for claim in claims.iter() {
-        println!(rt; "{} {}", claim.finding.word(), claim.line)?;
-    }
-    Ok(status_of(&claims))
-}
-
-fn main(rt: HostRuntime) -> Result<ExitCode> {
-    let words: Vec<String> = env::args(&rt)?.skip(1).collect(rt.alloc())?;
-    let status = match words.as_slice() {
-        [net, answer, with @ ..] if with.len() <= 2 => {
-            match audit(&rt, net.as_str(), answer.as_str(), with) {
-                Ok(status) => status,
-                Err(why) => {
-                    eprintln!(rt; "{why:#}")?;
-                    NOT_READ
-                }
+        Err(error) => {
+            if error.kind() == io::ErrorKind::OutOfMemory {
+                Err(AllocError)
+            } else {
+                Ok(words)
             }
         }
-        _ => {
-            eprintln!(rt; "usage: witness_runner NET ANSWER [DUE | PERIOD TIMETABLE]")?;
-            NO_CALL
-        }
+    }
+}
+
+fn main(rt: HostRuntime) -> ExitCode {
+    let alloc = rt.alloc();
+    let Ok(words) = words_of(&rt, alloc) else {
+        return ExitCode::from(AuditStatus::NoMemory.code());
     };
-    Ok(ExitCode::from(status))
+    let mut shelf = FileShelf::new(&rt);
+    let mut out = WriterSink::new(io::writer(&rt));
+    let status = audit(alloc, &words, &mut shelf, &mut out);
+    if status == AuditStatus::Words {
+        let usage = "usage: witness_runner NET ANSWER [DUE | LIST | PERIOD TIMETABLE] [-- ..]";
+        let _told = eprintln!(rt; "{usage}");
+    }
+    ExitCode::from(status.code())
 }

@@ -1,0 +1,2 @@
+mod Further
+mod Pieces

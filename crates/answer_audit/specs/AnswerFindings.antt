@@ -1,0 +1,61 @@
+-- What is found of an answer, and when it is so.
+use Rattle.std.specs.Prelude.{ℕ, ⊤, List}
+use Rattle.teg_net.specs.Nets.{NetLists}
+use Rattle.teg_net.specs.Circuits.{IsLive}
+use Rattle.teg_net.specs.Ratios.{Fraction}
+use Rattle.teg_net.specs.declared.entries.PlaceId.{PlaceId}
+use Rattle.teg_due.specs.declared.rows.Due.{Due}
+use Rattle.late_lines.specs.declared.late.LateFiring.{LateFiring}
+use Rattle.delay_laws.specs.declared.table.Timetable.{Timetable}
+use Rattle.witness_check.specs.Liveness.{TellsDeadlock, TellsLive}
+use Rattle.witness_check.specs.ShownCycles.{IsShownPace}
+use Rattle.witness_check.specs.ShownSizes.{IsShownSize}
+use Rattle.witness_check.specs.declared.sizes.ShownSize.{ShownSize}
+use Rattle.dating_check.specs.FirstLate.{IsShownFirstLate}
+use Rattle.dating_check.specs.ShownForms.{IsShownSettled}
+use Rattle.dating_check.specs.ShownTables.{IsShownTable}
+use Rattle.dating_check.specs.declared.settled.ShownSettled.{ShownSettled}
+use Rattle.delay_check.specs.ShownDelays.{IsShownKept}
+use Rattle.answer_check.specs.NoCircuits.{IsShownNoCircuit}
+use Rattle.answer_check.specs.ShownDates.{IsShownDate}
+use Rattle.answer_check.specs.ShownLists.{IsShownList}
+use Rattle.answer_check.specs.ShownSlacks.{IsShownSlack}
+use Rattle.answer_check.specs.declared.date.ShownDate.{ShownDate}
+use Rattle.answer_audit.specs.declared.finding.Finding.{Finding}
+use Rattle.answer_audit.specs.declared.finding.Finding.TheVariants.{Shown, Refuted, NotShown, NoChecker}
+use Rattle.answer_audit.specs.declared.kinds.Alone.{Alone}
+use Rattle.answer_audit.specs.declared.kinds.Alone.TheVariants.{Live, Deadlock, Listed, NoCircuit, Slack, Cycle, Settled, Size}
+
+-- the text is an answer of this kind that is shown on the net alone
+abbrev pub IsShownAlone : NetLists → Alone → List ℕ → Type 0
+IsShownAlone net Live text = IsLive net × TellsLive net text
+IsShownAlone net Deadlock text = TellsDeadlock net text
+IsShownAlone net Listed text = (count : ℕ) × IsShownList net text count
+IsShownAlone net NoCircuit text = IsShownNoCircuit net text
+IsShownAlone net Slack text = (ratio : Fraction) × IsShownSlack net text ratio
+IsShownAlone net Cycle text = (ratio : Fraction) × IsShownPace net text ratio
+IsShownAlone net Settled text = (shown : ShownSettled) × IsShownSettled net text shown
+IsShownAlone net Size text = (shown : ShownSize) × IsLive net × IsShownSize net text shown
+
+-- the text is the table of latest dates for these due dates
+abbrev pub IsShownPlanFor : NetLists → List ℕ → Due → Type 0
+IsShownPlanFor net text due = (numbers : ℕ) × IsShownTable net due.rows.items text numbers
+
+-- the text tells the first of these due dates that comes late
+abbrev pub IsShownLateFor : NetLists → List ℕ → Due → Type 0
+IsShownLateFor net text due = (late : LateFiring) × IsShownFirstLate net due.rows.items text late
+
+-- the text tells the date of a firing
+abbrev pub IsShownDateOf : NetLists → List ℕ → Type 0
+IsShownDateOf net text = (shown : ShownDate) × IsShownDate net text shown
+
+-- the text tells a circuit that keeps delays of this timetable, which departs again every `period`
+abbrev pub IsShownKeptFor : NetLists → ℕ → List ℕ → Timetable → Type 0
+IsShownKeptFor net period text table = (circuit : List PlaceId) × IsShownKept net period table text circuit
+
+-- what is found of an answer that says this is so: it is shown only where it is, and refuted only where the net is live and it is not
+abbrev pub IsFound : NetLists → Type 0 → Finding → Type 0
+IsFound net says Shown = says
+IsFound net says Refuted = IsLive net × (says → ⊥)
+IsFound net says NotShown = ⊤
+IsFound net says NoChecker = ⊥

@@ -1,0 +1,79 @@
+-- What an answer is, by its first words and by what it was asked with.
+use Rattle.std.specs.Prelude.{ℕ, Bool, ◌==◌, ◌&&◌, List, [], Option, Some, None, bytes_eq, codes, slice_get, slice_index_or, if◌then◌else◌}
+use Rattle.std.specs.List.{slice_split}
+use Rattle.std.specs.Str.Lines.{lines}
+use Rattle.answer_audit.specs.declared.kinds.Alone.{Alone}
+use Rattle.answer_audit.specs.declared.kinds.Alone.TheVariants.{Live, Deadlock, Listed, NoCircuit, Slack, Cycle, Settled, Size}
+use Rattle.answer_audit.specs.declared.kinds.Kind.{Kind}
+use Rattle.answer_audit.specs.declared.kinds.Kind.TheVariants.{OfNet, Plan, LateRow, OneDate, Kept}
+use Rattle.answer_audit.specs.declared.question.Beside.{Beside}
+use Rattle.answer_audit.specs.declared.question.Beside.TheVariants.{Nothing, File, Timetable}
+
+-- a text, or an empty one
+abbrev pub text_or_empty : Option (List ℕ) → List ℕ
+text_or_empty None = []
+text_or_empty (Some text) = text
+
+-- the word of this number in a line, counted from 0, where a blank ends each; an empty one where there are fewer
+abbrev pub word_in : List ℕ → ℕ → List ℕ
+word_in line i = text_or_empty (slice_get (slice_split (λ b. b == 32) line) i)
+
+-- the answer tells a circuit without tokens, by its first two words
+abbrev pub is_deadlock_told : List ℕ → List ℕ → Bool
+is_deadlock_told first second = bytes_eq first (codes "refused:") && bytes_eq second (codes "token-free")
+
+-- an answer that begins with `no`, by its second word
+abbrev pub none_told : List ℕ → Option Alone
+none_told second = if bytes_eq second (codes "circuit") then Some NoCircuit else None
+
+-- an answer that begins with `cycle`, by the first word of its second line
+abbrev pub pace_told : List ℕ → Alone
+pace_told below = if bytes_eq below (codes "place") then Slack else Cycle
+
+-- an answer that was asked with the net alone, by its first two words and the first word of its second line
+abbrev pub told_alone : (first second below : List ℕ) → Option Alone
+told_alone first second below =
+    if bytes_eq first (codes "live") then Some Live
+    else (if bytes_eq first (codes "dates") then Some Listed
+    else (if bytes_eq first (codes "no") then none_told second
+    else (if bytes_eq first (codes "cycle") then Some (pace_told below)
+    else (if bytes_eq first (codes "settled") then Some Settled
+    else (if bytes_eq first (codes "size") then Some Size
+    else None)))))
+
+-- the same among all kinds
+abbrev pub of_net : Option Alone → Option Kind
+of_net None = None
+of_net (Some kind) = Some (OfNet kind)
+
+-- an answer that was asked with a file: a table of latest dates, a late row, or one date
+abbrev pub told_with_file : (first : List ℕ) → Option Kind
+told_with_file first =
+    if bytes_eq first (codes "latest") then Some Plan
+    else (if bytes_eq first (codes "late") then Some LateRow
+    else (if bytes_eq first (codes "date") then Some OneDate
+    else None))
+
+-- an answer that was asked with a timetable: delays that are kept
+abbrev pub told_with_table : (first below : List ℕ) → Option Kind
+told_with_table first below = if bytes_eq first (codes "settled") && bytes_eq below (codes "kept") then Some Kept else None
+
+-- an answer that tells no circuit without tokens, by what it was asked with
+abbrev pub told_beside : Beside → (first second below : List ℕ) → Option Kind
+told_beside Nothing first second below = of_net (told_alone first second below)
+told_beside (File name) first second below = told_with_file first
+told_beside (Timetable period name) first second below = told_with_table first below
+
+-- what an answer is; none where no checker reads it
+abbrev pub kind_told : Beside → (first second below : List ℕ) → Option Kind
+kind_told beside first second below =
+    if is_deadlock_told first second then Some (OfNet Deadlock) else told_beside beside first second below
+
+-- what an answer of these lines is
+abbrev pub kind_of_lines : Beside → List (List ℕ) → Option Kind
+kind_of_lines beside ls =
+    kind_told beside (word_in (slice_index_or ls 0 []) 0) (word_in (slice_index_or ls 0 []) 1) (word_in (slice_index_or ls 1 []) 0)
+
+-- what an answer of this text is
+abbrev pub kind_of_text : Beside → List ℕ → Option Kind
+kind_of_text beside text = kind_of_lines beside (lines text)

@@ -1,0 +1,208 @@
+//! What is found of an answer that was asked with a file: a function for each kind.
+ghost use Rattle.std.specs.Prelude.{IfOk};
+ghost use Rattle.csv_records.specs.Records.{most_file_bytes};
+ghost use Rattle.answer_audit.specs.AnswerFindings.{IsFound, IsShownDateOf, IsShownKeptFor, IsShownLateFor, IsShownPlanFor};
+ghost use Rattle.answer_audit.specs.AuditFiles.{SaysDue, SaysTable, SaysText, most_answer_bytes};
+ghost use Rattle.answer_audit.specs.Audits.{FindsByFile, FindsDate, FindsKept, FindsLate, FindsPlan};
+
+use crate::files::{open_due, open_table, open_text};
+use crate::finding::Finding;
+use crate::question::Beside;
+use answer_check::shown_date;
+use dating_check::{shown_first_late, shown_table};
+use delay_check::shown_kept;
+use delay_laws::Timetable;
+use std::alloc::Global;
+use teg_due::Due;
+use teg_net::{Net, OutOfMemory};
+use teg_outside::Shelf;
+
+// Of `jit`, a table of latest dates.
+fn plan_finding(alloc: Global, net: &Net, due: &Due, text: &str) -> Result<Finding, OutOfMemory>
+    ensures { IfOk result (IsFound net.now (IsShownPlanFor net.now text.now due.now)) }
+{
+    match shown_table(alloc, net, due, text)? {
+        Some(_) => Ok(Finding::Shown),
+        None => Ok(Finding::NotShown),
+    }
+}
+
+// The same by the due file of this name.
+fn plan_by_file<S: Shelf>(
+    alloc: Global,
+    net: &Net,
+    name: &str,
+    text: &str,
+    shelf: &mut S,
+) -> Result<Option<Finding>, OutOfMemory>
+    ensures { IfOk result (FindsByFile net.now (SaysDue net.now) (IsShownPlanFor net.now text.now)
+        name.now most_file_bytes (S.state shelf.old) (S.state shelf.new)) }
+{
+    let Some(due) = open_due(alloc, net, name, shelf)? else {
+        return Ok(None);
+    };
+    let finding = plan_finding(alloc, net, &due, text)?;
+    Ok(Some(finding))
+}
+
+// The same by what it was asked with.
+pub(crate) fn find_plan<S: Shelf>(
+    alloc: Global,
+    net: &Net,
+    beside: &Beside,
+    text: &str,
+    shelf: &mut S,
+) -> Result<Option<Finding>, OutOfMemory>
+    ensures { IfOk result (FindsPlan net.now beside.now text.now
+        (S.state shelf.old) (S.state shelf.new)) }
+{
+    match beside {
+        Beside::File { name } => plan_by_file(alloc, net, name.as_str(), text, shelf),
+        _ => Ok(Some(Finding::NoChecker)),
+    }
+}
+
+// Of `jit`, the first row that comes late.
+fn late_finding(alloc: Global, net: &Net, due: &Due, text: &str) -> Result<Finding, OutOfMemory>
+    ensures { IfOk result (IsFound net.now (IsShownLateFor net.now text.now due.now)) }
+{
+    match shown_first_late(alloc, net, due, text)? {
+        Some(_) => Ok(Finding::Shown),
+        None => Ok(Finding::NotShown),
+    }
+}
+
+// The same by the due file of this name.
+fn late_by_file<S: Shelf>(
+    alloc: Global,
+    net: &Net,
+    name: &str,
+    text: &str,
+    shelf: &mut S,
+) -> Result<Option<Finding>, OutOfMemory>
+    ensures { IfOk result (FindsByFile net.now (SaysDue net.now) (IsShownLateFor net.now text.now)
+        name.now most_file_bytes (S.state shelf.old) (S.state shelf.new)) }
+{
+    let Some(due) = open_due(alloc, net, name, shelf)? else {
+        return Ok(None);
+    };
+    let finding = late_finding(alloc, net, &due, text)?;
+    Ok(Some(finding))
+}
+
+// The same by what it was asked with.
+pub(crate) fn find_late<S: Shelf>(
+    alloc: Global,
+    net: &Net,
+    beside: &Beside,
+    text: &str,
+    shelf: &mut S,
+) -> Result<Option<Finding>, OutOfMemory>
+    ensures { IfOk result (FindsLate net.now beside.now text.now
+        (S.state shelf.old) (S.state shelf.new)) }
+{
+    match beside {
+        Beside::File { name } => late_by_file(alloc, net, name.as_str(), text, shelf),
+        _ => Ok(Some(Finding::NoChecker)),
+    }
+}
+
+// Of `date`, by the text of a list.
+fn date_finding(alloc: Global, net: &Net, list: &str, text: &str) -> Result<Finding, OutOfMemory>
+    ensures { IfOk result (IsFound net.now (IsShownDateOf net.now text.now)) }
+{
+    match shown_date(alloc, net, list, text)? {
+        Some(_) => Ok(Finding::Shown),
+        None => Ok(Finding::NotShown),
+    }
+}
+
+// The same by the file of this name, which has the list.
+fn date_by_file<S: Shelf>(
+    alloc: Global,
+    net: &Net,
+    name: &str,
+    text: &str,
+    shelf: &mut S,
+) -> Result<Option<Finding>, OutOfMemory>
+    ensures { IfOk result (FindsByFile net.now SaysText (λ _. IsShownDateOf net.now text.now)
+        name.now most_answer_bytes (S.state shelf.old) (S.state shelf.new)) }
+{
+    let Some(list) = open_text(alloc, name, shelf)? else {
+        return Ok(None);
+    };
+    let finding = date_finding(alloc, net, list.as_str(), text)?;
+    Ok(Some(finding))
+}
+
+// The same by what it was asked with.
+pub(crate) fn find_date<S: Shelf>(
+    alloc: Global,
+    net: &Net,
+    beside: &Beside,
+    text: &str,
+    shelf: &mut S,
+) -> Result<Option<Finding>, OutOfMemory>
+    ensures { IfOk result (FindsDate net.now beside.now text.now
+        (S.state shelf.old) (S.state shelf.new)) }
+{
+    match beside {
+        Beside::File { name } => date_by_file(alloc, net, name.as_str(), text, shelf),
+        _ => Ok(Some(Finding::NoChecker)),
+    }
+}
+
+// Of `timetable`, that delays are kept.
+fn kept_finding(
+    alloc: Global,
+    net: &Net,
+    period: u64,
+    table: &Timetable,
+    text: &str,
+) -> Result<Finding, OutOfMemory>
+    ensures { IfOk result (IsFound net.now (IsShownKeptFor net.now period text.now table.now)) }
+{
+    match shown_kept(alloc, net, period, table, text)? {
+        Some(_) => Ok(Finding::Shown),
+        None => Ok(Finding::NotShown),
+    }
+}
+
+// The same by the timetable's file of this name.
+fn kept_by_file<S: Shelf>(
+    alloc: Global,
+    net: &Net,
+    period: u64,
+    name: &str,
+    text: &str,
+    shelf: &mut S,
+) -> Result<Option<Finding>, OutOfMemory>
+    ensures { IfOk result (FindsByFile net.now (SaysTable net.now)
+        (IsShownKeptFor net.now period text.now)
+        name.now most_file_bytes (S.state shelf.old) (S.state shelf.new)) }
+{
+    let Some(table) = open_table(alloc, net, name, shelf)? else {
+        return Ok(None);
+    };
+    let finding = kept_finding(alloc, net, period, &table, text)?;
+    Ok(Some(finding))
+}
+
+// The same by what it was asked with.
+pub(crate) fn find_kept<S: Shelf>(
+    alloc: Global,
+    net: &Net,
+    beside: &Beside,
+    text: &str,
+    shelf: &mut S,
+) -> Result<Option<Finding>, OutOfMemory>
+    ensures { IfOk result (FindsKept net.now beside.now text.now
+        (S.state shelf.old) (S.state shelf.new)) }
+{
+    match beside {
+        Beside::Timetable { period, name } => {
+            kept_by_file(alloc, net, *period, name.as_str(), text, shelf)
+        }
+        _ => Ok(Some(Finding::NoChecker)),
+    }
+}

@@ -1,0 +1,29 @@
+//! What is found of an answer.
+ghost use Rattle.std.specs.Prelude.{◌≡◌};
+ghost use Rattle.answer_audit.specs.AuditStatuses.{finding_word};
+
+/// What is found of an answer.
+#[derive(Clone, Copy, Debug, PartialEq, Eq)]
+pub enum Finding {
+    /// It is so.
+    Shown,
+    /// It is not so: the net is seen to be live, and the answer tells a circuit without tokens, or
+    /// other counts.
+    Refuted,
+    /// Its checker does not say yes.
+    NotShown,
+    /// No checker reads it.
+    NoChecker,
+}
+
+// How it is told.
+pub(crate) fn word_of(finding: Finding) -> &'static str
+    ensures { result.now ≡ finding_word finding }
+{
+    match finding {
+        Finding::Shown => "shown",
+        Finding::Refuted => "refuted",
+        Finding::NotShown => "not shown",
+        Finding::NoChecker => "no checker",
+    }
+}

@@ -1,0 +1,153 @@
+//! What an answer is, by its first words and by what it was asked with.
+ghost use Rattle.std.specs.Prelude.{◌≡◌, map};
+ghost use Rattle.answer_audit.specs.AnswerWords.{is_deadlock_told, kind_of_lines, kind_told, none_told, of_net, pace_told, told_alone, told_beside, told_with_file, told_with_table};
+
+use crate::question::Beside;
+use crate::words::{line_at, word_at};
+
+/// An answer that is shown on the net alone.
+#[derive(Clone, Copy, Debug, PartialEq, Eq)]
+pub enum Alone {
+    /// `check`: the net is live.
+    Live,
+    /// Each command: the net is not live.
+    Deadlock,
+    /// `list`.
+    Listed,
+    /// `cycle` and `slack` of a net without a circuit.
+    NoCircuit,
+    /// `slack`.
+    Slack,
+    /// `cycle`.
+    Cycle,
+    /// `dates`.
+    Settled,
+    /// `size`.
+    Size,
+}
+
+/// What an answer is.
+#[derive(Clone, Copy, Debug, PartialEq, Eq)]
+pub enum Kind {
+    /// One that is shown on the net alone.
+    OfNet(Alone),
+    /// `jit`: latest dates.
+    Plan,
+    /// `jit`: a row that comes late.
+    LateRow,
+    /// `date`.
+    OneDate,
+    /// `timetable`: delays that are kept.
+    Kept,
+}
+
+// Whether the answer tells a circuit without tokens.
+fn is_deadlock(first: &str, second: &str) -> bool
+    ensures { result ≡ is_deadlock_told first.now second.now }
+{
+    first == "refused:" && second == "token-free"
+}
+
+// An answer that begins with `no`.
+fn none_told(second: &str) -> Option<Alone>
+    ensures { result ≡ none_told second.now }
+{
+    match second {
+        "circuit" => Some(Alone::NoCircuit),
+        _ => None,
+    }
+}
+
+// An answer that begins with `cycle`.
+fn pace_told(below: &str) -> Alone
+    ensures { result ≡ pace_told below.now }
+{
+    match below {
+        "place" => Alone::Slack,
+        _ => Alone::Cycle,
+    }
+}
+
+// An answer that was asked with the net alone.
+fn told_alone(first: &str, second: &str, below: &str) -> Option<Alone>
+    ensures { result ≡ told_alone first.now second.now below.now }
+{
+    match first {
+        "live" => Some(Alone::Live),
+        "dates" => Some(Alone::Listed),
+        "no" => none_told(second),
+        "cycle" => Some(pace_told(below)),
+        "settled" => Some(Alone::Settled),
+        "size" => Some(Alone::Size),
+        _ => None,
+    }
+}
+
+// The same among all kinds.
+fn of_net(kind: Option<Alone>) -> Option<Kind>
+    ensures { result ≡ of_net kind }
+{
+    match kind {
+        Some(kind) => Some(Kind::OfNet(kind)),
+        None => None,
+    }
+}
+
+// An answer that was asked with a file.
+fn told_with_file(first: &str) -> Option<Kind>
+    ensures { result ≡ told_with_file first.now }
+{
+    match first {
+        "latest" => Some(Kind::Plan),
+        "late" => Some(Kind::LateRow),
+        "date" => Some(Kind::OneDate),
+        _ => None,
+    }
+}
+
+// An answer that was asked with a timetable.
+fn told_with_table(first: &str, below: &str) -> Option<Kind>
+    ensures { result ≡ told_with_table first.now below.now }
+{
+    if first == "settled" && below == "kept" {
+        Some(Kind::Kept)
+    } else {
+        None
+    }
+}
+
+// An answer that tells no circuit without tokens.
+fn told_beside(beside: &Beside, first: &str, second: &str, below: &str) -> Option<Kind>
+    ensures { result ≡ told_beside beside.now first.now second.now below.now }
+{
+    match beside {
+        Beside::Nothing => of_net(told_alone(first, second, below)),
+        Beside::File { .. } => told_with_file(first),
+        Beside::Timetable { .. } => told_with_table(first, below),
+    }
+}
+
+// What an answer is; none where no checker reads it.
+fn kind_told(beside: &Beside, first: &str, second: &str, below: &str) -> Option<Kind>
+    ensures { result ≡ kind_told beside.now first.now second.now below.now }
+{
+    if is_deadlock(first, second) {
+        Some(Kind::OfNet(Alone::Deadlock))
+    } else {
+        told_beside(beside, first, second, below)
+    }
+}
+
+// What an answer of these lines is.
+pub(crate) fn kind_of(beside: &Beside, lines: &[&str]) -> Option<Kind>
+    ensures { result ≡ kind_of_lines beside.now (map (λ x. x.now) lines.now) }
+{
+    let first = line_at(lines, 0);
+    let below = line_at(lines, 1);
+    kind_told(
+        beside,
+        word_at(first, 0),
+        word_at(first, 1),
+        word_at(below, 0),
+    )
+}

@@ -1,0 +1,302 @@
+//! Whole audits over a shelf and a sink in memory: each kind of answer, texts that are not so, several
+//! questions in one call, and reads and writes that fail.
+use answer_audit::{AuditStatus, audit};
+use std::alloc::Global;
+use std::test::Fail;
+use teg_outside::{MemoryShelf, MemorySink};
+
+const RAILWAY: &str =
+    "transition = [{ name = \"North\" }, { name = \"Centre>North\" }, { name = \"Centre>South\" }, { name = \"South\" }]
+place = [
+ { name = \"north_down\", from = \"North\", to = \"Centre>North\", hold = 24, tokens = 1 },
+ { name = \"north_up\", from = \"Centre>North\", to = \"North\", hold = 24, tokens = 1 },
+ { name = \"south_down\", from = \"Centre>South\", to = \"South\", hold = 15 },
+ { name = \"south_up\", from = \"South\", to = \"Centre>South\", hold = 15, tokens = 1 },
+ { name = \"change_to_south\", from = \"North\", to = \"Centre>South\", hold = 25, tokens = 1 },
+ { name = \"change_to_north\", from = \"South\", to = \"Centre>North\", hold = 16, tokens = 1 },
+]
+";
+
+const LATE: &str = "late ship 2 due 20 least 22
+path material 1 by feed saw 1 by to_drill drill 1 by drill_free drill 2 by to_ship ship 2
+";
+
+// The files of the shelf, by name.
+const FILES: [(&str, &str); 22] = [
+    (
+        "loop",
+        "transition = [{ name = \"a\" }, { name = \"b\" }]
+place = [
+ { name = \"ab\", from = \"a\", to = \"b\", hold = 3 },
+ { name = \"ba\", from = \"b\", to = \"a\", hold = 2, tokens = 1 },
+]
+",
+    ),
+    (
+        "dead",
+        "transition = [{ name = \"a\" }, { name = \"b\" }]
+place = [
+ { name = \"ab\", from = \"a\", to = \"b\" },
+ { name = \"ba\", from = \"b\", to = \"a\" },
+]
+",
+    ),
+    (
+        "plain",
+        "transition = [{ name = \"a\" }, { name = \"b\" }]
+place = [{ name = \"ab\", from = \"a\", to = \"b\", hold = 3 }]
+",
+    ),
+    (
+        "shop",
+        "transition = [{ name = \"material\", role = \"input\" }, { name = \"saw\" }, { name = \"drill\" }, { name = \"ship\" }]
+place = [
+ { name = \"feed\", from = \"material\", to = \"saw\", hold = 2 },
+ { name = \"saw_free\", from = \"saw\", to = \"saw\", hold = 4, tokens = 1 },
+ { name = \"to_drill\", from = \"saw\", to = \"drill\", hold = 5 },
+ { name = \"drill_free\", from = \"drill\", to = \"drill\", hold = 7, tokens = 1 },
+ { name = \"to_ship\", from = \"drill\", to = \"ship\", hold = 8 },
+]
+",
+    ),
+    ("railway", RAILWAY),
+    ("live", "live\ntransitions 2\nplaces 2\n"),
+    ("other counts", "live\ntransitions 2\nplaces 3\n"),
+    ("deadlock", "refused: token-free circuit ab ba\n"),
+    ("list", "dates of 2 firings\ntransition a b\n1 0 3\n2 5 8\n"),
+    ("date", "date b 2 8\n"),
+    ("other date", "date b 2 9\n"),
+    ("none", "no circuit\n"),
+    (
+        "slack",
+        "cycle time 5/1\nplace ab critical\nplace ba critical\n",
+    ),
+    (
+        "cycle",
+        "cycle time 5/1\ncircuit ab ba\npart 1 ratio 5/1\ncircuit ab ba\npotential a 0\npotential b 3\n",
+    ),
+    (
+        "dates",
+        "settled after 0 period 1\ntransition a 0 step 5\ntransition b 3 step 5\n",
+    ),
+    ("size", "size ba 3/1 extra 1\ncircuit ab ba\n"),
+    ("due", "b,1,10\n"),
+    (
+        "plan",
+        "latest inputs for 1 firings\nlatest a 1 7 by ab\nlatest b 1 10 due\n",
+    ),
+    ("rows", "ship,1,15\nship,2,20\n"),
+    ("late", LATE),
+    (
+        "table",
+        "North,0\nCentre>North,3\nCentre>South,0\nSouth,15\nNorth,1,10\n",
+    ),
+    (
+        "kept",
+        "settled after 2 period 1\nkept\ncircuit south_down south_up\n",
+    ),
+];
+
+// The words of a call, how it ends, and what it writes.
+type Call<'a> = (&'a [&'a str], AuditStatus, &'a str);
+
+const CALLS: [Call<'static>; 32] = [
+    (&["loop", "live"], AuditStatus::Shown, "shown live\n"),
+    (
+        &["loop", "other counts"],
+        AuditStatus::Refuted,
+        "refuted live\n",
+    ),
+    (
+        &["loop", "deadlock"],
+        AuditStatus::Refuted,
+        "refuted refused: token-free circuit ab ba\n",
+    ),
+    (
+        &["dead", "deadlock"],
+        AuditStatus::Shown,
+        "shown refused: token-free circuit ab ba\n",
+    ),
+    (
+        &["dead", "deadlock", "due"],
+        AuditStatus::Shown,
+        "shown refused: token-free circuit ab ba\n",
+    ),
+    (&["dead", "live"], AuditStatus::NotShown, "not shown live\n"),
+    (
+        &["loop", "list"],
+        AuditStatus::Shown,
+        "shown dates of 2 firings\n",
+    ),
+    (
+        &["loop", "date", "list"],
+        AuditStatus::Shown,
+        "shown date b 2 8\n",
+    ),
+    (
+        &["loop", "other date", "list"],
+        AuditStatus::NotShown,
+        "not shown date b 2 9\n",
+    ),
+    (
+        &["loop", "date"],
+        AuditStatus::NoChecker,
+        "no checker date b 2 8\n",
+    ),
+    (&["plain", "none"], AuditStatus::Shown, "shown no circuit\n"),
+    (
+        &["loop", "none"],
+        AuditStatus::NotShown,
+        "not shown no circuit\n",
+    ),
+    (
+        &["loop", "slack"],
+        AuditStatus::Shown,
+        "shown cycle time 5/1\n",
+    ),
+    (
+        &["loop", "cycle"],
+        AuditStatus::Shown,
+        "shown cycle time 5/1\n",
+    ),
+    (
+        &["plain", "cycle"],
+        AuditStatus::NotShown,
+        "not shown cycle time 5/1\n",
+    ),
+    (
+        &["loop", "dates"],
+        AuditStatus::Shown,
+        "shown settled after 0 period 1\n",
+    ),
+    (
+        &["loop", "size"],
+        AuditStatus::Shown,
+        "shown size ba 3/1 extra 1\n",
+    ),
+    (
+        &["loop", "plan", "due"],
+        AuditStatus::Shown,
+        "shown latest inputs for 1 firings\nshown latest a 1 7 by ab\nshown latest b 1 10 due\n",
+    ),
+    (
+        &["loop", "plan"],
+        AuditStatus::NoChecker,
+        "no checker latest inputs for 1 firings\n",
+    ),
+    (
+        &["shop", "late", "rows"],
+        AuditStatus::Shown,
+        "shown late ship 2 due 20 least 22\n",
+    ),
+    (
+        &["railway", "kept", "30", "table"],
+        AuditStatus::Shown,
+        "shown kept\nshown circuit south_down south_up\n",
+    ),
+    (
+        &["railway", "kept", "31", "table"],
+        AuditStatus::NotShown,
+        "not shown kept\nnot shown circuit south_down south_up\n",
+    ),
+    (
+        &["loop", "nowhere"],
+        AuditStatus::NotRead,
+        "not read nowhere\n",
+    ),
+    (
+        &["nowhere", "live"],
+        AuditStatus::NotRead,
+        "not read live\n",
+    ),
+    (&["live", "live"], AuditStatus::NotRead, "not read live\n"),
+    (
+        &["loop", "plan", "nowhere"],
+        AuditStatus::NotRead,
+        "not read plan\n",
+    ),
+    (
+        &["loop", "plan", "rows"],
+        AuditStatus::NotRead,
+        "not read plan\n",
+    ),
+    (
+        &[
+            "loop", "live", "--", "loop", "due", "--", "loop", "date", "list",
+        ],
+        AuditStatus::NoChecker,
+        "shown live\nno checker b,1,10\nshown date b 2 8\n",
+    ),
+    (
+        &[
+            "loop",
+            "other counts",
+            "--",
+            "loop",
+            "nowhere",
+            "--",
+            "loop",
+            "live",
+        ],
+        AuditStatus::NotRead,
+        "refuted live\nnot read nowhere\nshown live\n",
+    ),
+    (&[], AuditStatus::Words, ""),
+    (
+        &["railway", "kept", "a week", "table"],
+        AuditStatus::Words,
+        "",
+    ),
+    (
+        &["loop", "live", "--", "loop"],
+        AuditStatus::Words,
+        "shown live\n",
+    ),
+];
+
+// A shelf with the files, whose reads with these numbers fail.
+fn shelf(alloc: Global, failing: &[u64]) -> Result<MemoryShelf, Fail> {
+    let mut files = Vec::new(alloc);
+    for (name, text) in &FILES {
+        files.push((
+            String::from_str(alloc, name)?,
+            Vec::from_slice(alloc, text.as_bytes())?,
+        ))?;
+    }
+    let failing = Vec::from_slice(alloc, failing)?;
+    Ok(MemoryShelf::new(alloc, files, failing))
+}
+
+// Whether the call with these reads that fail, into a sink of so much room, ends and writes so.
+fn is_so(alloc: Global, call: &Call<'_>, failing: &[u64], room: usize) -> Result<bool, Fail> {
+    let (asked, status, text) = *call;
+    let mut words = Vec::new(alloc);
+    for word in asked {
+        words.push(String::from_str(alloc, word)?)?;
+    }
+    let mut shelf = shelf(alloc, failing)?;
+    let mut out = MemorySink::new(alloc, 7, room, Vec::new(alloc))?;
+    let ended = audit(alloc, &words, &mut shelf, &mut out);
+    Ok(ended == status && out.contents() == text.as_bytes())
+}
+
+#[test]
+fn answers_are_audited(rt: HostRuntime) -> Result<(), Fail> {
+    for call in &CALLS {
+        assert!(rt; is_so(rt.alloc(), call, &[], 4096)?);
+    }
+    Ok(())
+}
+
+#[test]
+fn each_read_and_write_may_fail(rt: HostRuntime) -> Result<(), Fail> {
+    let alloc = rt.alloc();
+    let asked: &[&str] = &["loop", "plan", "due"];
+    let lost = (asked, AuditStatus::NotRead, "not read plan\n");
+    for number in 1..4u64 {
+        assert!(rt; is_so(alloc, &lost, &[number], 4096)?);
+    }
+    let cut = (asked, AuditStatus::WriteFault, "shown latest in");
+    assert!(rt; is_so(alloc, &cut, &[], 15)?);
+    Ok(())
+}
