@@ -51,11 +51,12 @@ impl<'n> SlackSearch<'n> {
             raised: None,
             gain: 0,
         };
+        let outgoing = PlacesOf::new(alloc, net, PlaceEnd::From)?;
         let zeros = vec![in alloc; 0i128; net.transitions().len()]?;
         let mut heights = Heights::new(alloc, &zeros)?;
-        heights.lift_on(net, &gains, None);
+        heights.open_all(net)?;
+        heights.lift_on(net, &gains, &outgoing, None)?;
         let tight = tight_places(alloc, net, &gains, &heights.potentials)?;
-        let outgoing = PlacesOf::new(alloc, net, PlaceEnd::From)?;
         Ok(SlackSearch {
             net,
             ratio,
@@ -100,6 +101,24 @@ impl<'n> SlackSearch<'n> {
         }
     }
 
+    // The potentials as they are lifted where the hold of this place is longer by so much: until no
+    // place does, or that of this transition was lifted.
+    fn raised(
+        &self,
+        alloc: Global,
+        place: PlaceId,
+        by: u64,
+        until: Option<usize>,
+    ) -> Result<Heights, AllocError> {
+        let mut heights = Heights::new(alloc, &self.potentials)?;
+        if let Some(own) = self.net.places().get(place.index()) {
+            heights.open(own.from)?;
+        }
+        let gains = self.raised_by(place, by);
+        heights.lift_on(self.net, &gains, &self.outgoing, until)?;
+        Ok(heights)
+    }
+
     // Potentials that no place lifts where the hold of this one is longer by so much.
     pub(crate) fn raised_potentials(
         &self,
@@ -107,8 +126,7 @@ impl<'n> SlackSearch<'n> {
         place: PlaceId,
         by: u64,
     ) -> Result<Vec<i128>, AllocError> {
-        let mut heights = Heights::new(alloc, &self.potentials)?;
-        heights.lift_on(self.net, &self.raised_by(place, by), None);
+        let heights = self.raised(alloc, place, by, None)?;
         Ok(heights.potentials)
     }
 
@@ -120,13 +138,9 @@ impl<'n> SlackSearch<'n> {
         place: PlaceId,
         by: u64,
     ) -> Result<Circuit, AllocError> {
-        let mut heights = Heights::new(alloc, &self.potentials)?;
-        let until = self
-            .net
-            .places()
-            .get(place.index())
-            .map(|own| own.from.index());
-        heights.lift_on(self.net, &self.raised_by(place, by), until);
+        let own = self.net.places().get(place.index());
+        let until = own.map(|own| own.from.index());
+        let heights = self.raised(alloc, place, by, until)?;
         circuit_back(alloc, self.net, &heights.by, place)
     }
 
