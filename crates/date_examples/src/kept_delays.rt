@@ -12,9 +12,10 @@ use teg_check::LiveNet;
 use teg_forever::{ForeverRefusal, forever};
 use teg_net::{DateList, Net, PlaceId, TransitionId};
 use teg_timetable::{
-    Delay, DelayRefusal, Delayed, Outcome, TableRefusal, Timetable, is_table_of,
-    paths_pass_delays_on, read_timetable, shows_kept, spread, tight_circuits_keep_delays,
+    Delay, DelayRefusal, Delayed, Outcome, Timetable, is_table_of, paths_pass_delays_on,
+    shows_kept, spread, tight_circuits_keep_delays,
 };
+use timetable_files::{TableRefusal, read_timetable};
 
 // A shuttle that takes 3 there and 4 back.
 const SHUTTLE: &[u8] = b"transition = [{ name = 'out' }, { name = 'home' }]

@@ -84,7 +84,7 @@ use Rattle.teg_sizing.specs.SizingTexts.{SaidSizing, SizingSaid, NoPlaceSaid, Is
 use Rattle.teg_sizing.proofs.Reading.{circuit_in_net}
 use Rattle.teg_timetable.specs.delay_laws.declared.table.Timetable.{Timetable}
 use Rattle.teg_timetable.specs.delay_laws.PlannedTimetables.{IsTableOf}
-use Rattle.teg_timetable.specs.TimetableFiles.{lists_of_table, timetable_of}
+use Rattle.teg_timetable.specs.timetable_files.TimetableFiles.{lists_of_table, timetable_of}
 use Rattle.teg_timetable.specs.TimetableTexts.{ToldTimetable, IsTimetableText, IsTimetableTold, delay_told, spread_told, table_told, told_lines}
 use Rattle.teg_outcome.specs.declared.outcome.Verdict.{Verdict}
 use Rattle.teg_pace_commands.specs.Bound.{SaysNoNumber, SaysNumber}

@@ -6,10 +6,10 @@ use Rattle.teg_net.specs.Nets.{NetLists}
 use Rattle.teg_report.specs.teg_text.Lines.{written}
 use Rattle.teg_timetable.specs.declared.refusals.DelayRefusal.{DelayRefusal}
 use Rattle.teg_timetable.specs.declared.refusals.DelayRefusal.TheVariants.{TooLarge, Unworkable, TooLong, OutOfMemory}
-use Rattle.teg_timetable.specs.declared.refusals.TableRefusal.{TableRefusal}
+use Rattle.teg_timetable.specs.timetable_files.declared.refusals.TableRefusal.{TableRefusal}
 use Rattle.teg_timetable.specs.DelayAnswers.{IsDelayRefusal, IsSpread}
 use Rattle.teg_timetable.specs.Spreads.{Spread}
-use Rattle.teg_timetable.specs.TimetableFiles.{lists_of_table, timetable_of}
+use Rattle.teg_timetable.specs.timetable_files.TimetableFiles.{lists_of_table, timetable_of}
 use Rattle.teg_timetable.specs.TimetableTexts.{IsTimetableText, IsTimetableTold, delay_told, spread_told, table_told, told_lines}
 use Rattle.teg_outcome.specs.declared.outcome.Verdict.{Verdict}
 use Rattle.teg_outcome.specs.declared.outcome.Verdict.TheVariants.{Done as VerdictDone, Schedule as VerdictSchedule, TooLong as VerdictTooLong}

@@ -7,7 +7,7 @@ ghost use Rattle.teg_date_commands.specs.Timetable.{EndsUnspread, SaysDelays, Sa
 ghost use Rattle.teg_settle.specs.LimitRefusals.{greatest_limit};
 ghost use Rattle.teg_timetable.specs.DelayAnswers.{IsDelayRefusalIn};
 ghost use Rattle.teg_timetable.specs.Spreads.{greatest_period};
-ghost use Rattle.teg_timetable.specs.TimetableFiles.{IsTableRefusalIn};
+ghost use Rattle.teg_timetable.specs.timetable_files.TimetableFiles.{IsTableRefusalIn};
 
 use crate::limits::most_of;
 use std::alloc::Global;

@@ -1,7 +1,4 @@
 pub mod TopsUpTo
-pub mod EntryRules
-pub mod Splitting
-pub mod Refused
 pub mod Building
 pub mod Releasing
 pub mod DerivedNet

@@ -15,7 +15,7 @@ use Rattle.delay_laws.specs.Delays.{IsReleaseAt}
 use Rattle.delay_laws.proofs.Releases.{release_rises}
 use Rattle.teg_net.specs.Limits.{greatest_input_date}
 use Rattle.teg_net.specs.Nets.{NetLists}
-use Rattle.teg_timetable.specs.Departures.{or_second}
+use Rattle.timetable_files.specs.Departures.{or_second}
 use Rattle.teg_timetable.specs.DelaysByNumber.{given_in}
 use Rattle.teg_timetable.specs.ReleaseNetsBuilt.{ArePlannedReleases}
 

@@ -1,8 +1,3 @@
-pub mod Entries
-pub mod EntryRules
-pub mod TimetableFiles
-pub mod TableFiles
-pub mod Departures
 pub mod Spreads
 pub mod PlannedNets
 pub mod DelaysByNumber
@@ -11,3 +6,4 @@ pub mod WaysBack
 pub mod DelayAnswers
 pub mod TimetableTexts
 pub use Rattle.delay_laws.specs as delay_laws
+pub use Rattle.timetable_files.specs as timetable_files

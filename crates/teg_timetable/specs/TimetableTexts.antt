@@ -9,8 +9,8 @@ use Rattle.teg_net.specs.Circuits.{AreInRange}
 use Rattle.teg_text.specs.Faults.{row_line}
 use Rattle.teg_text.specs.Lines.{phrase, written}
 use Rattle.teg_text.specs.WordsOfNames.{circuit_line, name_of_place, name_of_transition, settled_words}
-use Rattle.teg_timetable.specs.declared.refusals.TableRefusal.{TableRefusal}
-use Rattle.teg_timetable.specs.declared.refusals.TableRefusal.TheVariants as table
+use Rattle.timetable_files.specs.declared.refusals.TableRefusal.{TableRefusal}
+use Rattle.timetable_files.specs.declared.refusals.TableRefusal.TheVariants as table
 use Rattle.teg_timetable.specs.declared.refusals.DelayRefusal.{DelayRefusal}
 use Rattle.teg_timetable.specs.declared.refusals.DelayRefusal.TheVariants as delay
 use Rattle.teg_settle.specs.settled_laws.SettledForms.{settled_length}

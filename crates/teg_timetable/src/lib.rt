@@ -1,15 +1,15 @@
 //! How delays spread through a timetable (chapters 2 and 3).
 //!
-//! [`read_timetable`] answers the timetable that a file says of a net, or its first faulty row with
-//! the first of its faults. [`spread`] follows its delays: a [`Delayed`] tells the delay that is
-//! left at each departure, past which number the delays go on in periods, and whether they die out
-//! or a circuit without spare time keeps them. [`spread_text`], [`table_refusal_text`] and
-//! [`delay_refusal_text`] are the texts of answers; different ones about one net have different
-//! texts. The dates are settled as those of a net in which each departure also waits for an input
-//! of its own. The crate stands on `delay_laws` for what delays are, on `teg_settle` and
-//! `settled_laws` for settled forms, on `teg_due` and `csv_records` for the reader of rows, on
-//! `teg_text` for texts, on `teg_net` and `teg_check` for nets, and on `dioid` for dates. Its
-//! examples stand in `date_examples`, in `kept_delays.rt`.
+//! [`read_timetable`] of `timetable_files`, which this crate hands on, answers the timetable that a
+//! file says of a net, or its first faulty row. [`spread`] follows its delays: a [`Delayed`] tells
+//! the delay that is left at each departure, past which number the delays go on in periods, and
+//! whether they die out or a circuit without spare time keeps them. [`spread_text`],
+//! [`table_refusal_text`] and [`delay_refusal_text`] are the texts of answers; different ones about
+//! one net have different texts. The dates are settled as those of a net in which each departure
+//! also waits for an input of its own. The crate stands on `delay_laws` for what delays are, on
+//! `timetable_files` for files, on `teg_settle` and `settled_laws` for settled forms, on `teg_text`
+//! for texts, on `teg_net` and `teg_check` for nets, and on `dioid` for dates. Its examples stand in
+//! `date_examples`, in `kept_delays.rt`.
 //!
 //! A refusal of [`spread`] is told by its first cause: a net that is too large, the lowest numbered
 //! place that does not get its time, a form that is longer than the limit.
@@ -34,16 +34,13 @@
 mod circuits;
 mod delayed;
 mod derived;
-mod entries;
 mod late;
 mod left;
 mod outcomes;
 mod planned;
-mod reading;
 mod refusals;
 mod releases;
 mod spreading;
-mod tables;
 mod texts;
 mod workable;
 
@@ -52,7 +49,7 @@ pub use delay_laws::{
     tight_circuits_keep_delays,
 };
 pub use delayed::Delayed;
-pub use refusals::{DelayRefusal, TableRefusal};
+pub use refusals::DelayRefusal;
 pub use spreading::spread;
-pub use tables::read_timetable;
 pub use texts::{delay_refusal_text, spread_text, table_refusal_text, texts_of_timetables_differ};
+pub use timetable_files::{TableRefusal, read_timetable};

@@ -2,7 +2,7 @@
 //! one.
 ghost use Rattle.std.specs.Prelude.{ℕ, ◌≡◌, ◌≤◌, ◌<◌, ◌+◌, ◌*◌, ◌∷◌, [], None, length, IfOk, slice_index_or};
 ghost use Rattle.delay_laws.specs.PlannedTimetables.{IsDelayOf, IsPastDelays, greatest_delay};
-ghost use Rattle.teg_timetable.specs.Departures.{or_second};
+ghost use Rattle.timetable_files.specs.Departures.{or_second};
 ghost use Rattle.teg_timetable.specs.DelaysByNumber.{given_in, most_releases};
 ghost use Rattle.teg_timetable.specs.ReleaseNetsBuilt.{AreBuilt, ArePlannedReleases};
 

@@ -6,15 +6,16 @@ ghost use Rattle.teg_text.specs.Lines.{line_then, written};
 ghost use Rattle.teg_text.specs.WordsOfNames.{name_of_transition};
 ghost use Rattle.teg_timetable.specs.DelayAnswers.{IsOutcomeIn, IsDelayRefusalIn};
 ghost use Rattle.teg_timetable.specs.Spreads.{delay_by_spread, outcome_told};
-ghost use Rattle.teg_timetable.specs.TimetableFiles.{IsTableRefusalIn};
+ghost use Rattle.timetable_files.specs.TimetableFiles.{IsTableRefusalIn};
 ghost use Rattle.teg_timetable.specs.TimetableTexts.{AreLeftDelaysShort, IsOutcomeToldOf, IsTimetableText, IsTimetableTold, TextsOfTimetablesDiffer, delay_told, delays_line, delays_up_to, kept_lines, outcome_lines, spread_told, table_told, told_lines};
 
 use crate::delayed::Delayed;
-use crate::refusals::{DelayRefusal, TableRefusal};
+use crate::refusals::DelayRefusal;
 use delay_laws::Outcome;
 use std::alloc::{AllocError, Global};
 use teg_net::{Circuit, Net, OutOfMemory, TransitionId};
 use teg_text::{push_circuit, row_fault};
+use timetable_files::TableRefusal;
 
 // Begins the line of the delays of the transition of this number, counted from 0.
 fn begin_line(text: &mut String, net: &Net, index: usize) -> Result<(), AllocError>

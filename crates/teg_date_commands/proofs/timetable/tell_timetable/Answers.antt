@@ -1,7 +1,7 @@
 use Rattle.std.proofs.Common.{◌≡◌, Ok, inr, subst}
 use Rattle.teg_timetable.specs.delay_laws.PlannedTimetables.{IsTableOf}
 use Rattle.teg_net.specs.Nets.{NetLists}
-use Rattle.teg_timetable.specs.TimetableFiles.{lists_of_table, timetable_of}
+use Rattle.teg_timetable.specs.timetable_files.TimetableFiles.{lists_of_table, timetable_of}
 use Rattle.teg_outcome.proofs.Telling.{tells_weaker}
 use Rattle.teg_date_commands.proofs.timetable.tell_timetable.Goals as goal
 

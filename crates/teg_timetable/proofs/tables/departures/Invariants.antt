@@ -1,6 +1,0 @@
-use Rattle.std.proofs.Common.{take}
-use Rattle.teg_timetable.specs.Departures.{AreDepartures}
-use Rattle.teg_timetable.proofs.tables.departures.Given as goal
-
-abbrev pub invariant-loop-entry : goal.invariant-loop-entry
-invariant-loop-entry l = AreDepartures l.fn.width (take l.entry-index l.entries) l.cells.items
