@@ -1,0 +1,2 @@
+pub mod PartDates
+pub mod PartRules

@@ -1,0 +1,8 @@
+use Rattle.std.proofs.Common.{ℕ, ◌<◌, IsTrue, length, get_or}
+use Rattle.teg_net.specs.declared.entries.Place.{Place}
+use Rattle.teg_upstream.specs.Parts.{ends_marked, is_marked}
+use Rattle.teg_upstream.proofs.marks.are_closed.Given as goal
+
+abbrev pub invariant-loop-place : goal.invariant-loop-place
+invariant-loop-place l =
+    (i : ℕ) (d : Place) → i < length l.place-items → i < l.place-index → IsTrue (ends_marked l.marks (get_or l.place-items i d)) → IsTrue (is_marked l.marks (get_or l.place-items i d).from.index)
