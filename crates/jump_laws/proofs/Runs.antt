@@ -67,7 +67,7 @@ by_run_before r other t k h =
     rw a refl
 
 -- a run that has the number tells its date
-runs_tell : (count : ℕ) (x : ℕ → ℕ → Date) (rs : List Run) → All (IsRunOf count x) rs → (t k : ℕ) → t < count
+pub runs_tell : (count : ℕ) (x : ℕ → ℕ → Date) (rs : List Run) → All (IsRunOf count x) rs → (t k : ℕ) → t < count
     → (i : ℕ) (d : Run) → i < length rs → IsInRun (get_or rs i d) k → date_by_runs rs t k ≡ x t k
 runs_tell count x [] h t k l i d m has = absurd (omega (arith, m))
 runs_tell count x (r ∷ rs) h t k l zero d m has = by_run_in r (date_by_runs rs t k) t k has ∙ tell_dates count x r (h 0 d (omega arith)) t k l has

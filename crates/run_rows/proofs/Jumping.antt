@@ -180,9 +180,9 @@ module _ (net : NetLists) (ok : IsNet net) (live : IsLive net) (after : ℕ) (ro
             (cases_lt t (length net.transitions));
       }
 
-  pub jump_run : (number : ℕ) → (after + rows.count) + turns * last.turn ≤ number
-      → IsJumpRun net after rows.count number (run_of last.first last.turn (turns + 1) last.dates last.steps)
-  jump_run number few =
+  pub jump_run : (number : ℕ) → (after + rows.count) + turns * last.turn ≤ number → most ≤ turns * last.turn
+      → IsJumpRun net most after rows.count number (run_of last.first last.turn (turns + 1) last.dates last.steps)
+  jump_run number few far =
       let first = lt.first in
       let all : (turns + 1) * turn ≡ turns * turn + turn = grind arith in
       let one_turn : 1 * turn ≤ turns * turn = mul-le-mul_right turn go in
@@ -196,5 +196,6 @@ module _ (net : NetLists) (ok : IsNet net) (live : IsLive net) (after : ℕ) (ro
         };
         begins = omega (arith, first, fits, one);
         on = omega (arith, one_turn, is, some);
+        long = omega (arith, far);
         up_to = few;
       }

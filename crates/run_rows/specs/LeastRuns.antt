@@ -1,5 +1,5 @@
 -- Runs of the least dating of a net, and the rows that go on from them.
-use Rattle.std.specs.Prelude.{ℕ, ◌+◌, ◌<◌, ◌≤◌, ◌≡◌, List, length, nat_le, if◌then◌else◌}
+use Rattle.std.specs.Prelude.{ℕ, ◌+◌, ◌<◌, ◌≤◌, ◌≡◌, List, All, Any, length, nat_le, if◌then◌else◌}
 use Rattle.dioid.specs.declared.dates.Date.{Date}
 use Rattle.dioid.specs.declared.dates.Date.TheVariants.{Early}
 use Rattle.teg_net.specs.Limits.{greatest_firing_number}
@@ -9,11 +9,20 @@ use Rattle.teg_model.specs.DateBounds.{IsDateWithin, greatest_least_date}
 use Rattle.teg_model.specs.Datings.{IsLeastDating, at_input, available_at, listed_releases, system_with}
 use Rattle.teg_model.specs.Systems.{System}
 use Rattle.date_rows.specs.DateTables.{TableDates, date_at}
-use Rattle.jump_laws.specs.Runs.{Run, AreRunsUpTo, date_by_runs}
+use Rattle.jump_laws.specs.Runs.{Run, AreRunsUpTo, IsInRun, IsRunOf, date_by_runs}
 
 -- runs of the least dating of the net, of which some has each number up to `last`
 abbrev pub AreLeastRuns : NetLists → ℕ → List Run → Type 0
 AreLeastRuns net last runs = (x : ℕ → ℕ → Date) → IsLeastDating net x → AreRunsUpTo (length net.transitions) x last runs
+
+-- runs of x of which some has each number up to `last` behind which there are fewer than `most` of these
+pub record AreRunsLately (count : ℕ) (x : ℕ → ℕ → Date) (most last : ℕ) (rs : List Run) : Type 0 where
+  pub runs : All (IsRunOf count x) rs
+  pub cover : (k : ℕ) → 1 ≤ k → last < k + most → k ≤ last → Any (λ r. IsInRun r k) rs
+
+-- such runs of the least dating of the net
+abbrev pub AreLateRuns : NetLists → ℕ → ℕ → List Run → Type 0
+AreLateRuns net most last runs = (x : ℕ → ℕ → Date) → IsLeastDating net x → AreRunsLately (length net.transitions) x most last runs
 
 -- the rows have the dates of the least dating from the number past `after` on
 pub record AreRowsPast (net : NetLists) (after : ℕ) (rows : TableDates) : Type 0 where

@@ -35,10 +35,11 @@ pub record IsLeastRun (net : NetLists) (before end : ℕ) (r : Run) : Type 0 whe
   pub from : r.first ≤ before + 1
   pub to : r.first + r.turns * r.turn ≡ end + 1
 
--- a run of it that begins in so many rows past `after` and leads on past them, at most up to this number
-pub record IsJumpRun (net : NetLists) (after count number : ℕ) (r : Run) : Type 0 where
+-- a run of it that begins in so many rows past `after` and leads on past them by `most` numbers, at most up to this number
+pub record IsJumpRun (net : NetLists) (most after count number : ℕ) (r : Run) : Type 0 where
   pub end : ℕ
   pub run : IsLeastRun net (after + count) end r
   pub begins : 1 ≤ r.first
   pub on : after + count < end
+  pub long : after + count + most ≤ end
   pub up_to : end ≤ number

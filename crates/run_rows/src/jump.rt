@@ -31,7 +31,8 @@ pub(crate) fn jump(
     requires tokens { All (λ p. p.tokens ≤ most) net.now.places }
     requires before { after + rows.now.count ≤ number }
     requires number { number ≤ greatest_firing_number }
-    ensures { IfOk result (λ run. IfSome run (IsJumpRun net.now after rows.now.count number)) }
+    ensures { IfOk result (λ run. IfSome run (IsJumpRun net.now most after
+        rows.now.count number)) }
 {
     // The net keeps its rules.
     net.rules();

@@ -5,9 +5,10 @@
 //! up to a number of at most 10^18. What a call takes depends on how often one circuit overtakes
 //! another and on the turn, and hardly on the number: rows are made of two turns at least, so where
 //! circuits of many coprime numbers of tokens stand in one net, `date_of` of `teg_settle` is
-//! quicker. The crate stands on `jump_laws` for how far turns go on, on `date_rows` for rows, on
-//! `teg_check` for ranks, on `teg_model` for datings, on `teg_net` for nets, and on `dioid` for
-//! dates. Its examples stand in `date_examples`, in `jumps.rt`.
+//! quicker. [`date_past_rows`] goes on from rows that a caller has, for one that asks the form of
+//! these rows too. The crate stands on `jump_laws` for how far turns go on, on `date_rows` for
+//! rows, on `teg_check` for ranks, on `teg_model` for datings, on `teg_net` for nets, and on
+//! `dioid` for dates. Its examples stand in `date_examples`, in `jumps.rt`.
 //!
 //! ## How it works
 //!
@@ -29,5 +30,5 @@ mod past;
 mod runs;
 mod turn;
 
-pub use by_jumps::{date_by_jumps, dates_by_jumps};
+pub use by_jumps::{date_by_jumps, date_past_rows, dates_by_jumps};
 pub use runs::RunRows;

@@ -6,7 +6,7 @@ pub jump-requires-clause-rows : goal.jump-requires-clause-rows
 jump-requires-clause-rows c =
     let past = c.args.past.now in
     let stage = c.stretch.invariant.stage_in in
-    rows_past c.args.net.now c.new-rows.ensures.rules c.args.live.now c.requires.stands past.runs.now.runs past.after c.requires.runs c.in_ok-rows.rows c.in_ok-rows.ensures.rows
+    rows_past c.args.net.now c.new-rows.ensures.rules c.args.live.now c.requires.stands c.args.most c.requires.one c.requires.tokens past.runs.now.runs past.after c.requires.runs c.in_ok-rows.rows c.in_ok-rows.ensures.rows
     (omega (arith, c.in_ok-rows.ensures.count, stage, c.requires.number, c.requires.before))
 
 pub returns-in-Some : goal.returns-in-Some
@@ -17,7 +17,7 @@ returns-in-Some c =
     let more = inv.stage_more (rw c.count.ensures.value at c.stretch-test.true) in
     let count = c.in_ok-rows.ensures.count in
     record {
-      rows = rows_past c.args.net.now c.new-rows.ensures.rules c.args.live.now c.requires.stands past.runs.now.runs past.after c.requires.runs c.in_ok-rows.rows c.in_ok-rows.ensures.rows
+      rows = rows_past c.args.net.now c.new-rows.ensures.rules c.args.live.now c.requires.stands c.args.most c.requires.one c.requires.tokens past.runs.now.runs past.after c.requires.runs c.in_ok-rows.rows c.in_ok-rows.ensures.rows
           (omega (arith, count, stage, c.requires.number, c.requires.before));
       some = omega (arith, count, more);
       few = omega (arith, count, stage, c.requires.before);
@@ -31,9 +31,9 @@ returns c =
     let within = inv.within in
     let all = rw c.count.ensures.value at c.stretch-test.false in
     record {
-      rows = rows_past c.args.net.now c.new-rows.ensures.rules c.args.live.now c.requires.stands past.runs.now.runs past.after c.requires.runs c.stretch.rows inv.rows
+      rows = rows_past c.args.net.now c.new-rows.ensures.rules c.args.live.now c.requires.stands c.args.most c.requires.one c.requires.tokens past.runs.now.runs past.after c.requires.runs c.stretch.rows inv.rows
           (omega (arith, within, c.requires.number, c.requires.before));
-      some = omega (arith, all, c.requires.before);
+      some = omega (arith, all, c.requires.before, c.requires.some);
       few = omega (arith, within, c.requires.before);
-      ends = omega (arith, within, all, c.requires.before);
+      ends = tt;
     }

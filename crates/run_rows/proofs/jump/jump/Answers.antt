@@ -1,10 +1,9 @@
-use Rattle.std.proofs.Common.{ℕ, ◌+◌, ◌-◌, ◌*◌, ◌≤◌, ◌≡◌, [], refl, subst, sym, arith}
+use Rattle.std.proofs.Common.{ℕ, ◌+◌, ◌-◌, ◌*◌, ◌≤◌, ◌≡◌, refl, subst, sym, arith}
 use Rattle.std.specs.Prelude.{◌/◌}
 use Rattle.std.proofs.Math.Nat.{le-div_iff_mul-le}
 use Rattle.teg_check.proofs.Liveness.{ranking_is_live}
 use Rattle.run_rows.specs.ReadRuns.{MovesInRows}
 use Rattle.run_rows.proofs.GoneOn.{dated, earliest, is}
-use Rattle.run_rows.proofs.Joining.{none_join}
 use Rattle.run_rows.proofs.Jumping.{jump_is_roomy, jump_run}
 use Rattle.run_rows.proofs.jump.jump.Goals as goal
 
@@ -30,7 +29,7 @@ lasting-requires c =
     c.requires.one (rw turn_is some) (rw turn_is c.in-Some.ensures.fits) c.requires.tokens
     (rw (turn_is, ← count_is) (c.lists_go_on.ensures c.if-not-lists_go_on.false)) (λ t l. subst (λ z. MovesInRows c.args.after rows last z t) (sym from_is) (c.moves.ensures c.if-not-moves.false t l))
     left.in_time (omega (arith, c.if-turns-lt2.false))
-    (earliest net ranks) (is net ok ranks rank [] 0 (none_join net)) (dated net ok ranks rank [] 0 (none_join net))
+    (earliest net ranks) (is net ok ranks rank) (dated net ok ranks rank)
     (rw turn_is (omega (arith, fits, count_is, c.requires.before, c.requires.number)))
 
 pub returns : goal.returns
@@ -45,9 +44,10 @@ returns c =
     let from_is : (((rows.count - last.turn) - last.turn) - c.args.most) + 1 ≡ (((c.count-count.result - c.in-Some.turn) - c.in-Some.turn) - c.args.most) + 1 = rw (turn_is, count_is) refl in
     let some = c.in-Some.ensures.some in
     let fits = turns_fit c.turns_left-turns.result _ c.in-Some.turn some left.within in
+    let long : c.args.most ≤ c.turns_left-turns.result * c.in-Some.turn = omega (arith, c.if-turns-lt2.false) in
     rw c.lasting.ensures
     (jump_run net c.rules.ensures (ranking_is_live net ranks c.requires.stands) c.args.after rows c.requires.rows last c.in_ok-last.ensures.last c.args.most c.turns_left-turns.result
     c.requires.one (rw turn_is some) (rw turn_is c.in-Some.ensures.fits) c.requires.tokens
     (rw (turn_is, ← count_is) (c.lists_go_on.ensures c.if-not-lists_go_on.false)) (λ t l. subst (λ z. MovesInRows c.args.after rows last z t) (sym from_is) (c.moves.ensures c.if-not-moves.false t l))
     left.in_time (omega (arith, c.if-turns-lt2.false))
-    c.args.number (rw turn_is (omega (arith, fits, count_is, c.requires.before))))
+    c.args.number (rw turn_is (omega (arith, fits, count_is, c.requires.before))) (rw turn_is long))
