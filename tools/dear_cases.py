@@ -565,7 +565,21 @@ def rows_cases():
     yield late_overtaken(380, 9_900, 7, 20_000)
     yield hub_inputs(10, 10)
     yield hub_inputs(20, 20)
+    yield crossing_rows(50)
     yield wide_replay(100_000)
+
+
+def crossing_rows(ends, every=998, unit=1_000):
+    """Rows behind a hub of two own places of even numbers of tokens: firing k + 1 comes at k times the unit at most, and
+    one unit earlier where k is odd, as it is due. The due dates of all numbers lie in part under the dates of some, but
+    those of even numbers over the dates of even ones, and so do those of odd ones, which is all that meet."""
+    names = ["s0", "s1", "h"] + [f"d{k}" for k in range(ends)]
+    places = [(f"l{k}", f"s{k}", f"s{k}", own * unit, own) for k, own in enumerate((178, 202))]
+    places += [(f"m{k}", f"s{k}", "h", 0, 0) for k in range(2)] + [(f"d{k}", "h", f"d{k}", 0, 0) for k in range(ends)]
+    dates = ",".join(str(unit * (k - k % 2)) for k in range(every))
+    return (f"forever: {ends} rows that share a divisor with a period of 17,978, none late", ["forever", "net", "rows"],
+            {"net": Net(names, places).text(), "rows": "".join(f"d{k},{every},{every * unit},{dates}\n" for k in range(ends))},
+            DONE, "latest inputs forever\n")
 
 
 def wide_replay(firings):

@@ -1,10 +1,11 @@
 -- Lines that keep dates and due dates apart, and what they tell.
-use Rattle.std.proofs.Common.{ℕ, zero, suc, ◌≡◌, ◌<◌, ◌≤◌, ◌+◌, ◌-◌, ◌*◌, ◌/◌, ◌%◌, ◌∙◌, Some, pos, length, sym, ap, subst, arith, ⊎_elim}
+use Rattle.std.proofs.Common.{ℕ, zero, suc, ◌≡◌, ◌<◌, ◌≤◌, ◌+◌, ◌-◌, ◌*◌, ◌/◌, ◌%◌, ◌∙◌, Some, pos, length, refl, sym, ap, subst, arith, ⊎_elim}
 use Rattle.std.specs.Prelude.{Option, None, IfNone, IfSome}
+use Rattle.std.specs.Int.{◌∣◌}
 use Rattle.std.proofs.lemmas.Bool.{cases_lt}
 use Rattle.std.proofs.lemmas.Int.{ints}
-use Rattle.std.proofs.lemmas.Nat.{div-add-mod', mul-le}
-use Rattle.std.proofs.Math.Nat.{eq-or-lt_of_le, mod-lt, mul-le-mul_left}
+use Rattle.std.proofs.lemmas.Nat.{div-add-mod', div_below, mod_below, mul-le}
+use Rattle.std.proofs.Math.Nat.{div-mul_cancel, eq-or-lt_of_le, mod-lt, mod-mod_of_dvd, mul-le-mul_left}
 use Rattle.dioid.specs.declared.dates.Date.{Date}
 use Rattle.dioid.specs.declared.dates.Date.TheVariants.{At}
 use Rattle.dioid.specs.Dates.{move}
@@ -15,19 +16,21 @@ use Rattle.endless_due.specs.declared.row.EndlessRow.{EndlessRow}
 use Rattle.endless_due.specs.EndlessRows.{IsEndlessRow, row_due}
 use Rattle.forever_laws.specs.Late.{NoneLateTo, NoneLate}
 use Rattle.teg_net.specs.Nets.{NetLists}
-use Rattle.teg_forever.specs.LateFirings.{AreDatesUnder, AreDuesOver, GoesOnBySteps, IsClimbing, NoneLatePast, RisesIn}
+use Rattle.teg_forever.specs.declared.leads.Class.{Class}
+use Rattle.teg_forever.specs.declared.settled_row.Cycle.{Cycle}
+use Rattle.teg_forever.specs.LateFirings.{AreDatesUnder, AreDuesOver, GoesOnBySteps, IsClassOf, IsClimbing, NoneLateInClass, NoneLatePast, RisesIn, member}
 use Rattle.teg_forever.proofs.Cycles.{rises_times}
 
 -- ---- numbers
 
-distributes : (a b c : ℕ) → a * (b + c) ≡ a * b + a * c
+pub distributes : (a b c : ℕ) → a * (b + c) ≡ a * b + a * c
 distributes a b c = grind arith
 
 -- a number below a line is no greater than one above another, which begins no lower and rises no slower
 pub keep_apart : (firings rise every gap under over date due m i q j p : ℕ) → 1 ≤ firings → 1 ≤ every
     → m ≡ q * firings + i → m ≡ p * every + j
-    → firings * date ≤ under + rise * i → over + gap * j ≤ every * due + gap * every
-    → every * under + firings * (gap * every) ≤ firings * over → rise * every ≤ firings * gap
+    → firings * date + rise * firings ≤ under + rise * i → over + gap * j ≤ every * due + gap * every
+    → every * under + firings * (gap * every) ≤ firings * over + rise * firings * every → rise * every ≤ firings * gap
     → date + q * rise ≤ due + p * gap
 keep_apart firings rise every gap under over date due m i q j p one two first second low high start slope =
     let z : ℕ = date + q * rise in
@@ -36,11 +39,12 @@ keep_apart firings rise every gap under over date due m i q j p one two first se
     let on : gap * m ≡ gap * (p * every) + gap * j = ap (λ (n : ℕ). gap * n) second ∙ distributes gap (p * every) j in
     let dates : firings * z ≡ firings * date + rise * (q * firings) = grind arith in
     let dues : every * d ≡ every * due + gap * (p * every) = grind arith in
-    let below : firings * z ≤ under + rise * m = omega arith in
+    let below : firings * z + rise * firings ≤ under + rise * m = omega arith in
     let above : over + gap * m ≤ every * d + gap * every = omega arith in
-    let left : every * (firings * z) ≤ every * (under + rise * m) = mul-le-mul_left {m = firings * z} {n = under + rise * m} every below in
+    let left : every * (firings * z + rise * firings) ≤ every * (under + rise * m) = mul-le-mul_left {m = firings * z + rise * firings} {n = under + rise * m} every below in
     let right : firings * (over + gap * m) ≤ firings * (every * d + gap * every) = mul-le-mul_left {m = over + gap * m} {n = every * d + gap * every} firings above in
     let open_above : firings * (every * d + gap * every) ≡ firings * (every * d) + firings * (gap * every) = grind arith in
+    let open_below : every * (firings * z + rise * firings) ≡ every * (firings * z) + rise * firings * every = grind arith in
     let open_left : every * (under + rise * m) ≡ every * under + rise * every * m = grind arith in
     let open_right : firings * (over + gap * m) ≡ firings * over + firings * gap * m = grind arith in
     let slopes : m * (rise * every) ≤ m * (firings * gap) = mul-le-mul_left {m = rise * every} {n = firings * gap} m slope in
@@ -57,36 +61,49 @@ keep_apart firings rise every gap under over date due m i q j p one two first se
     (λ (not_late : z ≤ d). not_late)
     (cases_lt d z)
 
+-- a place among those of a period, by the class of the number whose place it is
+pub member_of : (class : Class) (m period : ℕ) → 1 ≤ period → class.rest < class.divisor → class.divisor ∣ period → m % class.divisor ≡ class.rest
+    → (m % period / class.divisor < period / class.divisor) × (member class (m % period / class.divisor) ≡ m % period)
+member_of class m period one low divides rest =
+    let g : ℕ = class.divisor in
+    let i : ℕ = m % period in
+    let within : i < period = mod-lt m one in
+    let whole : period / g * g ≡ period = div-mul_cancel g divides in
+    let parts : i / g * g + i % g ≡ i = div-add-mod' i g in
+    let same : i % g ≡ class.rest = mod-mod_of_dvd g m divides ∙ rest in
+    (div_below i g (period / g) (omega (arith, low)) (omega (arith, within, whole)), omega (arith, parts, same))
+
 -- ---- the lines
 
 -- one date more is not above the line
-pub under_more : (f : SettledForm) (t past firings rise start next place date : ℕ)
-    → ((i z : ℕ) → i < place → settled_date f t (past + 1 + i) ≡ At (pos z) → firings * z ≤ start + rise * i)
-    → settled_date f t (past + 1 + place) ≡ At (pos date) → start ≤ next → firings * date ≤ next + rise * place
-    → (i z : ℕ) → i < place + 1 → settled_date f t (past + 1 + i) ≡ At (pos z) → firings * z ≤ next + rise * i
-under_more f t past firings rise start next place date old here up low i z l e = ⊎_elim
-    (λ (last : i ≡ place).
-    let there : settled_date f t (past + 1 + place) ≡ At (pos z) = subst (λ (n : ℕ). settled_date f t (past + 1 + n) ≡ At (pos z)) last e in
+pub under_more : (f : SettledForm) (t past : ℕ) (cycle : Cycle) (class : Class) (start next number date : ℕ)
+    → ((i z : ℕ) → i < number → settled_date f t (past + 1 + member class i) ≡ At (pos z) → cycle.firings * z + cycle.rise * cycle.firings ≤ start + cycle.rise * member class i)
+    → settled_date f t (past + 1 + member class number) ≡ At (pos date) → start ≤ next → cycle.firings * date + cycle.rise * cycle.firings ≤ next + cycle.rise * member class number
+    → (i z : ℕ) → i < number + 1 → settled_date f t (past + 1 + member class i) ≡ At (pos z) → cycle.firings * z + cycle.rise * cycle.firings ≤ next + cycle.rise * member class i
+under_more f t past cycle class start next number date old here up low i z l e = ⊎_elim
+    (λ (last : i ≡ number).
+    let there : settled_date f t (past + 1 + member class number) ≡ At (pos z) = subst (λ (n : ℕ). settled_date f t (past + 1 + member class n) ≡ At (pos z)) last e in
     let both : At (pos date) ≡ At (pos z) = sym here ∙ there in
     let same : date ≡ z = cc in
-    subst (λ (n : ℕ). firings * z ≤ next + rise * n) (sym last) (subst (λ (n : ℕ). firings * n ≤ next + rise * place) same low))
-    (λ (before : i < place). let kept = old i z before e in omega arith)
-    (eq-or-lt_of_le {n = i} {m = place} (omega arith))
+    subst (λ (n : ℕ). cycle.firings * z + cycle.rise * cycle.firings ≤ next + cycle.rise * member class n) (sym last)
+    (subst (λ (n : ℕ). cycle.firings * n + cycle.rise * cycle.firings ≤ next + cycle.rise * member class number) same low))
+    (λ (before : i < number). let kept = old i z before e in omega arith)
+    (eq-or-lt_of_le {n = i} {m = number} (omega arith))
 
 -- one due date more is not below it
-pub over_more : (r : EndlessRow) (past start next place due : ℕ)
-    → ((j d : ℕ) → j < place → row_due r (past + 1 + j) ≡ Some d → start + r.gap * j ≤ r.every * d + r.gap * r.every)
-    → row_due r (past + 1 + place) ≡ Some due → next ≤ start → next + r.gap * place ≤ r.every * due + r.gap * r.every
-    → (j d : ℕ) → j < place + 1 → row_due r (past + 1 + j) ≡ Some d → next + r.gap * j ≤ r.every * d + r.gap * r.every
-over_more r past start next place due old here down high j d l e = ⊎_elim
-    (λ (last : j ≡ place).
-    let there : row_due r (past + 1 + place) ≡ Some d = subst (λ (n : ℕ). row_due r (past + 1 + n) ≡ Some d) last e in
+pub over_more : (r : EndlessRow) (past : ℕ) (class : Class) (start next number due : ℕ)
+    → ((j d : ℕ) → j < number → row_due r (past + 1 + member class j) ≡ Some d → start + r.gap * member class j ≤ r.every * d + r.gap * r.every)
+    → row_due r (past + 1 + member class number) ≡ Some due → next ≤ start → next + r.gap * member class number ≤ r.every * due + r.gap * r.every
+    → (j d : ℕ) → j < number + 1 → row_due r (past + 1 + member class j) ≡ Some d → next + r.gap * member class j ≤ r.every * d + r.gap * r.every
+over_more r past class start next number due old here down high j d l e = ⊎_elim
+    (λ (last : j ≡ number).
+    let there : row_due r (past + 1 + member class number) ≡ Some d = subst (λ (n : ℕ). row_due r (past + 1 + member class n) ≡ Some d) last e in
     let both : Some due ≡ Some d = sym here ∙ there in
     let same : due ≡ d = cc in
-    subst (λ (n : ℕ). next + r.gap * n ≤ r.every * d + r.gap * r.every) (sym last)
-    (subst (λ (n : ℕ). next + r.gap * place ≤ r.every * n + r.gap * r.every) same high))
-    (λ (before : j < place). let kept = old j d before e in omega arith)
-    (eq-or-lt_of_le {n = j} {m = place} (omega arith))
+    subst (λ (n : ℕ). next + r.gap * member class n ≤ r.every * d + r.gap * r.every) (sym last)
+    (subst (λ (n : ℕ). next + r.gap * member class number ≤ r.every * n + r.gap * r.every) same high))
+    (λ (before : j < number). let kept = old j d before e in omega arith)
+    (eq-or-lt_of_le {n = j} {m = number} (omega arith))
 
 -- ---- due dates
 
@@ -103,23 +120,31 @@ due_times net r ok (suc n) k l =
 -- ---- both
 
 pub none_past : (net : NetLists) (r : EndlessRow) → IsEndlessRow net r → (f : SettledForm) → IsClimbing f r.transition.index → GoesOnBySteps f r.transition.index
-    → (past firings rise under over : ℕ) → f.after ≤ past → length r.dates ≤ past + r.every → 1 ≤ firings → RisesIn f r.transition.index firings rise
-    → AreDatesUnder f r.transition.index past firings rise under → AreDuesOver r past over
-    → r.every * under + firings * (r.gap * r.every) ≤ firings * over → rise * r.every ≤ firings * r.gap → NoneLatePast (settled_date f) r past
-none_past net r ok f climbing steps past firings rise under over after listed one rises low high start slope k due least far late =
+    → (past : ℕ) (cycle : Cycle) (class : Class) (under over : ℕ) → f.after ≤ past → length r.dates ≤ past + r.every → 1 ≤ cycle.firings
+    → RisesIn f r.transition.index cycle.firings cycle.rise → IsClassOf cycle.firings r.every class
+    → AreDatesUnder f r.transition.index past cycle class under → AreDuesOver r past class over
+    → r.every * under + cycle.firings * (r.gap * r.every) ≤ cycle.firings * over + cycle.rise * cycle.firings * r.every → cycle.rise * r.every ≤ cycle.firings * r.gap
+    → NoneLateInClass (settled_date f) r past class
+none_past net r ok f climbing steps past cycle class under over after listed one rises split low high start slope k due least far rest late =
     let t : ℕ = r.transition.index in
+    let firings : ℕ = cycle.firings in
+    let rise : ℕ = cycle.rise in
     let m : ℕ = k - past - 1 in
     let every_one : 1 ≤ r.every = ok.goes_on.some in
     let cycles = div-add-mod' m firings in
     let turns = div-add-mod' m r.every in
-    let i : ℕ = m % firings in
+    let in_cycle = member_of class m firings one split.low split.of_cycle rest in
+    let in_turn = member_of class m r.every every_one split.low split.of_turn rest in
+    let i : ℕ = member class (m % firings / class.divisor) in
+    let j : ℕ = member class (m % r.every / class.divisor) in
     let q : ℕ = m / firings in
-    let j : ℕ = m % r.every in
     let p : ℕ = m / r.every in
-    let in_cycle : i < firings = mod-lt m one in
-    let in_turn : j < r.every = mod-lt m every_one in
-    let by_cycles : (past + 1 + i) + q * firings ≡ k = omega arith in
-    let by_turns : (past + 1 + j) + p * r.every ≡ k = omega arith in
+    let first_is : i ≡ m % firings = in_cycle.1 in
+    let second_is : j ≡ m % r.every = in_turn.1 in
+    let by_first : m ≡ q * firings + i = omega (arith, cycles, first_is) in
+    let by_second : m ≡ p * r.every + j = omega (arith, turns, second_is) in
+    let by_cycles : (past + 1 + i) + q * firings ≡ k = omega (arith, by_first, far) in
+    let by_turns : (past + 1 + j) + p * r.every ≡ k = omega (arith, by_second, far) in
     let here = climbing.numbers (past + 1 + i) (omega arith) in
     let date : ℕ = here.0 in
     let moved : settled_date f t ((past + 1 + i) + q * firings) ≡ move (pos (q * rise)) (At (pos date)) =
@@ -131,10 +156,15 @@ none_past net r ok f climbing steps past firings rise under over after listed on
     let again = due_times net r ok p (past + 1 + j) (omega arith) in
     let due_here : due ≡ due_number r k = due_only r k due late.is_due in
     let due_there : due_number r ((past + 1 + j) + p * r.every) ≡ due_number r k = ap (due_number r) by_turns in
-    let apart = keep_apart firings rise r.every r.gap under over date first m i q j p one every_one (sym cycles) (sym turns)
-    (low i date in_cycle here.1) (high j first in_turn (due_is r (past + 1 + j))) start slope in
+    let apart = keep_apart firings rise r.every r.gap under over date first m i q j p one every_one by_first by_second
+    (low (m % firings / class.divisor) date in_cycle.0 here.1) (high (m % r.every / class.divisor) first in_turn.0 (due_is r (past + 1 + j))) start slope in
     let too_late = late.late in
     omega arith
+
+-- where none of any class is late, none is
+pub none_of_classes : (x : ℕ → ℕ → Date) (r : EndlessRow) (past divisor : ℕ) → 0 < divisor
+    → ((rest : ℕ) → rest < divisor → NoneLateInClass x r past (record { divisor = divisor; rest = rest })) → NoneLatePast x r past
+none_of_classes x r past divisor some each k due least far late = each ((k - past - 1) % divisor) (mod_below (k - past - 1) divisor some) k due least far refl late
 
 -- none late up to a number and none past it
 pub none_both : (x : ℕ → ℕ → Date) (r : EndlessRow) (past : ℕ) → NoneLateTo x r past → NoneLatePast x r past → NoneLate x r

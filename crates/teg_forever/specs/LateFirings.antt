@@ -1,5 +1,6 @@
 -- Working definitions of what the search for a late firing goes by.
-use Rattle.std.specs.Prelude.{ℕ, ⊤, Some, pos, ◌+◌, ◌*◌, ◌<◌, ◌≤◌, ◌≡◌, length}
+use Rattle.std.specs.Prelude.{ℕ, ⊤, Some, pos, ◌+◌, ◌-◌, ◌*◌, ◌/◌, ◌%◌, ◌<◌, ◌≤◌, ◌≡◌, length}
+use Rattle.std.specs.Int.{◌∣◌}
 use Rattle.dioid.specs.declared.dates.Date.{Date}
 use Rattle.dioid.specs.declared.dates.Date.TheVariants.{At}
 use Rattle.dioid.specs.Dates.{move}
@@ -16,6 +17,7 @@ use Rattle.forever_laws.specs.Late.{IsLateAt, IsLeastLate, NoneLate, NoneLateTo}
 use Rattle.forever_laws.specs.LateSearches.{IsCommonPeriodOf}
 use Rattle.forever_laws.specs.EndlessDues.{late_date_bound, late_number_bound}
 use Rattle.teg_forever.specs.declared.late.Soonest.{Soonest}
+use Rattle.teg_forever.specs.declared.leads.Class.{Class}
 use Rattle.teg_forever.specs.declared.settled_row.Cycle.{Cycle}
 use Rattle.teg_forever.specs.declared.late.CommonPeriod.{CommonPeriod}
 use Rattle.teg_forever.specs.declared.alone.Told.{Told}
@@ -105,14 +107,33 @@ IsLateAfter f r turn s = IsSoonLate f r (s.number + s.turns * turn.firings) (s.d
 abbrev pub NoneLatePast : (ℕ → ℕ → Date) → EndlessRow → ℕ → Type 0
 NoneLatePast x r past = (k due least : ℕ) → past < k → IsLateAt x r k due least → ⊥
 
--- times the firings of a cycle no date of its numbers past this one is above a line from `start` on that rises as the cycle does
-abbrev pub AreDatesUnder : SettledForm → ℕ → ℕ → ℕ → ℕ → ℕ → Type 0
-AreDatesUnder f t past firings rise start = (i z : ℕ) → i < firings → settled_date f t (past + 1 + i) ≡ At (pos z) → firings * z ≤ start + rise * i
+-- ---- classes of numbers past one, by the rest of their places
 
--- times `every` no due date of the first `every` numbers past this one is below a line that rises as the row does, from `start` on less
--- the gap for each of these numbers
-abbrev pub AreDuesOver : EndlessRow → ℕ → ℕ → Type 0
-AreDuesOver r past start = (j d : ℕ) → j < r.every → row_due r (past + 1 + j) ≡ Some d → start + r.gap * j ≤ r.every * d + r.gap * r.every
+-- a place of the class, by its number in it
+abbrev pub member : Class → ℕ → ℕ
+member class number = number * class.divisor + class.rest
+
+-- the divisor divides both periods
+pub record IsClassOf (firings every : ℕ) (class : Class) : Type 0 where
+  pub low : class.rest < class.divisor
+  pub of_cycle : class.divisor ∣ firings
+  pub of_turn : class.divisor ∣ every
+
+-- no number past this one is late whose place is of the class
+abbrev pub NoneLateInClass : (ℕ → ℕ → Date) → EndlessRow → ℕ → Class → Type 0
+NoneLateInClass x r past class = (k due least : ℕ) → past < k → (k - past - 1) % class.divisor ≡ class.rest → IsLateAt x r k due least → ⊥
+
+-- times the firings of a cycle no date of its places of the class past this number is above a line that rises as the cycle does, from
+-- `start` on less the rise for each of its firings
+abbrev pub AreDatesUnder : SettledForm → ℕ → ℕ → Cycle → Class → ℕ → Type 0
+AreDatesUnder f t past cycle class start =
+    (i z : ℕ) → i < cycle.firings / class.divisor → settled_date f t (past + 1 + member class i) ≡ At (pos z) → cycle.firings * z + cycle.rise * cycle.firings ≤ start + cycle.rise * member class i
+
+-- times `every` no due date of the first `every` places of the class past this number is below a line that rises as the row does, from
+-- `start` on less the gap for each of these places
+abbrev pub AreDuesOver : EndlessRow → ℕ → Class → ℕ → Type 0
+AreDuesOver r past class start =
+    (j d : ℕ) → j < r.every / class.divisor → row_due r (past + 1 + member class j) ≡ Some d → start + r.gap * member class j ≤ r.every * d + r.gap * r.every
 
 -- the longest cycle whose dates are held against due dates by lines
 abbrev pub most_cycle : ℕ

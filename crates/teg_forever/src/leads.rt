@@ -3,15 +3,17 @@
 //!
 //! The dates of a cycle lie under a line that rises as they do in the long run, and the due dates
 //! of one turn lie over a line that rises as those do. Where the first line begins no higher than
-//! the second, and rises no faster, no date is late. Where both rise alike and their periods have
-//! no common divisor, each date meets each due date, and the lines tell it just so; else they may
-//! cross though none is late.
-ghost use Rattle.std.specs.Prelude.{◌≤◌, ◌<◌, ◌+◌, ◌*◌, IsTrue};
+//! the second, and rises no faster, no date is late. Lines are drawn for each class of numbers: those
+//! of one rest by the greatest common divisor of the two periods, since a date of one class is never
+//! due by a due date of another. Within a class each date meets each due date, so where both rise
+//! alike the lines tell it just so; else they may cross though none is late.
+ghost use Rattle.std.specs.Prelude.{◌≡◌, ◌≤◌, ◌<◌, ◌+◌, ◌*◌, ◌/◌, IfSome, IsTrue};
+ghost use Rattle.std.specs.Int.{◌∣◌, IsGcd};
 ghost use Rattle.teg_net.specs.Limits.{greatest_every, greatest_input_date, most_rows};
 ghost use Rattle.forever_laws.specs.teg_model.DateBounds.{greatest_least_date};
 ghost use Rattle.endless_due.specs.EndlessRows.{most_endless_dates};
 ghost use Rattle.forever_laws.specs.settled_laws.SettledForms.{settled_date};
-ghost use Rattle.teg_forever.specs.LateFirings.{AreDatesUnder, AreDuesOver, IsCycleOf, IsGoingRow, NoneLatePast, GoesOnPast, greatest_row_number, most_cycle};
+ghost use Rattle.teg_forever.specs.LateFirings.{AreDatesUnder, AreDuesOver, IsClassOf, IsCycleOf, IsGoingRow, NoneLateInClass, NoneLatePast, GoesOnPast, greatest_row_number, member, most_cycle};
 
 use crate::dues::due_at;
 use crate::settled_row::{Cycle, SettledRow};
@@ -20,29 +22,61 @@ use endless_due::EndlessRow;
 // The longest cycle that is looked at, so that all products are small.
 const MOST_CYCLE: u64 = 100_000;
 
-// Where a line has to begin at least so that this date, at this place of a cycle, is not above it.
+// A class of places: those of one rest, divided by a number.
+#[derive(Clone, Copy)]
+struct Class {
+    divisor: u64,
+    rest: u64,
+}
+
+// The greatest common divisor, by Euclid's rule.
+fn common_divisor(first: u64, second: u64) -> u64
+    ensures { IsGcd first second result }
+{
+    let (mut divisor, mut rest) = (first, second);
+    while rest != 0 {
+        let next = divisor % rest;
+        divisor = rest;
+        rest = next;
+    }
+    divisor
+}
+
+// A place of the class among `count` places, by its number in the class.
+fn place_in(class: Class, count: u64, number: u64) -> u64
+    requires class { class.rest < class.divisor }
+    requires number { number < count / class.divisor }
+    ensures value { result ≡ member class number }
+    ensures within { result < count }
+{
+    number * class.divisor + class.rest
+}
+
+// Where a line has to begin at least, the rise for each firing of the cycle added, so that this
+// date, at this place of the cycle, is not above it.
 fn start_under(cycle: Cycle, date: u128, place: u64) -> u128
     requires firings { cycle.firings ≤ most_cycle }
     requires rise { cycle.rise ≤ greatest_least_date }
     requires date { date ≤ greatest_least_date }
     requires place { place < cycle.firings }
-    ensures { cycle.firings * date ≤ result + cycle.rise * place }
+    ensures { cycle.firings * date + cycle.rise * cycle.firings ≤ result + cycle.rise * place }
 {
     let height = u128::from(cycle.firings) * date;
-    height.saturating_sub(cycle.rise * u128::from(place))
+    height + cycle.rise * u128::from(cycle.firings - place)
 }
 
-// Where a line begins that no date of the cycle past the number is above.
-fn line_under(row: &SettledRow<'_>, past: u64, cycle: Cycle) -> u128
+// Where a line begins, the rise for each firing of the cycle added, that no date of the class past
+// the number is above.
+fn line_under(row: &SettledRow<'_>, past: u64, cycle: Cycle, class: Class) -> u128
     requires past { past ≤ most_rows + most_endless_dates }
     requires firings { cycle.firings ≤ most_cycle }
     requires rise { cycle.rise ≤ greatest_least_date }
-    ensures { AreDatesUnder row.now.settled row.now.row.transition.index past cycle.firings
-        cycle.rise
-        result }
+    requires class { class.rest < class.divisor }
+    ensures { AreDatesUnder row.now.settled row.now.row.transition.index past cycle class result }
 {
     let mut start: u128 = 0;
-    for place in 0..cycle.firings {
+    for number in 0..cycle.firings / class.divisor {
+        let place = place_in(class, cycle.firings, number);
         let date = row.least(past + 1 + place);
         start = start.max(start_under(cycle, date, place));
     }
@@ -51,7 +85,7 @@ fn line_under(row: &SettledRow<'_>, past: u64, cycle: Cycle) -> u128
 
 // Where a line may begin at most, a gap for each firing of a turn added, so that this due date, at
 // this place of the turn, is not below it.
-fn start_over(row: &EndlessRow, due: u128, place: u32) -> u128
+fn start_over(row: &EndlessRow, due: u128, place: u64) -> u128
     requires every { row.now.every ≤ greatest_every }
     requires gap { row.now.gap ≤ greatest_input_date }
     requires due { due ≤ greatest_input_date * greatest_row_number }
@@ -59,22 +93,35 @@ fn start_over(row: &EndlessRow, due: u128, place: u32) -> u128
     ensures { result + row.now.gap * place ≤ row.now.every * due + row.now.gap * row.now.every }
 {
     let height = u128::from(row.every) * due;
-    height + u128::from(row.gap) * u128::from(row.every - place)
+    height + u128::from(row.gap) * u128::from(u64::from(row.every) - place)
 }
 
-// Where a line begins, a gap for each firing of a turn added, that no due date past the number is
-// below.
-fn line_over(row: &EndlessRow, past: u64) -> u128
+// Where a line begins, a gap for each firing of a turn added, that no due date of the class past
+// the number is below.
+fn line_over(row: &EndlessRow, past: u64, class: Class) -> u128
     requires row { IsGoingRow row.now }
     requires past { past ≤ most_rows + most_endless_dates }
-    ensures { AreDuesOver row.now past result }
+    requires class { class.rest < class.divisor }
+    ensures { AreDuesOver row.now past class result }
 {
+    let every = row.every as u64;
     let mut start = u128::MAX;
-    for place in 0..row.every {
-        let due = due_at(row, past + 1 + place as u64);
+    for number in 0..every / class.divisor {
+        let place = place_in(class, every, number);
+        let due = due_at(row, past + 1 + place);
         start = start.min(start_over(row, due, place));
     }
     start
+}
+
+// So many times a height, and more, if it can be held.
+fn scaled(times: u128, height: u128, more: u128) -> Option<u128>
+    ensures { IfSome result (λ sum. sum ≡ times * height + more) }
+{
+    match times.checked_mul(height) {
+        Some(product) => product.checked_add(more),
+        None => None,
+    }
 }
 
 // Whether the line under the dates begins no higher than that over the due dates, and rises no
@@ -84,20 +131,36 @@ fn keep_apart(row: &EndlessRow, cycle: Cycle, under: u128, over: u128) -> bool
     requires firings { cycle.firings ≤ most_cycle }
     requires rise { cycle.rise ≤ greatest_least_date }
     ensures start { IsTrue result → row.now.every * under
-        + cycle.firings * (row.now.gap * row.now.every) ≤ cycle.firings * over }
+        + cycle.firings * (row.now.gap * row.now.every)
+        ≤ cycle.firings * over + cycle.rise * cycle.firings * row.now.every }
     ensures slope { IsTrue result → cycle.rise * row.now.every ≤ cycle.firings * row.now.gap }
 {
     let every = u128::from(row.every);
     let firings = u128::from(cycle.firings);
     let gap = u128::from(row.gap);
-    let added = firings * (gap * every);
-    let (Some(dates), Some(dues)) = (every.checked_mul(under), firings.checked_mul(over)) else {
+    let Some(dates) = scaled(every, under, firings * (gap * every)) else {
         return false;
     };
-    cycle.rise * every <= firings * gap && added <= dues && dates <= dues - added
+    let Some(dues) = scaled(firings, over, cycle.rise * firings * every) else {
+        return false;
+    };
+    cycle.rise * every <= firings * gap && dates <= dues
 }
 
-// Whether two lines show that past the number no date comes after it is due.
+// Whether two lines show that past the number no date of the class comes after it is due.
+fn none_late_in(row: &SettledRow<'_>, past: u64, cycle: Cycle, class: Class) -> bool
+    requires past { GoesOnPast row.now past }
+    requires cycle { IsCycleOf row.now cycle }
+    requires firings { cycle.firings ≤ most_cycle }
+    requires class { IsClassOf cycle.firings row.now.row.every class }
+    ensures { IsTrue result → NoneLateInClass (settled_date row.now.settled) row.now.row past class }
+{
+    let under = line_under(row, past, cycle, class);
+    let over = line_over(row.row(), past, class);
+    keep_apart(row.row(), cycle, under, over)
+}
+
+// Whether two lines for each class show that past the number no date comes after it is due.
 pub(crate) fn none_late_past(row: &SettledRow<'_>, past: u64, cycle: Cycle) -> bool
     requires past { GoesOnPast row.now past }
     requires cycle { IsCycleOf row.now cycle }
@@ -106,7 +169,11 @@ pub(crate) fn none_late_past(row: &SettledRow<'_>, past: u64, cycle: Cycle) -> b
     if cycle.firings > MOST_CYCLE {
         return false;
     }
-    let under = line_under(row, past, cycle);
-    let over = line_over(row.row(), past);
-    keep_apart(row.row(), cycle, under, over)
+    let divisor = common_divisor(cycle.firings, row.row().every as u64);
+    for rest in 0..divisor {
+        if !none_late_in(row, past, cycle, Class { divisor, rest }) {
+            return false;
+        }
+    }
+    true
 }

@@ -1,14 +1,33 @@
-use Rattle.teg_forever.proofs.KeptApart.{none_past}
+use Rattle.std.proofs.Common.{ℕ, ◌≡◌, ◌<◌, subst, sym, arith, ⊎_elim}
+use Rattle.std.proofs.Math.Nat.{eq-or-lt_of_le}
+use Rattle.forever_laws.proofs.number_laws_proofs.Fractions.{divisor_some}
+use Rattle.forever_laws.specs.settled_laws.SettledForms.{settled_date}
+use Rattle.teg_forever.specs.LateFirings.{NoneLateInClass}
+use Rattle.teg_forever.proofs.KeptApart.{none_of_classes}
 use Rattle.teg_forever.proofs.leads.none_late_past.Goals as goal
 
+pub loop-rest-init : goal.loop-rest-init
+loop-rest-init c = λ rest l. absurd (omega arith)
+
+pub none_late_in-requires-clause-class : goal.none_late_in-requires-clause-class
+none_late_in-requires-clause-class c =
+    let divisor = rw c.row.ensures.value at c.common_divisor-divisor.ensures in
+    record { low = c.loop-rest-test.true; of_cycle = divisor.0; of_turn = divisor.1 }
+
+pub loop-rest-preserved : goal.loop-rest-preserved
+loop-rest-preserved c = λ rest l.
+    let a = c.args.row.now in
+    ⊎_elim
+    (λ (last : rest ≡ c.loop-rest.rest).
+    subst (λ (n : ℕ). NoneLateInClass (settled_date a.settled) a.row c.args.past (record { divisor = c.common_divisor-divisor.result; rest = n })) (sym last)
+    (c.none_late_in.ensures c.if-not-none_late_in.false))
+    (λ (before : rest < c.loop-rest.rest). c.loop-rest.invariant rest before)
+    (eq-or-lt_of_le {n = rest} {m = c.loop-rest.rest} (omega arith))
+
 pub returns : goal.returns
-returns c = λ apart.
+returns c = λ _.
     let a = c.args.row.now in
     let h = c.row.ensures.told in
-    let past = c.requires.past in
-    let cycle = c.requires.cycle in
-    let over = rw c.row.ensures.value at c.line_over-over.ensures in
-    let start = rw c.row-2.ensures.value at c.keep_apart.ensures.start apart in
-    let slope = rw c.row-2.ensures.value at c.keep_apart.ensures.slope apart in
-    none_past h.net a.row h.row a.settled h.climbing h.steps c.args.past c.args.cycle.firings c.args.cycle.rise
-    c.line_under-under.result c.line_over-over.result past.after past.listed cycle.some cycle.rises c.line_under-under.ensures over start slope
+    let divisor = rw c.row.ensures.value at c.common_divisor-divisor.ensures in
+    let some : 0 < c.common_divisor-divisor.result = divisor_some c.args.cycle.firings a.row.every c.common_divisor-divisor.result h.row.goes_on.some divisor in
+    none_of_classes (settled_date a.settled) a.row c.args.past c.common_divisor-divisor.result some (λ rest low. c.loop-rest.invariant rest (omega arith))
