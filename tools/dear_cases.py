@@ -566,6 +566,8 @@ def rows_cases():
     yield hub_inputs(10, 10)
     yield hub_inputs(20, 20)
     yield crossing_rows(50)
+    yield ("forever: 100 rows that go on after 30 firings, rates that nearly agree, room for 50 parts", ["forever", "net", "rows"],
+           {"net": near_rates(100, 50).text(), "rows": steady_rows(100, 30)}, TOO_LONG, "too long: input feed\n")
     yield wide_replay(100_000)
 
 
@@ -580,6 +582,12 @@ def crossing_rows(ends, every=998, unit=1_000):
     return (f"forever: {ends} rows that share a divisor with a period of 17,978, none late", ["forever", "net", "rows"],
             {"net": Net(names, places).text(), "rows": "".join(f"d{k},{every},{every * unit},{dates}\n" for k in range(ends))},
             DONE, "latest inputs forever\n")
+
+
+def steady_rows(count, every, gap=3_601, first=10**8):
+    """A row for each machine, due so far apart."""
+    dates = ",".join(str(first + gap * k) for k in range(every))
+    return "".join(f"m{k},{every},{gap * every},{dates}\n" for k in range(count))
 
 
 def wide_replay(firings):

@@ -45,7 +45,7 @@ module _ (net : NetLists) (r : EndlessRow) (k due date : ℕ) (one : 1 ≤ k) (i
 
   -- none so far, where this one is not late
   pub none_so_far : date ≤ due → InLeastAtZero net (λ x. NoneLateTo x r (k - 1)) → InLeastAtZero net (λ x. NoneLateTo x r k)
-  none_so_far low none x least = none_more x r k due date one is_due (comes x least) low (none x least)
+  none_so_far low none x least = none_more x r k due date is_due (comes x least) low (none x least)
 
 -- ---- the net without its inputs
 

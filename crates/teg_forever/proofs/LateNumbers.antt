@@ -18,22 +18,30 @@ module _ (x : ℕ → ℕ → Date) (r : EndlessRow) where
   pub none_less : (m n : ℕ) → n ≤ m → NoneLateTo x r m → NoneLateTo x r n
   none_less m n w h k d z low = h k d z (omega arith)
 
-  pub none_more : (n d z : ℕ) → 1 ≤ n → row_due r n ≡ Some d → x r.transition.index n ≡ At (pos z) → z ≤ d → NoneLateTo x r (n - 1) → NoneLateTo x r n
-  none_more n d z one due date low h k e y w l = ⊎_elim
-      (λ before. h k e y (omega arith) l)
-      (λ after.
-      let same : n ≡ k = omega arith in
-      let a : d ≡ e = same_due k d e (subst (λ (m : ℕ). row_due r m ≡ Some d) same due) l.is_due in
-      let b : z ≡ y = same_date k z y (subst (λ (m : ℕ). x r.transition.index m ≡ At (pos z)) same date) l.comes in
+  -- a number is not late whose date is no later than due
+  pub in_time_at : (n d z : ℕ) → row_due r n ≡ Some d → x r.transition.index n ≡ At (pos z) → z ≤ d → (e y : ℕ) → IsLateAt x r n e y → ⊥
+  in_time_at n d z due date low e y l =
+      let a : d ≡ e = same_due n d e due l.is_due in
+      let b : z ≡ y = same_date n z y date l.comes in
       let late : e < y = l.late in
-      omega arith)
+      omega arith
+
+  -- none up to a number that is not late itself
+  pub none_then : (n : ℕ) → NoneLateTo x r (n - 1) → ((e y : ℕ) → IsLateAt x r n e y → ⊥) → NoneLateTo x r n
+  none_then n h here k e y w l = ⊎_elim
+      (λ before. h k e y (omega arith) l)
+      (λ after. let same : k ≡ n = omega arith in here e y (subst (λ (m : ℕ). IsLateAt x r m e y) same l))
       (cases_lt k n)
 
+  -- the least late number, where none before is late
+  pub least_then : (n d z : ℕ) → NoneLateTo x r (n - 1) → IsLateAt x r n d z → IsLeastLate x r n d z
+  least_then n d z h late = record { late = late; first = λ j e v l. ⊎_elim (λ before. absurd (h j e v (omega arith) l)) (λ after. after) (cases_lt j n) }
+
+  pub none_more : (n d z : ℕ) → row_due r n ≡ Some d → x r.transition.index n ≡ At (pos z) → z ≤ d → NoneLateTo x r (n - 1) → NoneLateTo x r n
+  none_more n d z due date low h = none_then n h (in_time_at n d z due date low)
+
   pub first_found : (n d z : ℕ) → 1 ≤ n → row_due r n ≡ Some d → x r.transition.index n ≡ At (pos z) → d < z → NoneLateTo x r (n - 1) → IsLeastLate x r n d z
-  first_found n d z one due date late h = record {
-    late = record { from_one = one; is_due = due; comes = date; late = late };
-    first = λ j e y l. ⊎_elim (λ before. absurd (h j e y (omega arith) l)) (λ after. after) (cases_lt j n);
-  }
+  first_found n d z one due date late h = least_then n d z h (record { from_one = one; is_due = due; comes = date; late = late })
 
   pub soonest_begun : (past gain d z : ℕ) → row_due r (past + 1) ≡ Some d → x r.transition.index (past + 1) ≡ At (pos z) → IsSoonest x r past (past + 1) gain (past + 1) d z
   soonest_begun past gain d z due date = record {

@@ -13,4 +13,5 @@ pub mod Repeated
 pub mod Residues
 pub mod LaggedReleases
 pub mod Series
+pub mod SearchedRows
 pub mod Written

@@ -1,5 +1,5 @@
 -- Working definitions of what the search for a late firing goes by.
-use Rattle.std.specs.Prelude.{ℕ, ⊤, Some, pos, ◌+◌, ◌-◌, ◌*◌, ◌/◌, ◌%◌, ◌<◌, ◌≤◌, ◌≡◌, length}
+use Rattle.std.specs.Prelude.{ℕ, Some, pos, ◌+◌, ◌-◌, ◌*◌, ◌/◌, ◌%◌, ◌<◌, ◌≤◌, ◌≡◌, length}
 use Rattle.std.specs.Int.{◌∣◌}
 use Rattle.dioid.specs.declared.dates.Date.{Date}
 use Rattle.dioid.specs.declared.dates.Date.TheVariants.{At}
@@ -20,8 +20,6 @@ use Rattle.teg_forever.specs.declared.late.Soonest.{Soonest}
 use Rattle.teg_forever.specs.declared.leads.Class.{Class}
 use Rattle.teg_forever.specs.declared.settled_row.Cycle.{Cycle}
 use Rattle.teg_forever.specs.declared.late.CommonPeriod.{CommonPeriod}
-use Rattle.teg_forever.specs.declared.alone.Told.{Told}
-use Rattle.teg_forever.specs.declared.alone.Told.TheVariants.{Late as ToldLate, None as ToldNone, Nothing}
 
 -- the form stands for the least dating of the net with all inputs at 0
 pub record IsZeroForm (net : NetLists) (f : SettledForm) : Type 0 where
@@ -147,8 +145,6 @@ greatest_row_number = 2000000000000000
 abbrev pub InLeastAtZero : NetLists → ((ℕ → ℕ → Date) → Type 0) → Type 0
 InLeastAtZero net P = (x : ℕ → ℕ → Date) → IsLeastUnder net inputs_at_zero x → P x
 
--- what rows alone tell of a row holds
-abbrev pub IsTold : NetLists → EndlessRow → Told → Type 0
-IsTold net r (ToldLate l) = InLeastAtZero net (λ x. IsLeastLate x r l.number l.due l.least)
-IsTold net r ToldNone = InLeastAtZero net (λ x. NoneLate x r)
-IsTold net r Nothing = ⊤
+-- if the row has a late number, it has one up to this
+abbrev pub TellsWhetherLate : NetLists → EndlessRow → ℕ → Type 0
+TellsWhetherLate net r last = InLeastAtZero net (λ x. NoneLateTo x r last → NoneLate x r)

@@ -7,5 +7,6 @@ pub mod LateFirings
 pub mod EndlessTexts
 pub mod Paces
 pub mod Lagged
+pub mod TogetherRows
 pub use Rattle.forever_laws.specs as forever_laws
 pub use Rattle.endless_due.specs as endless_due

@@ -7,7 +7,7 @@ ghost use Rattle.teg_net.specs.Nets.{without_inputs};
 ghost use Rattle.date_rows.specs.Streams.{IsStreamOf, rows_given};
 ghost use Rattle.forever_laws.specs.Late.{IsLeastLate, NoneLateTo};
 ghost use Rattle.forever_laws.specs.PacedRows.{paced_bound};
-ghost use Rattle.teg_forever.specs.LateFirings.{InLeastAtZero, IsTold};
+ghost use Rattle.teg_forever.specs.LateFirings.{InLeastAtZero, TellsWhetherLate};
 
 use crate::dues::due_at;
 use crate::late::LateFiring;
@@ -25,18 +25,8 @@ const MOST_STEPS: u64 = 400_000_000;
 // As how many of them a row counts beside its own, so that a small net has few rows.
 const STEPS_OF_ROW: u64 = 200;
 
-// What rows alone tell of a row of due dates.
-pub(crate) enum Told {
-    // Its least late number.
-    Late(LateFiring),
-    // That no number of it is late.
-    None,
-    // Nothing yet.
-    Nothing,
-}
-
 // The number of a date that is one.
-fn number_of(date: Date) -> u128
+pub(crate) fn number_of(date: Date) -> u128
     requires { (m : ℕ) × (date ≡ At (pos m)) }
     ensures { date ≡ At (pos result) }
 {
@@ -63,7 +53,7 @@ fn next_least(plain: &PlainRow<'_>, stream: &mut LeastRows, dates: &mut [Date]) 
 }
 
 // The first late number up to a last one, by the rows of the net without its inputs.
-fn late_to(
+pub(crate) fn late_to(
     alloc: Global,
     plain: &PlainRow<'_>,
     last: u64,
@@ -116,23 +106,28 @@ fn last_to_see(plain: &PlainRow<'_>, most: u64) -> u64
     listed + u64::from(row.every) * (count * most) + most
 }
 
-// What the rows of the net without its inputs tell of a row.
-pub(crate) fn told_alone(alloc: Global, plain: &PlainRow<'_>) -> Result<Told, OutOfMemory>
-    ensures { IfOk result (IsTold plain.now.net plain.now.row) }
+// How many rows of the net without its inputs are looked through at most.
+pub(crate) fn most_numbers(net: &Net) -> u64
+    ensures { result ≤ greatest_firing_number }
+{
+    let steps = net.transitions().len() as u64 + net.places().len() as u64;
+    MOST_STEPS / (steps + STEPS_OF_ROW)
+}
+
+// The number up to which a row that keeps pace has a late number, if it has one; none where it does
+// not keep pace, or that is further than rows are looked through.
+pub(crate) fn last_of(alloc: Global, plain: &PlainRow<'_>) -> Result<Option<u64>, OutOfMemory>
+    ensures few { IfOk result (λ last. IfSome last (λ n. n ≤ greatest_firing_number)) }
+    ensures tells { IfOk result (λ last. IfSome last (TellsWhetherLate plain.now.net plain.now.row)) }
 {
     paced_late_is_soon();
     let net = plain.net();
     let paced = keeps_pace(alloc, plain)?;
     let last = last_to_see(plain, most_tokens(net));
-    let steps = net.transitions().len() as u64 + net.places().len() as u64;
-    let most = MOST_STEPS / (steps + STEPS_OF_ROW);
-    let seen = if paced { last.min(most) } else { most };
-    if let Some(late) = late_to(alloc, plain, seen)? {
-        return Ok(Told::Late(late));
-    }
-    if paced && last == seen {
-        Ok(Told::None)
+    let most = most_numbers(net);
+    if paced && last <= most {
+        Ok(Some(last))
     } else {
-        Ok(Told::Nothing)
+        Ok(None)
     }
 }

@@ -7,13 +7,12 @@ ghost use Rattle.forever_laws.specs.settled_laws.SettledForms.{IsSettledFormOf};
 ghost use Rattle.teg_forever.specs.Asked.{AreMetAtZero};
 ghost use Rattle.teg_forever.specs.LatestReleases.{AreEndlessReleases, ForeverRefused};
 
-use crate::alone::{Told, told_alone};
 use crate::asked::DueRows;
 use crate::inputs::releases_of;
 use crate::late::{LateFiring, late_in_row};
-use crate::plain_row::PlainRow;
 use crate::releases::{ForeverRefusal, Release};
 use crate::settled_row::SettledRow;
+use crate::together::{Told, told_together};
 use endless_due::EndlessRow;
 use forever_laws::{
     late_is_soon, latest_at_inputs_are_latest, no_rows_are_met, turns_tell_late,
@@ -65,20 +64,15 @@ fn keep_rows_alone(alloc: Global, due: &DueRows<'_>, plain: &Net) -> Result<bool
     ensures meet { IfOk result (λ told. IsTrue told → AreMetAtZero due.now) }
     ensures late { IfErr result (ForeverRefused due.now.net due.now.rows) }
 {
-    ranked_nets_are_live();
     no_rows_are_met();
     zero_meets_where_none_late();
     late_is_soon();
-    let net = due.net();
-    let live = due.live();
-    for row in due.rows() {
-        match told_alone(alloc, &PlainRow::new(net, plain, live, row))? {
-            Told::Late(late) => return Err(refused_at(row, late)),
-            Told::None => {}
-            Told::Nothing => return Ok(false),
-        }
+    due.net();
+    match told_together(alloc, due, plain)? {
+        Told::Late(first) => Err(refused_at(due.row(first.place), first.late)),
+        Told::None => Ok(true),
+        Told::Nothing => Ok(false),
     }
-    Ok(true)
 }
 
 // Refuses due dates that inputs at 0 do not meet. A settled form is dropped here.
@@ -119,22 +113,22 @@ fn keep_dues(alloc: Global, due: &DueRows<'_>) -> Result<(), ForeverRefusal>
 /// order `l + e` for a row that goes on after e firings; only where these cross, as far as the
 /// dates of its transition take to repeat with it, at most in time of order `1,000 l + 10,000`; the
 /// divisors of the net's period are tried for the period of the transition's own, each mostly for a
-/// few numbers. Where it is longer, as for rates that nearly agree, the standard form is made, in
-/// time of order `n^3 + n p`, and for each due row the rows of the net are gone through once more,
-/// without keeping them: up to `d + e n m + m`, for a list of d dates that goes on after e, and
-/// places of at most m tokens. They tell all, where one of the firings is late or no circuit that
-/// leads to the due transition gains on the row, which is found in time of order `n p`; only where
-/// they do not, or would be more than some seconds take, the form is looked for without a limit,
-/// with eight bytes a date. Then for each input the walk times are settled likewise; for a settling
-/// length k each due row takes a residual of at most 20,000 values, each in time of order k, less
-/// the numbers at which no walk arrives yet. Rows that ask the same dates take one residual for all
-/// inputs that reach their transitions alike, as long as the series that are kept for that have
-/// fewer than three million values, which take some 100 MB; then a row takes time of the order of
-/// its series. An input whose places have the ends and the tokens of those of an input before it,
-/// in any order, and are all held longer by one difference, or shorter, or as long, takes no more
-/// than that one's release with each date moved, in time of order k, as long as its numbers fit;
-/// inputs are compared for that in time of order `p^2` at most for all of them, mostly of order `i
-/// p` for i inputs.
+/// few numbers. Where it is longer, as for rates that nearly agree, the rows of the net are gone
+/// through once more, without keeping them, for all due rows together: up to the greatest `d + e n
+/// m + m`, for a list of d dates that goes on after e, and places of at most m tokens; past a late
+/// row no further than those before it ask. They tell all, where one of the firings is late or no
+/// circuit that leads to the due transition gains on the row, which is found in time of order `n p`
+/// for each; only where they do not, or would be more than some seconds take, the form is looked
+/// for without a limit, with eight bytes a date. Then for each input the walk times are settled
+/// likewise; for a settling length k each due row takes a residual of at most 20,000 values, each
+/// in time of order k, less the numbers at which no walk arrives yet. Rows that ask the same dates
+/// take one residual for all inputs that reach their transitions alike, as long as the series that
+/// are kept for that have fewer than three million values, which take some 100 MB; then a row takes
+/// time of the order of its series. An input whose places have the ends and the tokens of those of
+/// an input before it, in any order, and are all held longer by one difference, or shorter, or as
+/// long, takes no more than that one's release with each date moved, in time of order k, as long as
+/// its numbers fit; inputs are compared for that in time of order `p^2` at most for all of them,
+/// mostly of order `i p` for i inputs.
 pub fn forever(
     alloc: Global,
     net: &Net,

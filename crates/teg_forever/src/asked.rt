@@ -71,6 +71,16 @@ impl<'a> DueRows<'a> {
         self.rows
     }
 
+    // The row at a place.
+    pub(crate) fn row(&self, place: usize) -> &EndlessRow
+        requires { place < length self.now.rows }
+        ensures stands { slice_get self.now.rows place ≡ Some result.now }
+        ensures rules { IsEndlessRow self.now.net result.now }
+    {
+        let rows = self.rows;
+        &rows[place]
+    }
+
     // Of each transition the places that leave it.
     pub(crate) fn leaving(&self) -> &PlacesOf
         ensures { AreLeaving self.now.net result.now }

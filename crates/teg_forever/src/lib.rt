@@ -31,11 +31,12 @@
 //! the numbers from which both repeat (`none_late_past`); then only the numbers up to there are
 //! looked at.
 //!
-//! Where the form is longer, as for rates that nearly agree, rows alone are asked (`src/alone.rt`):
-//! a stream makes the dates row by row. Potentials of the row's own slope show that no circuit
-//! which leads to its transition gains on it, if none does (`src/pace.rt`); a late number then
-//! comes up to a bound of the net's own, if at all (`paced_late_is_soon`). Where one gains, rows
-//! are looked through for some seconds. What is still open is decided by the form without a limit.
+//! Where the form is longer, as for rates that nearly agree, rows alone are asked (`src/alone.rt`,
+//! `src/together.rt`): a stream makes the dates row by row, one for all rows of due dates.
+//! Potentials of the row's own slope show that no circuit which leads to its transition gains on
+//! it, if none does (`src/pace.rt`); a late number then comes up to a bound of the net's own, if at
+//! all (`paced_late_is_soon`). Where one gains, rows are looked through for some seconds. What is
+//! still open is decided by the form without a limit.
 //!
 //! Where no row is late, the inputs are worked out one after another: the shortest settled form of
 //! the walk times from one, of at most 20,000 numbers; of this the series to the transition of each
@@ -70,6 +71,7 @@ mod releases;
 mod residuals;
 mod settled_row;
 mod texts;
+mod together;
 
 pub use answers::forever;
 pub use endless_due::{EndlessRefusal, EndlessRow, is_endless_of, read_endless};

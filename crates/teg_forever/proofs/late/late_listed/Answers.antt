@@ -14,7 +14,7 @@ loop-number-preserved c =
     let same : c.loop-number.number ≡ c.loop-number.number + 1 - 1 = omega arith in
     subst (NoneLateTo (settled_date c.args.row.now.settled) c.args.row.now.row) same
     (none_more (settled_date c.args.row.now.settled) c.args.row.now.row c.loop-number.number c.due_at-due.result c.least-least.result
-    (omega arith) (rw c.row.ensures.value at c.due_at-due.ensures.due) c.least-least.ensures.least c.if-due-least.false c.loop-number.invariant)
+    (rw c.row.ensures.value at c.due_at-due.ensures.due) c.least-least.ensures.least c.if-due-least.false c.loop-number.invariant)
 
 pub returns-clause-none : goal.returns-clause-none
 returns-clause-none c = none_less (settled_date c.args.row.now.settled) c.args.row.now.row (c.loop-number.number - 1) c.args.last (omega arith) c.loop-number.invariant

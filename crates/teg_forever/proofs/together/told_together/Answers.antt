@@ -1,0 +1,14 @@
+use Rattle.std.proofs.Common.{ℕ, ◌≡◌, ◌<◌, ◌≤◌, length, subst, sym, arith}
+use Rattle.std.specs.Prelude.{Option, IfSome}
+use Rattle.forever_laws.specs.Late.{IsLeastLate}
+use Rattle.teg_forever.specs.declared.late.LateFiring.{LateFiring}
+use Rattle.teg_forever.specs.LateFirings.{InLeastAtZero}
+use Rattle.teg_forever.specs.TogetherRows.{AreNeverLate, IsFoundNext}
+use Rattle.teg_forever.proofs.together.told_together.Goals as goal
+
+pub returns-in-Some : goal.returns-in-Some
+returns-in-Some c =
+    let a = c.args.due.now in
+    let s = c.in_ok-search.search in
+    let h = c.in_ok-search.ensures in
+    record { none = h.none; late = subst (IsFoundNext a.net a.rows _ s.left) c.in-Some.is h.found }
