@@ -75,7 +75,7 @@ potential paint 8
 ";
 
 // The same with a potential that no place exceeds, and that is not the earliest.
-const LATER: &str = "cycle time 8/1
+const LOOSE: &str = "cycle time 8/1
 circuit to_paint paint_room
 part 1 ratio 8/1
 circuit to_paint paint_room
@@ -146,7 +146,7 @@ fn a_pace_is_shown(rt: HostRuntime) -> Result<(), Fail> {
     assert!(rt; pace_shown(rt.alloc(), PACE)? == Some(Ratio::of(8, 1)));
     assert!(rt; pace_shown(rt.alloc(), SLOWER)?.is_none());
     assert!(rt; pace_shown(rt.alloc(), LIFTED)?.is_none());
-    assert!(rt; pace_shown(rt.alloc(), LATER)?.is_none());
+    assert!(rt; pace_shown(rt.alloc(), LOOSE)?.is_none());
     assert!(rt; pace_shown(rt.alloc(), MOVED)?.is_none());
     assert!(rt; pace_shown(rt.alloc(), TURNED)?.is_none());
     Ok(())
