@@ -55,23 +55,23 @@ pub record OfferFits (steps : ℕ) (x y : ℤ) : Type 0 where
   pub sum : FitsSigned w128 ((pos steps *ℤ x) +ℤ y)
 
 -- so does the entry, where it is a number
-abbrev pub EntryFits : ℕ → Date → ℤ → Type 0
-EntryFits steps Early y = ⊤
-EntryFits steps (At x) y = OfferFits steps x y
-EntryFits steps Never y = ⊤
+abbrev pub EntryOfferFits : ℕ → Date → ℤ → Type 0
+EntryOfferFits steps Early y = ⊤
+EntryOfferFits steps (At x) y = OfferFits steps x y
+EntryOfferFits steps Never y = ⊤
 
 -- so does each entry of the row
 abbrev pub OffersFit : Table Date → ℕ → List ℤ → ℕ → Type 0
-OffersFit a steps v i = (j : ℕ) → j < a.columns → EntryFits steps (entry_at a i j) (number_at v j)
+OffersFit a steps v i = (j : ℕ) → j < a.columns → EntryOfferFits steps (entry_at a i j) (number_at v j)
 
 -- so do all numbers of the row
-pub record RowFits (a : Table Date) (value : EigenValue) (v : List ℤ) (i : ℕ) : Type 0 where
+pub record RowOffersFit (a : Table Date) (value : EigenValue) (v : List ℤ) (i : ℕ) : Type 0 where
   pub wanted : FitsSigned w128 (value.time +ℤ number_at v i)
   pub offers : OffersFit a value.steps v i
 
 -- no number on the way passes 128 bits
 abbrev pub NumbersFit : Table Date → EigenValue → List ℤ → Type 0
-NumbersFit a value v = (i : ℕ) → i < a.rows → RowFits a value v i
+NumbersFit a value v = (i : ℕ) → i < a.rows → RowOffersFit a value v i
 
 -- ---- rows that reach each other
 

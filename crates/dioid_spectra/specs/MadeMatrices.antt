@@ -20,8 +20,8 @@ module _ {M : Type 0} (d : DioidOf M) where
   IsIdentity size t = HasEntries size size unit_at t
 
   -- one in each column at the row that the list has for it, and zero elsewhere
-  abbrev pub IsChoice : ℕ → List ℕ → Table M → Type 0
-  IsChoice size chosen t = HasEntries size (length chosen) (λ i j. unit_at i (slice_index chosen j)) t
+  abbrev pub IsColumnChoice : ℕ → List ℕ → Table M → Type 0
+  IsColumnChoice size chosen t = HasEntries size (length chosen) (λ i j. unit_at i (slice_index chosen j)) t
 
   -- zero everywhere
   abbrev pub IsZero : ℕ → ℕ → Table M → Type 0

@@ -1,6 +1,6 @@
 //! Eigenvectors of a matrix of dates, checked.
 ghost use Rattle.std.specs.Prelude.{IfNone, IfSome, IsFalse, IsTrue, ◌<◌, ◌≡◌, ◌*ℤ◌, ◌+ℤ◌, pos, length};
-ghost use Rattle.dioid_spectra.specs.Eigenvectors.{EntryFits, IsEigenOf, IsJust, IsRowJust, IsRowOf, IsRowWithin, IsWithin, NumbersFit, OfferFits, OffersFit, RowFits};
+ghost use Rattle.dioid_spectra.specs.Eigenvectors.{EntryOfferFits, IsEigenOf, IsJust, IsRowJust, IsRowOf, IsRowWithin, IsWithin, NumbersFit, OfferFits, OffersFit, RowOffersFit};
 
 use dioid::Date;
 use dioid_matrix::Matrix;
@@ -25,7 +25,7 @@ fn offered(steps: u64, date: i128, number: i128) -> Option<i128>
 // Whether the entry offers at most so much, as far as 128 bits tell.
 fn is_within(steps: u64, entry: Date, number: i128, most: i128) -> bool
     ensures yes { IsTrue result → IsWithin steps entry number most }
-    ensures no { IsFalse result → EntryFits steps entry number → IsWithin steps entry number most
+    ensures no { IsFalse result → EntryOfferFits steps entry number → IsWithin steps entry number most
         → ⊥ }
 {
     match entry {
@@ -41,7 +41,7 @@ fn is_within(steps: u64, entry: Date, number: i128, most: i128) -> bool
 // Whether the entry offers just so much, as far as 128 bits tell.
 fn is_just(steps: u64, entry: Date, number: i128, wanted: i128) -> bool
     ensures yes { IsTrue result → IsJust steps entry number wanted }
-    ensures no { IsFalse result → EntryFits steps entry number → IsJust steps entry number wanted
+    ensures no { IsFalse result → EntryOfferFits steps entry number → IsJust steps entry number wanted
         → ⊥ }
 {
     match entry {
@@ -91,7 +91,7 @@ fn is_row(a: &Matrix<Date>, value: EigenValue, vector: &[i128], row: usize) -> b
     requires square { a.now.rows ≡ a.now.columns }
     requires count { length vector.now ≡ a.now.columns }
     ensures yes { IsTrue result → IsRowOf a.now value vector.now row }
-    ensures no { IsFalse result → RowFits a.now value vector.now row
+    ensures no { IsFalse result → RowOffersFit a.now value vector.now row
         → IsRowOf a.now value vector.now row → ⊥ }
 {
     match value.time.checked_add(vector[row]) {

@@ -1,7 +1,7 @@
 //! Matrices that are made entry by entry.
 ghost use Rattle.std.specs.Prelude.{◌≡◌, ◌≤◌, ◌*◌, IfOk, length};
 ghost use Rattle.dioid_matrix.specs.Tables.{table_of};
-ghost use Rattle.dioid_spectra.specs.MadeMatrices.{IsChoice, IsIdentity, IsTranspose, IsZero, unit_at};
+ghost use Rattle.dioid_spectra.specs.MadeMatrices.{IsColumnChoice, IsIdentity, IsTranspose, IsZero, unit_at};
 
 use dioid::Dioid;
 use dioid_matrix::Matrix;
@@ -89,7 +89,7 @@ pub fn choice<D: Dioid>(
     requires few { size ≤ 4096 }
     requires some_chosen { 1 ≤ length chosen.now }
     requires few_chosen { length chosen.now ≤ 4096 }
-    ensures { IfOk result (IsChoice D.Dioid size chosen.now) }
+    ensures { IfOk result (IsColumnChoice D.Dioid size chosen.now) }
 {
     let columns = chosen.len();
     let mut entries = Vec::new(alloc);

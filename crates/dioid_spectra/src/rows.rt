@@ -1,6 +1,6 @@
 //! Matrices from lists of rows.
 ghost use Rattle.std.specs.Prelude.{◌≡◌, IfErr, OnOk, length};
-ghost use Rattle.dioid_spectra.specs.MatrixRows.{AnswersRows, AreEven, AreSized, IsWhyNoRows, row_lists, width_of};
+ghost use Rattle.dioid_spectra.specs.MatrixRows.{AnswersRows, AreEven, AreSized, IsWhyNoRows, row_lists, rows_width};
 ghost use Rattle.dioid_spectra.specs.declared.rows.RowsRefused.TheVariants.{OutOfMemory};
 
 use crate::made::{copy_of, matrix_of};
@@ -70,7 +70,7 @@ impl<T: Drop> From<AllocFailed<T>> for RowsRefused {
 
 // The length of the first row, 0 where there is none.
 fn first_width<D: Dioid>(rows: &[Vec<D>]) -> usize
-    ensures { result ≡ width_of (row_lists rows.now) }
+    ensures { result ≡ rows_width (row_lists rows.now) }
 {
     match rows.first() {
         Some(row) => row.len(),
@@ -81,7 +81,7 @@ fn first_width<D: Dioid>(rows: &[Vec<D>]) -> usize
 // That each row has this length, that of the first one.
 fn check_even<D: Dioid>(rows: &[Vec<D>], wanted: usize) -> Result<(), RowsRefused>
     requires sized { AreSized (row_lists rows.now) }
-    requires wanted { wanted ≡ width_of (row_lists rows.now) }
+    requires wanted { wanted ≡ rows_width (row_lists rows.now) }
     ensures even { OnOk result (AreEven (row_lists rows.now) (length rows.now)) }
     ensures refused { IfErr result (IsWhyNoRows (row_lists rows.now)) }
 {

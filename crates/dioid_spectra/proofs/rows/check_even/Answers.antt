@@ -1,5 +1,5 @@
 use Rattle.std.proofs.Common.{◌≡◌, ◌<◌, length, ap, arith, rules, below_more}
-use Rattle.dioid_spectra.specs.MatrixRows.{elements_of, row_lists, width_of}
+use Rattle.dioid_spectra.specs.MatrixRows.{row_elements, row_lists, rows_width}
 use Rattle.dioid_spectra.proofs.RowLists.{row_read, rows_counted}
 use Rattle.dioid_spectra.proofs.rows.check_even.Goals as goal
 
@@ -24,6 +24,6 @@ loop-row-preserved g c =
     let within : c.loop-row.row < length c.args.rows.now = search rules in
     let read = ap length (row_read c.args.rows.now c.loop-row.row _ within c.index-rows-row.is) in
     let ok = c.index-rows-row.result.ok.0 in
-    let here : length (elements_of (row_lists c.args.rows.now) c.loop-row.row) ≡ width_of (row_lists c.args.rows.now) =
+    let here : length (row_elements (row_lists c.args.rows.now) c.loop-row.row) ≡ rows_width (row_lists c.args.rows.now) =
     omega (arith, read, ok, c.len-given.ensures, c.if-given-wanted.false, c.requires.wanted) in
-    below_more (λ i. length (elements_of (row_lists c.args.rows.now) i) ≡ width_of (row_lists c.args.rows.now)) _ c.loop-row.invariant here
+    below_more (λ i. length (row_elements (row_lists c.args.rows.now) i) ≡ rows_width (row_lists c.args.rows.now)) _ c.loop-row.invariant here

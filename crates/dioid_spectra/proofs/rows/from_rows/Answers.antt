@@ -2,7 +2,7 @@ use Rattle.std.proofs.Common.{◌≡◌, ◌<◌, ◌≤◌, ◌≢◌, ◌*◌,
 use Rattle.std.proofs.Math.Nat.{mod-lt}
 use Rattle.std.proofs.lemmas.List.{get_or_read}
 use Rattle.dioid_matrix.proofs.Cells.{row_below}
-use Rattle.dioid_spectra.specs.MatrixRows.{AreEven, elements_of, row_lists}
+use Rattle.dioid_spectra.specs.MatrixRows.{AreEven, row_elements, row_lists}
 use Rattle.dioid_spectra.proofs.FilledTables.{made_more, made_all}
 use Rattle.dioid_spectra.proofs.RowLists.{row_read, rows_counted, sized}
 use Rattle.dioid_spectra.proofs.rows.from_rows.Goals as goal
@@ -42,7 +42,7 @@ loop-place-preserved g c =
     let there = get_or_read c.index-rows-place.result.items (c.loop-place.place % columns) _ in_row c.index.ensures g.D.Dioid.zero in
     let here = ap (λ xs. get_or xs (c.loop-place.place % columns) g.D.Dioid.zero) (sym read) in
     let items : c.push.new.self.items ≡ c.loop-place.entries.items ++ (c.in_ok-entry.entry ∷ []) = search rules in
-    made_more g.D.Dioid columns (λ i j. get_or (elements_of (row_lists c.args.rows.now) i) j g.D.Dioid.zero) c.loop-place.place c.loop-place.entries.items c.push.new.self.items
+    made_more g.D.Dioid columns (λ i j. get_or (row_elements (row_lists c.args.rows.now) i) j g.D.Dioid.zero) c.loop-place.place c.loop-place.entries.items c.push.new.self.items
     c.in_ok-entry.entry c.loop-place.invariant items (c.in_ok-entry.ensures.value ∙ (there ∙ here)) c.in_ok-entry.ensures.element
 
 pub returns : goal.returns
@@ -54,6 +54,6 @@ returns g c =
     let count : length c.args.rows.now ≡ length (row_lists c.args.rows.now) = sym (rows_counted c.args.rows.now) in
     let whole : c.loop-place.place ≡ length c.args.rows.now * columns = search rules in
     let even : AreEven (row_lists c.args.rows.now) (length (row_lists c.args.rows.now)) = λ i l. c.in_ok-check_even.ensures.even i (omega (arith, l, count)) in
-    let made = made_all g.D.Dioid (length c.args.rows.now) columns (λ i j. get_or (elements_of (row_lists c.args.rows.now) i) j g.D.Dioid.zero) c.loop-place.entries.items _
+    let made = made_all g.D.Dioid (length c.args.rows.now) columns (λ i j. get_or (row_elements (row_lists c.args.rows.now) i) j g.D.Dioid.zero) c.loop-place.entries.items _
     (rw whole at c.loop-place.invariant) c.matrix_of.ensures in
     (sized c.args.rows.now columns c.first_width-columns.ensures some few_rows few_columns, even, rw (c.first_width-columns.ensures, count) at made)
