@@ -1,3 +1,4 @@
+mod DelayRows
 mod Given
 mod Lowest
 mod Passing

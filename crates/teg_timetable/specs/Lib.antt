@@ -1,7 +1,4 @@
 pub mod Spreads
-pub mod PlannedNets
-pub mod DelaysByNumber
-pub mod ReleaseNetsBuilt
 pub mod WaysBack
 pub mod DelayAnswers
 pub mod TimetableTexts

@@ -1,0 +1,5 @@
+pub mod Building
+pub mod Releasing
+pub mod DerivedNet
+pub mod Planning
+pub mod PlannedEnds
