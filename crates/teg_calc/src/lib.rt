@@ -20,6 +20,7 @@ mod brackets;
 mod bytes;
 mod evaluation;
 mod expressions;
+mod known;
 mod laws;
 mod parsing;
 mod printing;
