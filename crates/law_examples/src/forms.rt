@@ -1,11 +1,14 @@
 //! Settled forms, transfers and lines.
 ghost use Rattle.std.specs.Prelude.{ℕ, ◌<◌, ◌≤◌, ◌≡◌, ◌+◌, ℤ, Bool, IsTrue, length};
+ghost use Rattle.dioid_matrix.specs.Tables.{entry_of};
 ghost use Rattle.bound_laws.specs.Critical.{AllReadyAtZero, IsStrong};
 ghost use Rattle.cyclicity_laws.specs.CriticalParts.{IsCommonByParts, IsStronglyConnected};
 ghost use Rattle.growth_laws.specs.CertifiedLines.{lifted_potential, IsLiftInto};
 ghost use Rattle.growth_laws.specs.DateLines.{line_at, ArePotentialsInto, AreStartsBelow, IsBelowLine};
 ghost use Rattle.growth_laws.specs.Growth.{GrowBy, IsEndless};
 ghost use Rattle.io_laws.specs.InputOutput.{no_releases, AreTransferTimes, IsOutput};
+ghost use Rattle.net_matrices.specs.NetEntries.{IsMatrixOfNet};
+ghost use Rattle.net_matrices.specs.TransferStars.{star_date};
 ghost use Rattle.realization_laws.specs.Realizations.{IsCausalPeriodic, IsRealized};
 ghost use Rattle.slope_laws.specs.Slopes.{IsSlope};
 ghost use Rattle.still_laws.specs.StillNets.{IsStill};
@@ -20,11 +23,15 @@ ghost use Rattle.teg_net.specs.Limits.{greatest_hold, most_place_tokens};
 ghost use Rattle.teg_net.specs.Nets.{IsInput};
 ghost use Rattle.teg_net.specs.Parts.{Reaches};
 ghost use Rattle.teg_settle.specs.Transfers.{AreWalkTimes, IsTransferOf};
+ghost use Rattle.teg_settle.specs.periodic_laws.Equations.{gains};
 
 use cyclicity_laws::{dates_grow_by_cycle_time, periods_divide_by_parts};
+use dioid_matrix::Matrix;
 use growth_laws::{certificates_draw_lines, dates_grow_by_slopes, potentials_bound_dates};
 use io_laws::dates_are_outputs;
+use net_matrices::transfers_are_stars;
 use realization_laws::{series_are_realized, transfers_are_periodic};
+use series_ops::Gain;
 use still_laws::{other_nets_are_strong, still_nets_settle_at_once};
 use teg_check::{Live, ranked_nets_are_live};
 use teg_net::{CycleAnswer, Net, Place, Ratio, Transition, TransitionId};
@@ -40,6 +47,20 @@ pub fn dates_are_responses(net: &Net, live: &Live)
     net.rules();
     ranked_nets_are_live();
     dates_are_outputs();
+}
+
+/// The dates of a net are the responses by the star of its matrix, which is not computed for it.
+pub fn dates_are_responses_of_stars(net: &Net, live: &Live, _matrix: &Matrix<Gain>)
+    requires live { IsRanking net.now live.now }
+    requires matrix { IsMatrixOfNet net.now _matrix.now }
+    ensures { (x u y : ℕ → ℕ → Date)
+        → IsLeastUnder net.now no_releases x → IsLeastUnder net.now u y
+        → (t k : ℕ) → t < length net.now.transitions → 1 ≤ k
+        → IsOutput net.now x u (star_date net.now (entry_of gains _matrix.now)) t k (y t k) }
+{
+    net.rules();
+    ranked_nets_are_live();
+    transfers_are_stars();
 }
 
 /// The dates of a net with one input are the responses to its releases, by its transfer.

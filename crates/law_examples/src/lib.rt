@@ -53,6 +53,7 @@ pub use counts::row_is_not_late;
 pub use counts::run_is_whole;
 pub use forms::answer_draws_lines;
 pub use forms::dates_are_responses;
+pub use forms::dates_are_responses_of_stars;
 pub use forms::dates_stay_below;
 pub use forms::grows_by_ratio;
 pub use forms::has_slope;
