@@ -2,3 +2,4 @@ pub mod FilledTables
 pub mod MatrixNetLaws
 pub mod PowerLaws
 pub mod RowChecks
+pub mod RowLists

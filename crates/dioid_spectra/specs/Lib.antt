@@ -1,4 +1,5 @@
 pub mod MadeMatrices
+pub mod MatrixRows
 pub mod Powers
 pub mod Eigenvectors
 pub mod MatrixNets

@@ -1,5 +1,5 @@
 -- Matrices that are made of nothing, of rows, and of another matrix (chapter 4).
-use Rattle.std.specs.Prelude.{◌≡◌, ◌<◌, ℕ, zero, suc, ◌==◌, if◌then◌else◌}
+use Rattle.std.specs.Prelude.{◌≡◌, ◌<◌, ℕ, zero, suc, List, length, slice_index, ◌==◌, if◌then◌else◌}
 use Rattle.dioid.specs.declared.algebra.Dioid.{Ghosts as DioidOf}
 use Rattle.dioid_matrix.specs.Sums.{dot}
 use Rattle.dioid_matrix.specs.Tables.{Table, entry_of}
@@ -18,6 +18,10 @@ module _ {M : Type 0} (d : DioidOf M) where
   -- the identity of this size
   abbrev pub IsIdentity : ℕ → Table M → Type 0
   IsIdentity size t = HasEntries size size unit_at t
+
+  -- one in each column at the row that the list has for it, and zero elsewhere
+  abbrev pub IsChoice : ℕ → List ℕ → Table M → Type 0
+  IsChoice size chosen t = HasEntries size (length chosen) (λ i j. unit_at i (slice_index chosen j)) t
 
   -- zero everywhere
   abbrev pub IsZero : ℕ → ℕ → Table M → Type 0

@@ -1,14 +1,15 @@
 //! Matrices that are made entry by entry.
 ghost use Rattle.std.specs.Prelude.{◌≡◌, ◌≤◌, ◌*◌, IfOk, length};
 ghost use Rattle.dioid_matrix.specs.Tables.{table_of};
-ghost use Rattle.dioid_spectra.specs.MadeMatrices.{IsIdentity, IsTranspose, IsZero, unit_at};
+ghost use Rattle.dioid_spectra.specs.MadeMatrices.{IsChoice, IsIdentity, IsTranspose, IsZero, unit_at};
 
 use dioid::Dioid;
 use dioid_matrix::Matrix;
 use std::alloc::{AllocError, Global};
 
-// The matrix with these entries, by rows.
-pub(crate) fn matrix_of<D: Dioid>(rows: usize, columns: usize, entries: Vec<D>) -> Matrix<D>
+/// The matrix with these entries, row after row, as many as the sizes say; both sizes are from 1 to
+/// 4,096 (chapter 4). It takes no memory.
+pub fn matrix_of<D: Dioid>(rows: usize, columns: usize, entries: Vec<D>) -> Matrix<D>
     requires some_rows { 1 ≤ rows }
     requires few_rows { rows ≤ 4096 }
     requires some_columns { 1 ≤ columns }
@@ -71,6 +72,32 @@ pub fn identity<D: Dioid>(alloc: Global, size: usize) -> Result<Matrix<D>, Alloc
         entries.push(entry)?;
     }
     Ok(matrix_of(size, size, entries))
+}
+
+/// The matrix that chooses columns, in this order (chapters 4 and 5): one in column c at the row
+/// that stands there in the list, and zero elsewhere. So a square matrix times it has the chosen
+/// columns alone, as B of a linear system has those of its inputs, and its transpose times a matrix
+/// the chosen rows, as C those of its outputs. Both sizes are from 1 to 4,096; a column whose row
+/// is not below the size is zero. `AllocError` comes only where no memory is found. It takes time
+/// of the order of the entries.
+pub fn choice<D: Dioid>(
+    alloc: Global,
+    size: usize,
+    chosen: &[usize],
+) -> Result<Matrix<D>, AllocError>
+    requires some { 1 ≤ size }
+    requires few { size ≤ 4096 }
+    requires some_chosen { 1 ≤ length chosen.now }
+    requires few_chosen { length chosen.now ≤ 4096 }
+    ensures { IfOk result (IsChoice D.Dioid size chosen.now) }
+{
+    let columns = chosen.len();
+    let mut entries = Vec::new(alloc);
+    for place in 0..size * columns {
+        let entry = unit_entry(alloc, place / columns, chosen[place % columns])?;
+        entries.push(entry)?;
+    }
+    Ok(matrix_of(size, columns, entries))
 }
 
 /// The matrix of these sizes, each from 1 to 4,096, that is zero everywhere (chapter 4).
