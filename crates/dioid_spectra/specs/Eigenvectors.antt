@@ -1,6 +1,7 @@
 -- Eigenvectors of a matrix of dates (chapter 3). The value is a number of units of time for a number of steps; each entry is multiplied by these
 -- steps, so that all numbers are whole.
-use Rattle.std.specs.Prelude.{ℕ, ℤ, pos, ◌<◌, ◌≤◌, ◌+◌, ◌*◌, ◌≡◌, ◌*ℤ◌, ◌+ℤ◌, ◌≤ℤ◌, List, [], ◌∷◌, length, get_or, slice_index_or, ⊤}
+use Rattle.std.specs.Prelude.{ℕ, ℤ, pos, ◌<◌, ◌≤◌, ◌+◌, ◌*◌, ◌≡◌, ◌*ℤ◌, ◌+ℤ◌, ◌≤ℤ◌, List, [], ◌∷◌, length, get_or, slice_index_or, FitsSigned, ⊤}
+use Rattle.std.specs.Int.{w128}
 use Rattle.dioid.specs.declared.dates.Date.{Date}
 use Rattle.dioid.specs.declared.dates.Date.TheVariants.{Early, At, Never}
 use Rattle.dioid_matrix.specs.Tables.{Table}
@@ -45,6 +46,32 @@ pub record IsEigenOf (a : Table Date) (value : EigenValue) (v : List ℤ) : Type
   pub count : length v ≡ a.rows
   pub some : 1 ≤ value.steps
   pub each : (i : ℕ) → i < a.rows → IsRowOf a value v i
+
+-- ---- numbers within 128 bits
+
+-- the number x, so many times, and that with the number y stay within 128 bits
+pub record OfferFits (steps : ℕ) (x y : ℤ) : Type 0 where
+  pub product : FitsSigned w128 (pos steps *ℤ x)
+  pub sum : FitsSigned w128 ((pos steps *ℤ x) +ℤ y)
+
+-- so does the entry, where it is a number
+abbrev pub EntryFits : ℕ → Date → ℤ → Type 0
+EntryFits steps Early y = ⊤
+EntryFits steps (At x) y = OfferFits steps x y
+EntryFits steps Never y = ⊤
+
+-- so does each entry of the row
+abbrev pub OffersFit : Table Date → ℕ → List ℤ → ℕ → Type 0
+OffersFit a steps v i = (j : ℕ) → j < a.columns → EntryFits steps (entry_at a i j) (number_at v j)
+
+-- so do all numbers of the row
+pub record RowFits (a : Table Date) (value : EigenValue) (v : List ℤ) (i : ℕ) : Type 0 where
+  pub wanted : FitsSigned w128 (value.time +ℤ number_at v i)
+  pub offers : OffersFit a value.steps v i
+
+-- no number on the way passes 128 bits
+abbrev pub NumbersFit : Table Date → EigenValue → List ℤ → Type 0
+NumbersFit a value v = (i : ℕ) → i < a.rows → RowFits a value v i
 
 -- ---- rows that reach each other
 
