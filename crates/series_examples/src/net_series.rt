@@ -1,6 +1,7 @@
 //! Nets as matrices of series, whose star has the transfers (chapters 5 and 6).
 use dioid::Date;
 use dioid_matrix::Matrix;
+use dioid_spectra::{choice, transpose};
 use net_matrices::{series_of_dates, transfer_matrix};
 use series_form::Series;
 use series_ops::Gain;
@@ -37,6 +38,28 @@ fn transfers_are_entries(rt: HostRuntime) -> Result<(), Fail> {
         assert!(rt; value_at(&star, 2, 0, shift) == Some(Date::At(time)));
     }
     assert!(rt; value_at(&star, 0, 2, 1_000) == Some(Date::Early));
+    Ok(())
+}
+
+// The rows of these transitions and the columns of those, C A* B.
+fn chosen_of(
+    alloc: Global,
+    star: &Matrix<Gain>,
+    outputs: &Matrix<Gain>,
+    inputs: &Matrix<Gain>,
+) -> Result<Matrix<Gain>, Fail> {
+    let rows = transpose(alloc, outputs)?.times(alloc, star)?;
+    Ok(rows.times(alloc, inputs)?)
+}
+
+#[test]
+fn transfers_are_products(rt: HostRuntime) -> Result<(), Fail> {
+    let alloc = rt.alloc();
+    let star = transfer_matrix(alloc, &LiveNet::new(alloc, read_net(alloc, NET)?)?)?;
+    let inputs = choice::<Gain>(alloc, 3, &[0])?;
+    let outputs = choice::<Gain>(alloc, 3, &[2])?;
+    let transfers = chosen_of(alloc, &star, &outputs, &inputs)?;
+    assert!(rt; value_at(&transfers, 0, 0, 1_000) == Some(Date::At(3_005)));
     Ok(())
 }
 

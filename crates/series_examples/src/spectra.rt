@@ -1,7 +1,9 @@
 //! Matrices of dates that are made, turned and asked for their eigenvalue (chapter 3).
 use dioid::Date;
 use dioid_matrix::Matrix;
-use dioid_spectra::{EigenValue, NoSpectrum, eigen, identity, is_eigen, transpose};
+use dioid_spectra::{
+    EigenValue, NoSpectrum, RowsRefused, eigen, from_rows, identity, is_eigen, transpose,
+};
 use std::alloc::Global;
 use std::test::Fail;
 
@@ -56,5 +58,49 @@ fn two_machines_have_a_pace(rt: HostRuntime) -> Result<(), Fail> {
     assert!(rt; is_told?);
     let why = why_none(rt.alloc(), &machines(rt.alloc(), Date::Early)?);
     assert!(rt; why == Some(NoSpectrum::Reducible));
+    Ok(())
+}
+
+// Two lists: the first has two dates, and these are the second.
+fn two_rows(alloc: Global, second: Vec<Date>) -> Result<Vec<Vec<Date>>, Fail> {
+    let mut rows = Vec::new(alloc);
+    rows.push(Vec::from_array(alloc, [Date::At(3), Date::At(7)])?)?;
+    rows.push(second)?;
+    Ok(rows)
+}
+
+// The entry in the second row and the second column of the matrix of two lists.
+fn entry_of_rows(alloc: Global, rows: &[Vec<Date>]) -> Result<Option<Date>, RowsRefused> {
+    Ok(at(&from_rows(alloc, rows)?, 1, 1))
+}
+
+#[test]
+fn rows_make_a_matrix(rt: HostRuntime) -> Result<(), Fail> {
+    let alloc = rt.alloc();
+    let rows = two_rows(alloc, Vec::from_array(alloc, [Date::At(2), Date::Never])?)?;
+    let told = entry_of_rows(alloc, &rows);
+    assert!(rt; told == Ok(Some(Date::Never)));
+    Ok(())
+}
+
+#[test]
+fn uneven_rows_are_refused(rt: HostRuntime) -> Result<(), Fail> {
+    let alloc = rt.alloc();
+    let rows = two_rows(alloc, Vec::from_array(alloc, [Date::At(2)])?)?;
+    let told = entry_of_rows(alloc, &rows);
+    let uneven = RowsRefused::Uneven {
+        row: 1,
+        given: 1,
+        wanted: 2,
+    };
+    assert!(rt; told == Err(uneven));
+    Ok(())
+}
+
+#[test]
+fn another_vector_is_none(rt: HostRuntime) -> Result<(), Fail> {
+    let matrix = machines(rt.alloc(), Date::At(2))?;
+    let is_one = is_eigen(&matrix, EigenValue { time: 9, steps: 2 }, &[0, 0]);
+    assert!(rt; !is_one);
     Ok(())
 }
