@@ -1,9 +1,9 @@
 -- What rows of a net show, in the words of its least dating.
-use Rattle.std.proofs.Common.{ℕ, ◌<◌, ◌≤◌, ◌≡◌, Option, Some, None, IsSome, IfSome, IfNone, MatchOption, length, refl, sym, arith}
+use Rattle.std.proofs.Common.{ℕ, ◌<◌, ◌≤◌, ◌≡◌, Option, Some, None, IsSome, IfSome, IfNone, MatchOption, length, refl, sym, ◌∙◌, arith}
 use Rattle.teg_net.specs.Nets.{NetLists}
 use Rattle.teg_net.specs.Circuits.{IsLive}
 use Rattle.periodic_laws.specs.teg_model.Datings.{IsLeastDating, listed_releases, system_of}
-use Rattle.periodic_laws.proofs.teg_model_proofs.OfNet.{only_least}
+use Rattle.periodic_laws.proofs.teg_model_proofs.OfNet.{only_least, least_of_system}
 use Rattle.periodic_laws.proofs.teg_model_proofs.DateFunctions.{Dating}
 use Rattle.periodic_laws.proofs.settled_laws_proofs.Everywhere.{same_repeats}
 use Rattle.periodic_laws.specs.LinearSystem.{LeastDatingsRepeat}
@@ -45,7 +45,14 @@ module _ (net : NetLists) (r : Releases) (own : AreOwnReleases net r) where
       least_after = λ x is k p s rep. seen.least_after z (least_is net r most h) k p s (same_repeats (length net.transitions) x z k p s (λ t j l o. sym (same x is t j l o)) rep);
     }
 
-    shows_no_form : (count : ℕ) → most ≤ 1000 → ((period : ℕ) → IsRefuted net r most count period) → ShowsNoForm net count
+    -- and rows of that system are those of the net
+    pub own_rows : (rows : TableDates) → AreRowsOf net r rows → AreLeastRows net (system_of net (listed_releases net)) rows
+    own_rows rows a = record {
+      width = a.least.width;
+      least = λ x is t k l o m. a.least.least z (least_is net r most h) t k l o m ∙ same x (least_of_system net (listed_releases net) x is) t k l o;
+    }
+
+    pub shows_no_form : (count : ℕ) → most ≤ 1000 → ((period : ℕ) → IsRefuted net r most count period) → ShowsNoForm net count
     shows_no_form count few none x is after period step rep fits =
         none period z (least_is net r most h) after step (same_repeats (length net.transitions) x z after period step (λ t j l o. sym (same x is t j l o)) rep) (omega arith)
 

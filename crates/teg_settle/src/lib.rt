@@ -8,9 +8,9 @@
 //! that number and a step; contracts see it as a `SettledForm`. It tells the date of every number.
 //! [`settle_dates`] and [`settle_dates_within`] answer the same form as the rows that show it, for
 //! callers that ask for some of its dates: [`SettledDates`] takes a quarter of the memory.
-//! [`date_of`] answers one date, by the rows alone where they go so far. [`shown_form`] is the step
-//! of the search for rows of one's own: it takes no memory, and so many rows as the lists of the
-//! net tell always show a form.
+//! [`date_of`] answers one date, by the rows alone where they go so far, and [`date_within`] by so
+//! many rows at most, or these rows. [`shown_form`] is the step of the search for rows of one's
+//! own: it takes no memory, and so many rows as the lists of the net tell always show a form.
 //!
 //! Rows of dates are made until they show a form: in its last period no step falls along a place,
 //! the dates before move alike, and so do the releases of the inputs. The crate stands on
@@ -75,7 +75,7 @@ mod witness;
 pub use endless::{settle, settle_dates};
 pub use laws::{transfers_are_one, walk_times_settle};
 pub use limited::{settle_dates_within, settle_within, transfer};
-pub use one_date::date_of;
+pub use one_date::{DateOrRows, date_of, date_within};
 pub use refusals::SettleRefusal;
 pub use releases::{Releases, Repetition};
 pub use settled::Settled;

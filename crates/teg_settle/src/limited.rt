@@ -17,6 +17,7 @@ use crate::releases::Releases;
 use crate::search::{Found, search};
 use crate::settled::Settled;
 use crate::shown::SettledDates;
+use date_rows::Rows;
 use std::alloc::Global;
 use teg_check::{Live, ranks_of};
 use teg_net::{Net, OutOfMemory, TransitionId};
@@ -34,7 +35,7 @@ fn found_within(alloc: Global, asked: &Asked<'_>, limit: u32) -> Result<Found, S
         asked.now.releases.now limit) limit) }
 {
     let last = 2 * u64::from(limit) + asked.most;
-    let searched = search(alloc, asked, last)?;
+    let searched = search(alloc, asked, Rows::new(alloc, asked.net), last)?;
     match searched.form {
         Some(form) => {
             if form.after + form.period > u64::from(limit) {

@@ -135,18 +135,26 @@ pub(crate) fn grow(
     Ok(rows)
 }
 
-// Rows that show the shortest form, or `last` rows that show none: the rows are doubled until they
-// show one, so that it takes few more rows than the form needs.
-pub(crate) fn search(alloc: Global, asked: &Asked<'_>, last: u64) -> Result<Searched, OutOfMemory>
+// From these rows on, rows that show the shortest form, or at least `last` rows, which show none
+// where they are more: the rows are doubled until they show one, so that it takes few more rows
+// than the form needs.
+pub(crate) fn search(
+    alloc: Global,
+    asked: &Asked<'_>,
+    rows: Rows,
+    last: u64,
+) -> Result<Searched, OutOfMemory>
     requires asked { IsAsked asked.now.net.now asked.now.live.now asked.now.releases.now
         asked.now.most }
+    requires rows { AreRowsOf asked.now.net.now asked.now.releases.now rows }
     requires few { last ≤ most_window }
     ensures { IfOk result (IsSearched asked.now.net.now asked.now.releases.now asked.now.most
-        last) }
+        rows.count last) }
 {
     let order = PlaceOrder::new(alloc, asked.net, asked.live)?;
-    let mut rows = Rows::new(alloc, asked.net);
-    let mut stage = (asked.most + 8).min(last);
+    let start = rows.count();
+    let mut rows = rows;
+    let mut stage = (2 * start).max(asked.most + 8).min(last);
     'search: while rows.count() < last {
         rows = grow(asked, &order, rows, stage)?;
         match seen(alloc, asked, &rows)? {

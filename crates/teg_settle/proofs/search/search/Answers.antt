@@ -9,7 +9,8 @@ returns c =
       ready = c.requires.asked.ready;
       rows = h.rows;
       shown = record {
-        all = omega (arith, h.within);
-        refuted = λ period x is after step rep fits. h.refuted period x is after step rep (omega (arith, h.within));
+        all = omega (arith, all);
+        within = λ l. h.within (omega (arith, l, c.count-start.ensures.value));
+        refuted = λ l. h.refuted (omega (arith, l, c.count-start.ensures.value));
       };
     }

@@ -5,10 +5,10 @@ use Rattle.teg_settle.proofs.search.search.Given as goal
 abbrev pub invariant-search : goal.invariant-search
 invariant-search l = record {
   rows : AreRowsOf l.asked.net.now l.asked.releases.now l.rows;
-  within : l.rows.count ≤ l.last;
+  within : l.start ≤ l.last → l.rows.count ≤ l.last;
   stage_in : l.stage ≤ l.last;
   stage_more : l.rows.count < l.last → l.rows.count < l.stage;
-  refuted : (period : ℕ) → IsRefuted l.asked.net.now l.asked.releases.now l.asked.most l.rows.count period;
+  refuted : l.start < l.rows.count → (period : ℕ) → IsRefuted l.asked.net.now l.asked.releases.now l.asked.most l.rows.count period;
 }
 
 abbrev pub decreases-search : goal.decreases-search
