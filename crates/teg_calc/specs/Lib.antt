@@ -2,6 +2,7 @@ pub mod ExpressionTrees
 pub mod Grammar
 pub mod ParseAnswers
 pub mod Meaning
+pub mod KnownSeries
 pub mod Readers
 pub mod Printing
 pub use Rattle.dioid.specs as dioid

@@ -13,13 +13,15 @@
 //! [`parse`] is one machine over the bytes with a stack of open brackets. A state stands for what
 //! was written so far, so the first byte at which it stops is the exact offset; no list of tokens is
 //! made, and no recursion goes down the text. [`evaluate`], and the drop of a tree, recur along the
-//! tree, which has at most 4,096 nodes.
+//! tree, which has at most 4,096 nodes. `evaluate` keeps the series of operations beside it, up to a
+//! bound, and so works out of equal ones the first alone.
 #![tactic(auto)]
 
 mod brackets;
 mod bytes;
 mod evaluation;
 mod expressions;
+mod known;
 mod laws;
 mod parsing;
 mod printing;
