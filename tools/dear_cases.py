@@ -116,6 +116,14 @@ def joined_own_places(tokens):
     return Net([f"s{k}" for k in range(len(tokens))], places)
 
 
+def joined_loops(tokens):
+    """Transitions with own places of cycle time 1, of so many tokens, and one behind all of them."""
+    places = []
+    for k, own in enumerate(tokens):
+        places += [(f"l{k}", f"s{k}", f"s{k}", own, own), (f"j{k}", f"s{k}", "j", 0, 0)]
+    return Net([f"s{k}" for k in range(len(tokens))] + ["j"], places)
+
+
 def fed_own_places(tokens):
     """An input before transitions with own places of cycle time 1, of so many tokens."""
     places = []
@@ -480,6 +488,7 @@ def settled_cases():
     yield ("date: own places of 97 and 89 tokens", ["date", "net", "s1", str(10**18)], {"net": short.text()}, DONE,
            f"date s1 {10**18} {(10**18 - 1) // 89}\n")
     yield from card_cases()
+    yield from near_cases()
     late = overtaken(0, 19_990)
     yield "dates: overtaken after 19,990", ["dates", "net"], {"net": late.text()}, DONE, partial(overtaken_text, late, 19_990)
     yield "date: overtaken after 19,990", ["date", "net", "c", "1000000"], {"net": late.text()}, DONE, "date c 1000000 10999989\n"
@@ -506,9 +515,29 @@ def card_cases():
     yield "dates: 6 lines of 5 to 13 cards", ["dates", "net"], {"net": card_lines(most, 60, back).text()}, TOO_LONG, TOO_LONG_TEXT.format(20_000)
     yield ("dates: 6 lines of 5 to 13 cards, limit 200000", ["dates", "net", "--limit", "200000"],
            {"net": card_lines(most, 10, back).text()}, TOO_LONG, TOO_LONG_TEXT.format(200_000))
-    for cards, machines in (more, 10), (most, 1):
-        yield (f"date: {len(cards)} lines of 5 to {cards[-1]} cards, without a limit", ["date", "net", "s0_0", str(far), "--limit", "none"],
-               {"net": card_lines(cards, machines, back).text()}, DONE, f"date s0_0 {far} {card_date(5, machines, back, 0, far)}\n")
+    for cards, machines in (more, 10), (most, 1), (most, 10), ((7, 9, 11, 13, 16, 17), 10):
+        yield (f"date: {len(cards)} lines of {cards[0]} to {cards[-1]} cards, {machines} machines each, without a limit", ["date", "net", "s0_0", str(far), "--limit", "none"],
+               {"net": card_lines(cards, machines, back).text()}, DONE, f"date s0_0 {far} {card_date(cards[0], machines, back, 0, far)}\n")
+    joined = joined_loops(more)
+    yield (f"date: behind {len(more)} loops of 5 to {more[-1]} cards, without a limit", ["date", "net", "j", str(far), "--limit", "none"],
+           {"net": joined.text()}, DONE, f"date j {far} {max((far - 1) // own * own for own in more)}\n")
+
+
+def near_cases():
+    """One date of a line of machines of 3,600 s of which the last takes a second more: it is never without parts, so its
+    dates are 3,601 s apart. The first machine waits for it once the room between all of them is used up: each room is
+    as many parts, and a part that is taken there makes the machine before free at once."""
+    for count, room, number in (100, 80, 10**6), (20, 1_000, 10**9), (399, 10, 10**12):
+        last = 3_600 * (count - 1) + 3_601 * (number - 1)
+        net = near_rates(count, room).text()
+        yield (f"date: number {number:,} of {count} machines whose rates nearly agree, room for {room:,} parts",
+               ["date", "net", f"m{count - 1}", str(number), "--limit", "none"], {"net": net}, DONE, f"date m{count - 1} {number} {last}\n")
+        first = max(3_600 * (number - 1), last - 3_601 * room * (count - 1))
+        yield (f"date: number {number:,} of the first of {count} machines, room for {room:,} parts",
+               ["date", "net", "m0", str(number), "--limit", "none"], {"net": net}, DONE, f"date m0 {number} {first}\n")
+    slow, room, number = 999_999_999, 1_000, 10**12
+    yield (f"date: number {number:,} of two transitions overtaken after 999,000,000,000", ["date", "net", "a", str(number), "--limit", "none"],
+           {"net": two_rates(slow, room, 10**9).text()}, DONE, f"date a {number} {10**9 + (number - room - 1) * (slow + 1)}\n")
 
 
 def late_ring(count, limited=True):

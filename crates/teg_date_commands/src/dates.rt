@@ -8,6 +8,7 @@ ghost use Rattle.teg_settle.specs.LeastDates.{IsLeastDate};
 ghost use Rattle.teg_settle.specs.LimitRefusals.{greatest_limit};
 
 use crate::limits::most_of;
+use crate::one_date::date_of_part;
 use dioid::Date;
 use periodic_laws::live_nets_settle;
 use settled_laws::forms_tell_dates;
@@ -16,7 +17,7 @@ use teg_check::LiveNet;
 use teg_net::{FiringNumber, Label, OutOfMemory, TransitionId};
 use teg_outcome::{CommandOutcome, Limit, Verdict};
 use teg_report::{Answer, report};
-use teg_settle::{SettleRefusal, Settled, date_of, settle, settle_dates_within, settle_within};
+use teg_settle::{SettleRefusal, Settled, settle, settle_dates_within, settle_within};
 
 // That the settled form is longer than the limit.
 fn tell_too_long(
@@ -52,7 +53,7 @@ fn settled(alloc: Global, net: &LiveNet, limit: Option<u32>) -> Result<Settled, 
 }
 
 // The date of one firing by the least dating: by its settled form where that has a limit, and else
-// by the rows where they go so far.
+// by rows, form or jumps, whichever tells it first.
 fn least_date(
     alloc: Global,
     net: &LiveNet,
@@ -79,7 +80,7 @@ fn least_date(
             // That the least dating of a live net has a settled form.
             live_nets_settle();
             net.net().rules();
-            Ok(date_of(alloc, net.net(), net.live(), transition, number)?)
+            Ok(date_of_part(alloc, net.net(), net.live(), transition, number)?)
         }
     }
 }
@@ -146,8 +147,10 @@ fn tell_no_transition(alloc: Global, word: &str) -> Result<CommandOutcome, OutOf
 
 /// The date of one firing of a live net, by the name of its transition and its number from 1; or
 /// that no transition has the name, or that the settled form is longer than the limit, where one is
-/// given. It takes the time of the search for the settled form, and without a limit that of so many
-/// rows as the number, where these are fewer.
+/// given. It takes the time of the search for the settled form; without a limit it asks the part
+/// that the transition waits for, and takes the time of so many rows as the number, where these are
+/// fewer, and where rates nearly agree that of few rows near the numbers at which one circuit
+/// overtakes another.
 pub fn tell_date(
     alloc: Global,
     net: &LiveNet,

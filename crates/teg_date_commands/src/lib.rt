@@ -2,13 +2,15 @@
 //! from its inputs to its outputs, and how the delays of a timetable spread.
 //!
 //! Each command is one function with one definition of what it says: `Tells (SaysX ..) (outcome_of
-//! result)`. The crate stands on the crates that answer, `teg_settle`, `teg_transfer` and
-//! `teg_timetable`, on `teg_report` for the texts, and on `teg_outcome` for how a command ends.
-//! What holds of all commands is told by `teg_commands`. Whole calls try it, in `worked_examples`.
+//! result)`. The crate stands on the crates that answer, `teg_settle`, `run_rows`, `teg_transfer`
+//! and `teg_timetable`, on `date_rows` for the rows of which the first two are asked in turn, on
+//! `teg_report` for the texts, and on `teg_outcome` for how a command ends. What holds of all
+//! commands is told by `teg_commands`. Whole calls try it, in `worked_examples`.
 #![tactic(auto)]
 
 mod dates;
 mod limits;
+mod one_date;
 mod timetable;
 mod transfer;
 
