@@ -1,16 +1,19 @@
 -- The plan of a product, as the code computes it.
-use Rattle.std.proofs.Common.{◌≡◌, ap, arith, ℕ, ℤ, pos, ◌+◌, ◌*◌, ◌≤◌, ◌<◌, sym, ◌∙◌, subst, List}
+use Rattle.std.proofs.Common.{◌≡◌, ap, arith, ℕ, ℤ, pos, suc, ◌+◌, ◌-◌, ◌*◌, ◌/◌, ◌≤◌, ◌<◌, sym, ◌∙◌, subst, List}
+use Rattle.std.specs.Prelude.{◌<ℤ◌}
 use Rattle.std.specs.Int.RustNames.{unsigned_abs}
-use Rattle.std.proofs.lemmas.Int.{unsigned_abs-mul}
-use Rattle.std.proofs.lemmas.Nat.{mul-le}
+use Rattle.std.proofs.lemmas.Int.{unsigned_abs-mul, ints}
+use Rattle.std.proofs.lemmas.Nat.{mul-le, div_below}
 use Rattle.std.proofs.Math.Nat.{le-mul_of_pos_right}
 use Rattle.dioid.specs.declared.dates.Date.{Date}
+use Rattle.dioid.specs.declared.dates.Date.TheVariants.{At}
 use Rattle.series_laws.specs.declared.plans.NeedPlan.{NeedPlan}
+use Rattle.series_laws.specs.declared.plans.Slopes.TheVariants.{First}
 use Rattle.series_laws.specs.Periodic.{times}
 use Rattle.series_laws.specs.SeriesForms.{Form, value_at, table}
 use Rattle.series_form.specs.NumberBounds.{IsSeries}
-use Rattle.series_laws.specs.Needs.{need_of}
-use Rattle.series_laws.proofs.Sums.{Serves}
+use Rattle.series_laws.specs.Needs.{need_of, by_sign, slopes_by}
+use Rattle.series_laws.proofs.Sums.{Serves, sign_first}
 use Rattle.series_form.proofs.DateNumbers.{times_product}
 use Rattle.series_form.proofs.Finished.{IsTabled}
 use Rattle.series_ops.specs.ListFunctions.{all_but_last, last_value}
@@ -18,7 +21,7 @@ use Rattle.series_laws.specs.Product.{product_at}
 use Rattle.series_laws.proofs.Products.{product_rises, product_serves}
 use Rattle.series_ops.proofs.FirstValues.{listed_tabled, product_up_to}
 use Rattle.series_laws.specs.ProductNeeds.{product_plan}
-use Rattle.series_form.specs.SeriesLimits.{greatest_value, most_covering_shifts, greatest_moderate}
+use Rattle.series_form.specs.SeriesLimits.{greatest_value, most_common_shifts, most_covering_shifts, most_waits, greatest_moderate, greatest_height}
 
 -- ---- lifts
 
@@ -34,6 +37,13 @@ lifted_bound m k n l x e pos_n low small =
     let h : unsigned_abs (times m (times k x)) ≡ m * (k * unsigned_abs x) = b ∙ ap (λ (z : ℕ). m * z) a in
     omega arith
 
+-- no more periods cover a list than it has values
+pub few_covers : (size n : ℕ) → 0 < n → (size + (n - 1)) / n ≤ size
+few_covers size n pos_n =
+    let up : size ≤ size * n = le-mul_of_pos_right size pos_n in
+    let low : (size + (n - 1)) / n < size + 1 = div_below (size + (n - 1)) n (size + 1) pos_n (omega arith) in
+    omega arith
+
 -- ---- the cases of the plan
 
 pub product_tabled : (f g : Form) (r : NeedPlan) (l : List Date) → IsSeries f → IsSeries g → r ≡ product_plan f g → need_of r ≤ 20000 → l ≡ table (product_at (value_at f) (value_at g)) (need_of r + 1)
@@ -42,3 +52,16 @@ product_tabled f g r l sf sg e short items = listed_tabled (product_at (value_at
     (product_rises (value_at f) (value_at g) sf.canonical.form.rising sg.canonical.form.rising)
     (subst (λ (z : NeedPlan). Serves (product_at (value_at f) (value_at g)) z) (sym e) (product_serves f g sf.canonical.form sg.canonical.form))
     items (λ k w. product_up_to f g sf sg k (omega arith))
+
+-- ---- the plan where the first slope is greater
+
+-- the shifts in which it makes up what it is behind
+pub waited_shifts : (n m : ℕ) → n ≤ most_waits → m ≤ most_common_shifts → n * m ≤ greatest_height
+waited_shifts n m h k = let all : n * m ≤ most_waits * most_common_shifts = mul-le n m most_waits most_common_shifts h k in omega arith
+
+-- two numbers, of which the first gains
+pub numbers_gain : (a b : Date) (s t z : ℤ) → a ≡ At s → b ≡ At t → slopes_by a b z ≡ First → pos 0 <ℤ z
+numbers_gain a b s t z ea eb h =
+    let w : by_sign z ≡ First = rw (ea, eb) at h in
+    let n : (n : ℕ) × (z ≡ pos (suc n)) = sign_first z w in
+    omega (arith, ints, n.1)

@@ -157,6 +157,18 @@ impl Cells {
         }
     }
 
+    // No dates, with room for so many.
+    pub(crate) fn with_capacity(alloc: Global, count: usize) -> Result<Cells, AllocError>
+        ensures { IfOk result (λ cells. cells ≡ []) }
+    {
+        Ok(Cells {
+            numbers: Vec::with_capacity(alloc, count)?,
+            short: Vec::with_capacity(alloc, count)?,
+            jumps: Vec::new(alloc),
+            rising: true,
+        })
+    }
+
     // How many there are.
     pub(crate) fn len(&self) -> usize
         ensures value { result ≡ length self.now }
@@ -203,7 +215,7 @@ pub(crate) fn collected(alloc: Global, dates: &[Date]) -> Result<Cells, AllocErr
     requires { AreUpTo greatest_listed dates.now }
     ensures { IfOk result (λ cells. cells ≡ dates.now) }
 {
-    let mut cells = Cells::new(alloc);
+    let mut cells = Cells::with_capacity(alloc, dates.len())?;
     for place in 0..dates.len() {
         cells.push(dates[place])?;
     }
@@ -216,7 +228,7 @@ pub(crate) fn dates_of(alloc: Global, cells: &Cells, size: usize) -> Result<Vec<
     ensures bound { AreUpTo greatest_listed cells.now }
 {
     let _size = cells.len();
-    let mut dates = Vec::new(alloc);
+    let mut dates = Vec::with_capacity(alloc, size)?;
     for place in 0..size {
         dates.push(cells.date(place))?;
     }
@@ -228,7 +240,7 @@ pub(crate) fn conjugates_back(alloc: Global, dates: &[Date]) -> Result<Cells, Al
     requires { AreUpTo greatest_listed dates.now }
     ensures { IfOk result (λ cells. conjugates_reversed cells ≡ dates.now) }
 {
-    let mut cells = Cells::new(alloc);
+    let mut cells = Cells::with_capacity(alloc, dates.len())?;
     for place in 0..dates.len() {
         cells.push(conjugate(dates[dates.len() - 1 - place]))?;
     }

@@ -62,7 +62,7 @@ fn times_star(alloc: Global, list: &Cells, stride: Stride) -> Result<Cells, Allo
         stride.gain
         (length list.now)) }
 {
-    let mut values = Cells::new(alloc);
+    let mut values = Cells::with_capacity(alloc, list.len())?;
     for _place in 0..list.len() {
         let next = next_starred(list, &values, stride);
         values.push(next)?;
@@ -163,7 +163,7 @@ impl<'a> CoreSums<'a> {
         ensures { IfOk result (λ values. values.items ≡ table (product_at (value_at self.now.form)
             (value_listed self.now.list)) count) }
     {
-        let mut values = Vec::new(alloc);
+        let mut values = Vec::with_capacity(alloc, count)?;
         for shift in 0..count {
             values.push(self.at(shift))?;
         }

@@ -42,7 +42,7 @@ fn joined(
     ensures { IfOk result (λ values. values.items ≡ table (joined_at (value_listed sums.now)
         (value_listed others.now) back date) (length sums.now)) }
 {
-    let mut values = Vec::new(alloc);
+    let mut values = Vec::with_capacity(alloc, sums.len())?;
     for shift in 0..sums.len() {
         let carried = if shift < back {
             Date::Early

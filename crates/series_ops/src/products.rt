@@ -4,13 +4,13 @@ ghost use Rattle.std.specs.Int.RustNames.{unsigned_abs};
 ghost use Rattle.dioid.specs.declared.dates.Date.TheVariants.{Early, Never};
 ghost use Rattle.series_laws.specs.declared.plans.Slopes.TheVariants.{First};
 ghost use Rattle.series_laws.specs.Periodic.{times};
-ghost use Rattle.series_laws.specs.SeriesForms.{value_at, table, HasValues};
+ghost use Rattle.series_laws.specs.SeriesForms.{size_of, repeat_start, value_at, table, HasValues};
 ghost use Rattle.series_form.specs.NumberBounds.{IsSeries};
 ghost use Rattle.series_form.specs.SeriesAnswers.{AnswersOf, AnswersForm};
-ghost use Rattle.series_laws.specs.Needs.{need_of, period_with, rise_of, fall_of, tail_of, slopes_of};
+ghost use Rattle.series_laws.specs.Needs.{plan, need_of, period_with, rise_of, fall_of, tail_of, slopes_of};
 ghost use Rattle.series_laws.specs.Product.{product_at};
 ghost use Rattle.series_laws.specs.ProductNeeds.{lifts_of, waits_of, product_first, product_plan, form_product};
-ghost use Rattle.series_form.specs.SeriesLimits.{most_covering_shifts, greatest_moderate, greatest_reach, most_waits};
+ghost use Rattle.series_form.specs.SeriesLimits.{most_covering_shifts, greatest_value, greatest_moderate, greatest_reach, most_waits};
 
 use crate::cells::collected;
 use crate::core_sums::CoreSums;
@@ -52,6 +52,32 @@ fn waits(first: &Series, second: &Series) -> u128
     gains_for(gain_on_lifts(first, second), lead_gain(first, second))
 }
 
+// The shifts that the first list, those of the second before its period, and the lifts take.
+fn lifted(first: &Series, second: &Series) -> u128
+    ensures value { result ≡ size_of first.now + repeat_start second.now
+        + lifts_of first.now second.now * period_with first.now second.now }
+    ensures bound { result ≤ greatest_value }
+{
+    let begun = (first.values().len() + start(second)) as u128;
+    let covers = lifts(first, second) * common_period(first, second);
+    begun + covers as u128
+}
+
+// From where the product of two series whose tails are numbers repeats, the first slope greater.
+fn plan_past_waits(first: &Series, second: &Series) -> NeedPlan
+    requires { pos 0 <ℤ (rise_of first.now second.now -ℤ fall_of first.now second.now) }
+    ensures value { result ≡ plan (size_of first.now + repeat_start second.now
+        + (lifts_of first.now second.now * period_with first.now second.now
+        + waits_of first.now second.now * period_with first.now second.now)) first.now.period }
+    ensures bound { result.from ≤ greatest_reach }
+{
+    let waited = waits(first, second) * common_period(first, second) as u128;
+    NeedPlan {
+        from: lifted(first, second) + waited,
+        turn: first.period(),
+    }
+}
+
 // From where the product repeats where the first slope is greater and the second tail not Early.
 fn plan_of_steeper(first: &Series, second: &Series) -> NeedPlan
     requires slopes { slopes_of first.now second.now ≡ First }
@@ -59,17 +85,14 @@ fn plan_of_steeper(first: &Series, second: &Series) -> NeedPlan
     ensures value { result ≡ product_first first.now second.now }
     ensures bound { result.from ≤ greatest_reach }
 {
-    let shifts = common_period(first, second) as u128;
-    let begun = (first.values().len() + start(second)) as u128;
-    let lifted = begun + lifts(first, second) as u128 * shifts;
-    match (tail(first), tail(second)) {
-        (Date::At(_), Date::At(_)) => NeedPlan {
-            from: lifted + waits(first, second) * shifts,
-            turn: first.period(),
-        },
-        (Date::Never, Date::At(_)) => NeedPlan {
-            from: lifted,
-            turn: 1,
+    match tail(second) {
+        Date::At(_) => match tail(first) {
+            Date::At(_) => plan_past_waits(first, second),
+            Date::Never => NeedPlan {
+                from: lifted(first, second),
+                turn: 1,
+            },
+            Date::Early => NeedPlan { from: 0, turn: 1 },
         },
         _ => NeedPlan { from: 0, turn: 1 },
     }

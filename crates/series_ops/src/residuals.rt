@@ -152,7 +152,7 @@ impl<'a> LeftPlan<'a> {
         ensures { IfOk result (λ values. values.items ≡ table
             (left_over self.now.first self.now.second) count) }
     {
-        let mut values = Vec::new(alloc);
+        let mut values = Vec::with_capacity(alloc, count)?;
         for _shift in 0..count {
             let next = self.next(values.as_slice());
             values.push(next)?;

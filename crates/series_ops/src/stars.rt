@@ -16,7 +16,7 @@ ghost use Rattle.series_form.specs.SeriesLimits.{greatest_star_need};
 
 use crate::anchors::Parts;
 use crate::beginnings::{greatest_begun, nothing_begun, renewed};
-use crate::cells::Cells;
+use crate::cells::{Cells, dates_of};
 use crate::splits::{Span, Tail};
 use crate::tables::ended;
 use dioid::Date;
@@ -52,24 +52,26 @@ fn later_values(alloc: Global, series: &Series) -> Result<Cells, AllocError>
 // The star over lists of parts at the shifts up to `need`, by the values from shift 1 on and the
 // sums whose first part is in their tail. The work is the need times the number of those values, or
 // where these have few pieces the need times the number of pieces.
-fn star_list(alloc: Global, first: &Series, need: usize) -> Result<Vec<Date>, AllocError>
+fn star_by(
+    alloc: Global,
+    first: &Series,
+    rest: &Cells,
+    need: usize,
+) -> Result<Vec<Date>, AllocError>
+    requires rest { rest.now ≡ table (later_part (value_at first.now)) (size_of first.now) }
     requires need { need ≤ 20000 }
     ensures { IfOk result (λ values. values.items ≡ table (parts_star (value_at first.now))
         (need + 1)) }
 {
-    let list = later_values(alloc, first)?;
-    let rest = &list;
     let tail = Tail::new(rest, first.period(), first.step());
     let span = Span {
         from: 0,
         count: start(first),
         period: first.period(),
     };
-    let mut stars = Vec::new(alloc);
     let mut cells = Cells::new(alloc);
     let mut tails = Vec::new(alloc);
     let mut begun = nothing_begun(alloc);
-    stars.push(Date::At(0))?;
     cells.push(Date::At(0))?;
     for shift in 0..need {
         let more = renewed(alloc, begun, rest, &cells, span)?;
@@ -79,9 +81,18 @@ fn star_list(alloc: Global, first: &Series, need: usize) -> Result<Vec<Date>, Al
         let best = greatest_begun(&begun, rest, &cells, shift, span.count).later(last);
         let next = Date::At(0).later(best);
         cells.push(next)?;
-        stars.push(next)?;
     }
-    Ok(stars)
+    dates_of(alloc, &cells, need + 1)
+}
+
+// The same, which finds the values from shift 1 on first.
+fn star_list(alloc: Global, first: &Series, need: usize) -> Result<Vec<Date>, AllocError>
+    requires need { need ≤ 20000 }
+    ensures { IfOk result (λ values. values.items ≡ table (parts_star (value_at first.now))
+        (need + 1)) }
+{
+    let rest = later_values(alloc, first)?;
+    star_by(alloc, first, &rest, need)
 }
 
 // From where the star repeats, by the sum with the monomial of shift 1 and date 0 and its plan.

@@ -20,7 +20,7 @@ pub(crate) fn first_values(
     ensures series { IfOk result (λ values. IsSeries series.now) }
 {
     let _period = series.period();
-    let mut values = Vec::new(alloc);
+    let mut values = Vec::with_capacity(alloc, count)?;
     for shift in 0..count {
         values.push(series.at(shift as u64))?;
     }
@@ -31,7 +31,7 @@ pub(crate) fn first_values(
 pub(crate) fn repeated(alloc: Global, date: Date, count: usize) -> Result<Vec<Date>, AllocError>
     ensures { IfOk result (λ values. values.items ≡ table (λ _. date) count) }
 {
-    let mut values = Vec::new(alloc);
+    let mut values = Vec::with_capacity(alloc, count)?;
     for _place in 0..count {
         values.push(date)?;
     }
