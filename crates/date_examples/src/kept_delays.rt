@@ -1,7 +1,7 @@
 //! Delays that stay and the circuit that shows it, tests of timetables and of due dates without end
 //! that a program makes itself, and the lines of their refusals.
 ghost use Rattle.std.specs.Prelude.{◌≤◌};
-ghost use Rattle.teg_timetable.specs.Spreads.{greatest_period};
+ghost use Rattle.teg_timetable.specs.release_nets.PlannedNets.{greatest_period};
 
 use endless_due::{EndlessRefusal, EndlessRow, is_endless_of, read_endless};
 use example_nets::{held, read, says};

@@ -6,7 +6,7 @@ ghost use Rattle.teg_outcome.specs.CommandOutcomes.{Tells, outcome_of};
 ghost use Rattle.teg_date_commands.specs.Timetable.{EndsUnspread, SaysDelays, SaysTimetable, TellsBadTable, TellsUnspread};
 ghost use Rattle.teg_settle.specs.LimitRefusals.{greatest_limit};
 ghost use Rattle.teg_timetable.specs.DelayAnswers.{IsDelayRefusalIn};
-ghost use Rattle.teg_timetable.specs.Spreads.{greatest_period};
+ghost use Rattle.teg_timetable.specs.release_nets.PlannedNets.{greatest_period};
 ghost use Rattle.teg_timetable.specs.timetable_files.TimetableFiles.{IsTableRefusalIn};
 
 use crate::limits::most_of;

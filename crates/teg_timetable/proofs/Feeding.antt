@@ -8,16 +8,11 @@ use Rattle.delay_laws.specs.DelayOutcomes.{HasDelayPast, IsGreatestPast, KeepsDe
 use Rattle.delay_laws.specs.SettlingLaws.{AreSettledDelays}
 use Rattle.delay_laws.proofs.Keeping.{circuit_within, circuits_keep_delays, delays_die_out}
 use Rattle.delay_laws.proofs.PassedOn.{greatest_delays_are_passed_on}
-use Rattle.teg_settle.specs.teg_model.LiveRanks.{HasEndsInRange}
 use Rattle.teg_net.specs.declared.entries.PlaceId.{PlaceId}
 use Rattle.teg_net.specs.Circuits.{from_of, BeginsLowest, IsCircuit, IsTurned}
-use Rattle.teg_net.specs.Nets.{IsNet, NetLists}
 use Rattle.teg_net.specs.Parts.{to_of}
 use Rattle.teg_timetable.specs.Spreads.{LeftDelays, delay_left}
 use Rattle.teg_timetable.specs.WaysBack.{AreFeeders, AreGood, AreTopsOf, FeedersGoBack, FeedsAt, IsFeeder, IsGood, IsTop, TopDelays, greatest_top}
-
-pub ends_in : (net : NetLists) → IsNet net → HasEndsInRange net
-ends_in net rules k d l = let h = rules.each_place k d l in (h.from_in, h.to_in)
 
 -- the feeders of the places up to number k, and the place of that number
 module _ (s : TopDelays) (k : ℕ) (feeders : List (Option PlaceId)) (id : PlaceId) (is : id.index ≡ k) (old : AreFeeders s k feeders) where

@@ -1,11 +1,7 @@
 pub mod TopsUpTo
-pub mod Building
-pub mod Releasing
-pub mod DerivedNet
 pub mod Trail
 pub mod Feeding
 pub mod Settling
 pub mod Tops
-pub mod Planning
 pub mod ReadBack
 pub mod Telling

@@ -14,9 +14,9 @@ use Rattle.teg_net.specs.Limits.{most_rows}
 use Rattle.teg_net.proofs.PathLaws.{IsPathBetween-in_range}
 use Rattle.teg_timetable.specs.declared.refusals.DelayRefusal.{DelayRefusal}
 use Rattle.teg_timetable.specs.declared.refusals.DelayRefusal.TheVariants.{TooLarge, Unworkable, TooLong, OutOfMemory}
-use Rattle.teg_timetable.specs.DelayAnswers.{IsDelayRefusal, IsNetTooLarge, IsOutcomeIn, IsSettlingRefusal, IsRightOutcome, IsSpread, IsLengthWithinLimit}
-use Rattle.teg_timetable.specs.PlannedNets.{IsPlannedNet}
-use Rattle.teg_timetable.specs.Spreads.{AreLeftDelays, LeftDelays, OutcomeTold, RecoveredTold, KeptTold, delay_left, most_timetable_entries, most_timetable_transitions}
+use Rattle.teg_timetable.specs.DelayAnswers.{IsDelayRefusal, IsOutcomeIn, IsSettlingRefusal, IsRightOutcome, IsSpread, IsLengthWithinLimit}
+use Rattle.release_nets.specs.PlannedNets.{IsNetTooLarge, IsPlannedNet, most_timetable_entries, most_timetable_transitions}
+use Rattle.teg_timetable.specs.Spreads.{AreLeftDelays, LeftDelays, OutcomeTold, RecoveredTold, KeptTold, delay_left}
 
 -- the delays by a plan and a form
 abbrev pub left_of : ℕ → Timetable → SettledForm → LeftDelays

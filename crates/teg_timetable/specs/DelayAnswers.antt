@@ -1,19 +1,16 @@
 -- What is right to tell of the delays of a timetable, and the cause of each refusal (chapters 2 and 3).
-use Rattle.std.specs.Prelude.{ℕ, ◌+◌, ◌<◌, ◌≤◌, ◌≡◌, ◌⊎◌, length, take, All, Option, Some, None, ⊤}
+use Rattle.std.specs.Prelude.{ℕ, ◌<◌, ◌≤◌, ◌≡◌, length, Option, Some, None, ⊤}
 use Rattle.delay_laws.specs.declared.table.Timetable.{Timetable}
-use Rattle.delay_laws.specs.PlannedTimetables.{IsWorkable, IsWorkableAt, greatest_delay}
+use Rattle.delay_laws.specs.PlannedTimetables.{IsWorkable, greatest_delay}
 use Rattle.delay_laws.specs.Delays.{AreDelaysLeft, IsFormOfDelays, DelaysSettlePast}
 use Rattle.delay_laws.specs.DelayOutcomes.{IsRecovered, KeepsDelays}
 use Rattle.teg_settle.specs.settled_laws.SettledForms.{NetSettlesPast, settled_length}
-use Rattle.teg_net.specs.Circuits.{place_at, AreInRange}
+use Rattle.teg_net.specs.Circuits.{AreInRange}
 use Rattle.teg_net.specs.Nets.{NetLists}
 use Rattle.teg_timetable.specs.declared.refusals.DelayRefusal.{DelayRefusal}
 use Rattle.teg_timetable.specs.declared.refusals.DelayRefusal.TheVariants.{TooLarge, Unworkable, TooLong, OutOfMemory}
-use Rattle.teg_timetable.specs.Spreads.{most_timetable_entries, most_timetable_transitions, Spread, OutcomeTold, RecoveredTold, KeptTold, delay_by_spread}
-
--- there are more than 200 transitions, or more than 4,000 places and transitions together
-abbrev pub IsNetTooLarge : NetLists → Type 0
-IsNetTooLarge net = (most_timetable_transitions < length net.transitions) ⊎ (most_timetable_entries < length net.transitions + length net.places)
+use Rattle.release_nets.specs.PlannedNets.{IsFirstUnworkable, IsNetTooLarge}
+use Rattle.teg_timetable.specs.Spreads.{Spread, OutcomeTold, RecoveredTold, KeptTold, delay_by_spread}
 
 -- a length is within the limit, where there is one
 abbrev pub IsLengthWithinLimit : Option ℕ → ℕ → Type 0
@@ -37,12 +34,6 @@ pub record IsSpread (net : NetLists) (period : ℕ) (t : Timetable) (limit : Opt
   pub delays : AreDelaysLeft net period t (delay_by_spread s)
   pub small : (i k : ℕ) → i < length net.transitions → 1 ≤ k → delay_by_spread s i k ≤ greatest_delay
   pub outcome : IsRightOutcome net period (delay_by_spread s) s.outcome
-
--- the place is the lowest numbered one to which the plan does not leave its time
-pub record IsFirstUnworkable (net : NetLists) (period : ℕ) (t : Timetable) (place : ℕ) : Type 0 where
-  pub in_range : place < length net.places
-  pub before : All (IsWorkableAt period t) (take place net.places)
-  pub fails : IsWorkableAt period t (place_at net (record { index = place })) → ⊥
 
 -- the cause of each refusal, the first in their order; want of memory may come in any call
 abbrev pub IsDelayRefusal : NetLists → ℕ → Timetable → Option ℕ → DelayRefusal → Type 0

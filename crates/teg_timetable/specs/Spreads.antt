@@ -8,18 +8,7 @@ use Rattle.delay_laws.specs.PlannedTimetables.{greatest_delay, greatest_departur
 use Rattle.teg_settle.specs.settled_laws.SettledForms.{SettledForm, settled_length, settled_date}
 use Rattle.teg_net.specs.declared.entries.PlaceId.{PlaceId}
 use Rattle.teg_net.specs.Limits.{greatest_firing_number, most_rows}
-
--- the greatest period of a timetable
-abbrev pub greatest_period : ℕ
-greatest_period = 1000000
-
--- transitions of a net whose delays are followed, at most
-abbrev pub most_timetable_transitions : ℕ
-most_timetable_transitions = 200
-
--- its transitions and places together, at most
-abbrev pub most_timetable_entries : ℕ
-most_timetable_entries = 4000
+use Rattle.release_nets.specs.PlannedNets.{greatest_period, most_timetable_transitions}
 
 -- what becomes of delays: none is left after a number, or a circuit keeps them
 pub data OutcomeTold : Type 0 where

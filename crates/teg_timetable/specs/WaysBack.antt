@@ -6,8 +6,8 @@ use Rattle.teg_net.specs.declared.entries.PlaceId.{PlaceId}
 use Rattle.teg_net.specs.Circuits.{from_of, IsCircuit}
 use Rattle.teg_net.specs.Nets.{NetLists}
 use Rattle.teg_net.specs.Parts.{to_of}
-use Rattle.teg_timetable.specs.PlannedNets.{IsPlannedNet}
-use Rattle.teg_timetable.specs.ReleaseNetsBuilt.{AreBuilt}
+use Rattle.release_nets.specs.PlannedNets.{IsPlannedNet}
+use Rattle.release_nets.specs.ReleaseNetsBuilt.{AreBuilt}
 use Rattle.teg_timetable.specs.Spreads.{LeftDelays, delay_left}
 
 -- the greatest delay left of transition i in the period past the number

@@ -5,7 +5,7 @@ ghost use Rattle.teg_net.specs.Circuits.{from_of, IsCircuit, BeginsLowest};
 ghost use Rattle.teg_net.specs.Parts.{to_of};
 ghost use Rattle.teg_timetable.specs.WaysBack.{AreFeeders, AreGood, FeedersGoBack, FeedsAt, IsFedCircuit, greatest_top, top_delays};
 
-use crate::planned::Planned;
+use release_nets::Planned;
 use std::alloc::{AllocError, Global};
 use std::marker::Model;
 use teg_net::{Circuit, Net, PlaceId};

@@ -2,7 +2,7 @@
 ghost use Rattle.std.specs.Prelude.{ℕ, ◌≡◌, ◌≤◌, ◌<◌, ◌⊎◌, true, false, length, All, IfOk, slice_index};
 ghost use Rattle.teg_net.specs.Limits.{greatest_firing_number};
 ghost use Rattle.teg_timetable.specs.Spreads.{delay_left};
-ghost use Rattle.teg_timetable.specs.ReleaseNetsBuilt.{AreBuilt};
+ghost use Rattle.release_nets.specs.ReleaseNetsBuilt.{AreBuilt};
 ghost use Rattle.teg_timetable.specs.WaysBack.{IsTop};
 
 use crate::left::Left;

@@ -3,7 +3,8 @@ ghost use Rattle.std.specs.Prelude.{◌≡◌, ◌≤◌, ◌<◌, length};
 ghost use Rattle.delay_laws.specs.PlannedTimetables.{greatest_delay};
 ghost use Rattle.teg_settle.specs.settled_laws.SettledForms.{settled_length};
 ghost use Rattle.teg_net.specs.Limits.{greatest_firing_number, most_rows};
-ghost use Rattle.teg_timetable.specs.Spreads.{AreLeftDelays, delay_left, most_timetable_transitions};
+ghost use Rattle.release_nets.specs.PlannedNets.{most_timetable_transitions};
+ghost use Rattle.teg_timetable.specs.Spreads.{AreLeftDelays, delay_left};
 
 use dioid::Date;
 use std::marker::Model;

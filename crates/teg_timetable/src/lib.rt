@@ -7,23 +7,19 @@
 //! [`table_refusal_text`] and [`delay_refusal_text`] are the texts of answers; different ones about
 //! one net have different texts. The dates are settled as those of a net in which each departure
 //! also waits for an input of its own. The crate stands on `delay_laws` for what delays are, on
-//! `timetable_files` for files, on `teg_settle` and `settled_laws` for settled forms, on `teg_text`
-//! for texts, on `teg_net` and `teg_check` for nets, and on `dioid` for dates. Its examples stand in
-//! `date_examples`, in `kept_delays.rt`.
+//! `timetable_files` for files, on `release_nets` for that net, on `teg_settle` and `settled_laws`
+//! for settled forms, on `teg_text` for texts, on `teg_net` and `teg_check` for nets, and on `dioid`
+//! for dates. Its examples stand in `date_examples`, in `kept_delays.rt`.
 //!
 //! A refusal of [`spread`] is told by its first cause: a net that is too large, the lowest numbered
 //! place that does not get its time, a form that is longer than the limit.
 //!
 //! ## How it works
 //!
-//! The delayed dates are settled as those of another net: to each transition an input of its own is
-//! added, with a place without hold and token to the transition; the input's list has the releases
-//! of the departures up to a number past all delays of the transition, from where it goes on by the
-//! period. No transition of the net is an input there. The least dating of that net has the delayed
-//! dates in its first half and the releases in its second (`delay_laws`), so its shortest settled
-//! form is the one that is asked for, and a limit is exceeded exactly where it is there. With no
-//! more than 200 transitions, and 4,000 transitions and places together, it keeps the limits of a
-//! net.
+//! The delayed dates are settled as those of the net with the releases as inputs, which
+//! `release_nets` makes. The least dating of that net has the delayed dates in its first half and the
+//! releases in its second (`delay_laws`), so its shortest settled form is the one that is asked for,
+//! and a limit is exceeded exactly where it is there.
 //!
 //! What stays is read off one period past the number: the greatest delay there, if it is above 0,
 //! reaches each transition that has it by a place without spare time from one that has it too. Such
@@ -33,16 +29,12 @@
 
 mod circuits;
 mod delayed;
-mod derived;
 mod late;
 mod left;
 mod outcomes;
-mod planned;
 mod refusals;
-mod releases;
 mod spreading;
 mod texts;
-mod workable;
 
 pub use delay_laws::{
     Delay, Outcome, Timetable, is_table_of, paths_pass_delays_on, shows_kept,

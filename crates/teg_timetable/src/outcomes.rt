@@ -8,8 +8,8 @@ ghost use Rattle.teg_timetable.specs.WaysBack.{AreTopsOf};
 use crate::circuits::KeptDelay;
 use crate::late::{highest, last_late, tops};
 use crate::left::Left;
-use crate::planned::Planned;
 use delay_laws::Outcome;
+use release_nets::Planned;
 use std::alloc::Global;
 use teg_net::OutOfMemory;
 

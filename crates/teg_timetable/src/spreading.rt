@@ -1,31 +1,25 @@
 //! How the delays of a timetable spread, or why they are not followed.
-ghost use Rattle.std.specs.Prelude.{◌≡◌, ◌≤◌, Some, IfOk, IfErr, IfSome};
+ghost use Rattle.std.specs.Prelude.{ℕ, ◌≡◌, ◌≤◌, Option, Some, IfOk, IfErr, IfSome};
 ghost use Rattle.delay_laws.specs.PlannedTimetables.{IsTableOf};
+ghost use Rattle.delay_laws.specs.declared.table.Timetable.{Timetable};
+ghost use Rattle.release_nets.specs.PlannedNets.{IsUnplanned, greatest_period};
+ghost use Rattle.teg_net.specs.Nets.{NetLists};
 ghost use Rattle.teg_settle.specs.settled_laws.SettledForms.{IsSettledFormOf, settled_length};
 ghost use Rattle.teg_check.specs.Ranks.{IsRanking};
 ghost use Rattle.teg_net.specs.Circuits.{IsLive};
 ghost use Rattle.teg_settle.specs.LimitRefusals.{greatest_limit};
 ghost use Rattle.teg_timetable.specs.DelayAnswers.{IsDelayRefusal, IsOutcomeIn, IsSettlingRefusal, IsSpread, IsLengthWithinLimit};
-ghost use Rattle.teg_timetable.specs.Spreads.{greatest_period};
 
 use crate::delayed::Delayed;
-use crate::derived::derived;
 use crate::left::Left;
 use crate::outcomes::outcome;
-use crate::planned::Planned;
 use crate::refusals::DelayRefusal;
-use crate::workable::first_unworkable;
 use delay_laws::Timetable;
+use release_nets::{Planned, Unplanned, release_net};
 use std::alloc::Global;
 use teg_check::{Live, ranks_of};
 use teg_net::{Net, OutOfMemory};
 use teg_settle::{SettleRefusal, SettledDates, settle_dates, settle_dates_within};
-
-// The most transitions of a net whose delays are followed.
-const MOST_TRANSITIONS: usize = 200;
-
-// The most transitions and places of it together.
-const MOST_ENTRIES: usize = 4_000;
 
 // The settled form of a live net, within the limit if there is one.
 fn settled_in(alloc: Global, net: &Net, limit: Option<u32>) -> Result<SettledDates, DelayRefusal>
@@ -53,6 +47,23 @@ fn firsts_of(alloc: Global, table: &Timetable) -> Result<Vec<u64>, OutOfMemory>
     Ok(Vec::from_slice(alloc, &table.firsts)?)
 }
 
+// Why the delays of a timetable are not followed.
+fn refusal_of(why: Unplanned) -> DelayRefusal
+    ensures { (net : NetLists) (period : ℕ) (table : Timetable) (limit : Option ℕ)
+        → IsUnplanned net period table why → IsDelayRefusal net period table limit result }
+{
+    match why {
+        Unplanned::TooLarge {
+            transitions,
+            places,
+        } => DelayRefusal::TooLarge {
+            transitions,
+            places,
+        },
+        Unplanned::Unworkable { place } => DelayRefusal::Unworkable { place },
+    }
+}
+
 // How the delays of a timetable spread that the net can keep, by the settled form of the net with
 // the releases as inputs.
 fn followed(
@@ -67,7 +78,7 @@ fn followed(
     ensures refused { IfErr result (IsDelayRefusal planned.now.net.now planned.now.period
         planned.now.table.now limit) }
 {
-    let derived = derived(alloc, planned)?;
+    let derived = release_net(alloc, planned)?;
     let settled = settled_in(alloc, &derived, limit)?;
     let firsts = firsts_of(alloc, planned.table)?;
     // That the form is short, and its period at least 1.
@@ -109,17 +120,8 @@ pub fn spread(
     ensures about { IfOk result (λ delayed. IsOutcomeIn net.now delayed.outcome) }
     ensures refused { IfErr result (IsDelayRefusal net.now period table.now limit) }
 {
-    let transitions = net.transitions().len();
-    let places = net.places().len();
-    if transitions > MOST_TRANSITIONS || transitions + places > MOST_ENTRIES {
-        return Err(DelayRefusal::TooLarge {
-            transitions: transitions as u32,
-            places: places as u32,
-        });
+    match Planned::checked(net, period, table) {
+        Ok(planned) => followed(alloc, &planned, limit),
+        Err(why) => Err(refusal_of(why)),
     }
-    if let Some(place) = first_unworkable(net, period, table) {
-        return Err(DelayRefusal::Unworkable { place });
-    }
-    let planned = Planned { net, period, table };
-    followed(alloc, &planned, limit)
 }

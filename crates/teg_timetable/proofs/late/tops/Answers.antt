@@ -1,5 +1,5 @@
 use Rattle.teg_timetable.specs.WaysBack.{IsTop}
-use Rattle.teg_timetable.proofs.Building.{built_more}
+use Rattle.release_nets.proofs.Building.{built_more}
 use Rattle.teg_timetable.proofs.late.tops.Goals as goal
 
 pub loop-index-preserved : goal.loop-index-preserved

@@ -1,4 +1,4 @@
-use Rattle.teg_timetable.specs.ReleaseNetsBuilt.{AreBuilt}
+use Rattle.release_nets.specs.ReleaseNetsBuilt.{AreBuilt}
 use Rattle.teg_timetable.specs.WaysBack.{IsTop}
 use Rattle.teg_timetable.proofs.late.tops.Given as goal
 

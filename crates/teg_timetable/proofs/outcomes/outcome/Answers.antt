@@ -2,9 +2,9 @@ use Rattle.std.proofs.Common.{ℕ, ◌<◌, ◌≤◌, ◌≡◌, List, length, 
 use Rattle.std.specs.Prelude.{All}
 use Rattle.delay_laws.specs.declared.table.Timetable.{Timetable}
 use Rattle.teg_net.specs.Nets.{NetLists}
-use Rattle.teg_timetable.specs.PlannedNets.{IsPlannedNet}
+use Rattle.release_nets.specs.PlannedNets.{IsPlannedNet}
 use Rattle.teg_timetable.specs.Spreads.{LeftDelays}
-use Rattle.teg_timetable.specs.ReleaseNetsBuilt.{AreBuilt}
+use Rattle.release_nets.specs.ReleaseNetsBuilt.{AreBuilt}
 use Rattle.teg_timetable.specs.WaysBack.{AreTopsOf, IsTop, top_delays}
 use Rattle.teg_timetable.proofs.outcomes.outcome.Goals as goal
 

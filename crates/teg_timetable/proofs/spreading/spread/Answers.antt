@@ -1,22 +1,26 @@
-use Rattle.std.proofs.Common.{length, ap, arith}
 use Rattle.teg_check.proofs.Liveness.{ranking_is_live}
-use Rattle.teg_timetable.proofs.Feeding.{ends_in}
 use Rattle.teg_timetable.proofs.spreading.spread.Goals as goal
 
-pub invariant_of-planned : goal.invariant_of-planned
-invariant_of-planned c =
-    let many = ap length c.transitions-transitions.ensures.value in
-    let wide = ap length c.places-places.ensures.value in
-    record {
-      kept = record {
-        some_transition = c.transitions-transitions.ensures.rules.some_transition;
-        ends = ends_in c.args.net.now c.transitions-transitions.ensures.rules;
-        live = ranking_is_live c.args.net.now c.args.live.now c.requires.stands;
-        some = c.requires.some;
-        period_in = c.requires.period;
-        table = c.requires.table;
-        few = omega arith;
-        fits = omega arith;
-        workable = c.in_default.ensures.none;
-      };
-    }
+pub checked-requires-clause-live : goal.checked-requires-clause-live
+checked-requires-clause-live c = ranking_is_live c.args.net.now c.args.live.now c.requires.stands
+
+pub returns-in-Ok-clause-spread : goal.returns-in-Ok-clause-spread
+returns-in-Ok-clause-spread c =
+    let same = c.in-Ok.ensures.same in
+    let spread = c.followed.ensures.spread in
+    rw (same.0, same.1, same.2) at spread
+
+pub returns-in-Ok-clause-about : goal.returns-in-Ok-clause-about
+returns-in-Ok-clause-about c =
+    let same = c.in-Ok.ensures.same in
+    let about = c.followed.ensures.about in
+    rw same.0 at about
+
+pub returns-in-Ok-clause-refused : goal.returns-in-Ok-clause-refused
+returns-in-Ok-clause-refused c =
+    let same = c.in-Ok.ensures.same in
+    let refused = c.followed.ensures.refused in
+    rw (same.0, same.1, same.2) at refused
+
+pub returns-in-Err-clause-refused : goal.returns-in-Err-clause-refused
+returns-in-Err-clause-refused c = c.refusal_of.ensures c.args.net.now c.args.period c.args.table.now c.args.limit c.in-Err.ensures.refused

@@ -1,0 +1,4 @@
+pub mod Building
+pub mod Releasing
+pub mod DerivedNet
+pub mod Planning

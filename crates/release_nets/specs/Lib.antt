@@ -1,0 +1,3 @@
+pub mod PlannedNets
+pub mod DelaysByNumber
+pub mod ReleaseNetsBuilt

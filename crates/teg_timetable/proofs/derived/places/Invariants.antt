@@ -1,5 +1,0 @@
-use Rattle.teg_timetable.specs.ReleaseNetsBuilt.{AreBuilt, IsDerivedPlace}
-use Rattle.teg_timetable.proofs.derived.places.Given as goal
-
-abbrev pub invariant-loop-index : goal.invariant-loop-index
-invariant-loop-index l = AreBuilt (IsDerivedPlace l.net) l.index l.places.items

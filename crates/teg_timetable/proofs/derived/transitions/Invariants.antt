@@ -1,5 +1,0 @@
-use Rattle.teg_timetable.specs.ReleaseNetsBuilt.{AreBuilt, IsDerivedTransition}
-use Rattle.teg_timetable.proofs.derived.transitions.Given as goal
-
-abbrev pub invariant-loop-index : goal.invariant-loop-index
-invariant-loop-index l = AreBuilt (IsDerivedTransition l.count) l.index l.transitions.items
