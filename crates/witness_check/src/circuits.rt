@@ -25,8 +25,9 @@ fn are_from(net: &Net, lowest: u32, places: &[PlaceId]) -> bool
     true
 }
 
-// Whether the first of the places leaves the lowest numbered of the transitions that they leave.
-pub(crate) fn begins_lowest(net: &Net, places: &[PlaceId]) -> bool
+/// Whether the first of the places leaves the lowest numbered of the transitions that they leave: so
+/// a circuit is told. A no says nothing. It takes no memory.
+pub fn begins_lowest(net: &Net, places: &[PlaceId]) -> bool
     requires { AreInRange net.now places.now }
     ensures { IsTrue result → BeginsLowest net.now places.now }
 {

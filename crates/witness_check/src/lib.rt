@@ -37,6 +37,7 @@ mod sizes;
 mod walk_reading;
 
 pub use beginnings::begins_with;
+pub use circuits::begins_lowest;
 pub use deadlock::shows_deadlock;
 pub use late::shown_late;
 pub use latest::{ShownLatest, shown_latest};
