@@ -49,7 +49,7 @@ IsShownLateFor net text due = (late : LateFiring) × IsShownFirstLate net due.ro
 abbrev pub IsShownDateOf : NetLists → List ℕ → Type 0
 IsShownDateOf net text = (shown : ShownDate) × IsShownDate net text shown
 
--- the text tells a circuit that keeps delays of this timetable, which departs again every `period`
+-- the text tells the delays that are left of this timetable, which departs again every `period`, and a circuit that keeps some
 abbrev pub IsShownKeptFor : NetLists → ℕ → List ℕ → Timetable → Type 0
 IsShownKeptFor net period text table = (circuit : List PlaceId) × IsShownKept net period table text circuit
 

@@ -152,7 +152,7 @@ pub(crate) fn find_date<S: Shelf>(
     }
 }
 
-// Of `timetable`, that delays are kept.
+// Of `timetable`, which delays are left, and that they are kept.
 fn kept_finding(
     alloc: Global,
     net: &Net,

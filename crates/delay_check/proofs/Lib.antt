@@ -1,3 +1,3 @@
+mod DelayRows
 mod Given
-mod Lowest
 mod Passing

@@ -1,1 +1,2 @@
 pub mod ShownDelays
+pub mod DelayRows

@@ -1,20 +1,37 @@
--- What the lines of delays that stay show.
-use Rattle.std.specs.Prelude.{ℕ, ◌<◌, ◌≤◌, ◌≡◌, ◌∷◌, [], List, codes, length, slice_index_or}
+-- What the text of delays that stay shows.
+use Rattle.std.specs.Prelude.{ℕ, ◌+◌, ◌<◌, ◌≤◌, ◌≡◌, ◌∷◌, [], List, codes, length, map, slice_index_or}
+use Rattle.std.specs.Fmt.{decimal}
+use Rattle.std.specs.List.{range_with_len}
 use Rattle.teg_net.specs.declared.entries.PlaceId.{PlaceId}
 use Rattle.teg_net.specs.Nets.{NetLists}
 use Rattle.teg_net.specs.Circuits.{IsLive}
-use Rattle.teg_text.specs.Lines.{line_then}
-use Rattle.teg_text.specs.WordsOfNames.{circuit_line, settled_words}
+use Rattle.teg_text.specs.Lines.{written}
+use Rattle.teg_text.specs.WordsOfNames.{circuit_line, name_of_transition, settled_words}
+use Rattle.settled_laws.specs.SettledForms.{SettledForm}
 use Rattle.delay_laws.specs.declared.table.Timetable.{Timetable}
 use Rattle.delay_laws.specs.PlannedTimetables.{IsTableOf, IsWorkable}
-use Rattle.delay_laws.specs.Delays.{AreDelaysLeft}
+use Rattle.delay_laws.specs.Delays.{AreDelaysLeft, IsFormOfDelays}
 use Rattle.delay_laws.specs.DelayOutcomes.{KeepsDelays}
-use Rattle.witness_check.specs.Witnesses.{BeginsWith}
 
--- the text begins with the line of a settled form, with `kept`, and with the line of the circuit
-abbrev pub TellsKept : NetLists → List ℕ → List PlaceId → Type 0
-TellsKept net text circuit = (after : ℕ) × (turn : ℕ)
-    × BeginsWith text (line_then (settled_words after turn) (line_then (codes "kept" ∷ []) (line_then (circuit_line net circuit) [])))
+-- the line of the delays of transition t at the numbers from 1 to `count`
+abbrev pub delays_line : NetLists → ℕ → (ℕ → ℕ) → ℕ → List (List ℕ)
+delays_line net t delay count = codes "delays" ∷ name_of_transition net (record { index = t }) ∷ map (λ k. decimal (delay k)) (range_with_len 1 count)
+
+-- the line of each transition
+abbrev pub delays_lines : NetLists → (ℕ → ℕ → ℕ) → ℕ → List (List (List ℕ))
+delays_lines net delay count = map (λ t. delays_line net t (delay t) count) (range_with_len 0 (length net.transitions))
+
+-- the lines of delays that a circuit keeps: the number past which they come again and in how many numbers, the circuit, and the delays
+-- of each transition up to the end of the first period
+abbrev pub kept_lines : NetLists → (after turn : ℕ) → List PlaceId → (ℕ → ℕ → ℕ) → List (List (List ℕ))
+kept_lines net after turn circuit delay =
+    settled_words after turn ∷ (codes "kept" ∷ []) ∷ circuit_line net circuit ∷ delays_lines net delay (after + turn)
+
+-- the whole text tells that the circuit keeps delays: number and period are those of the shortest settled form of delayed dates and
+-- releases together, and the delays are those that are left
+abbrev pub TellsKept : NetLists → ℕ → Timetable → List ℕ → List PlaceId → Type 0
+TellsKept net period table text circuit = (form : SettledForm) × (delay : ℕ → ℕ → ℕ) × IsFormOfDelays net period table form
+    × AreDelaysLeft net period table delay × (text ≡ written (kept_lines net form.after form.period circuit delay))
 
 -- at some number at least this delay is left at the transition
 abbrev pub IsSomewhereLeft : NetLists → ℕ → Timetable → ℕ → ℕ → Type 0
@@ -29,10 +46,10 @@ pub record AreSomewhereLeft (net : NetLists) (period : ℕ) (table : Timetable) 
 abbrev pub KeepsWhatIsLeft : NetLists → ℕ → Timetable → List PlaceId → Type 0
 KeepsWhatIsLeft net period table circuit = (delay : ℕ → ℕ → ℕ) → AreDelaysLeft net period table delay → KeepsDelays net period delay circuit
 
--- the text tells the circuit; the net is live, the timetable is one of it that leaves time for each place, and of its delays the
--- circuit keeps some for ever
+-- the whole text tells the delays that are left and the circuit; the net is live, the timetable is one of it that leaves time for each
+-- place, and of its delays the circuit keeps some for ever
 pub record IsShownKept (net : NetLists) (period : ℕ) (table : Timetable) (text : List ℕ) (circuit : List PlaceId) : Type 0 where
-  pub told : TellsKept net text circuit
+  pub told : TellsKept net period table text circuit
   pub live : IsLive net
   pub table_of : IsTableOf net table
   pub workable : IsWorkable net period table

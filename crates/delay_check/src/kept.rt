@@ -1,86 +1,36 @@
 //! The witness of `teg timetable` where delays stay: a circuit without spare time.
-ghost use Rattle.std.specs.Prelude.{◌≡◌, ◌<◌, ◌≤◌, ◌∷◌, [], All, Contains, IfOk, IfSome, IsTrue, codes, length, slice_index_or, string_bytes};
-ghost use Rattle.teg_net.specs.Circuits.{AreInRange, BeginsLowest, IsLive, from_of};
+ghost use Rattle.std.specs.Prelude.{◌≡◌, ◌+◌, ◌*◌, ◌<◌, ◌≤◌, Contains, IfOk, IfSome, IsTrue, length, slice_index_or};
+ghost use Rattle.dating_certificates.specs.SettledRows.{form_by_rows};
+ghost use Rattle.delay_laws.specs.Delays.{IsFormOfDelays};
+ghost use Rattle.delay_laws.specs.PlannedTimetables.{IsTableOf};
+ghost use Rattle.release_nets.specs.PlannedNets.{greatest_period};
+ghost use Rattle.teg_net.specs.Circuits.{AreInRange, from_of};
 ghost use Rattle.teg_net.specs.declared.entries.PlaceId.{PlaceId};
-ghost use Rattle.teg_text.specs.Lines.{line_then};
-ghost use Rattle.teg_text.specs.WordsOfNames.{circuit_line, settled_words};
-ghost use Rattle.delay_laws.specs.PlannedTimetables.{IsTableOf, IsWorkable};
-ghost use Rattle.delay_laws.specs.TightCircuits.{IsTightCircuit};
-ghost use Rattle.delay_check.specs.ShownDelays.{AreSomewhereLeft, IsShownKept, KeepsWhatIsLeft, TellsKept};
+ghost use Rattle.teg_text.specs.Lines.{written};
+ghost use Rattle.delay_check.specs.DelayRows.{delay_by_rows};
+ghost use Rattle.delay_check.specs.ShownDelays.{AreSomewhereLeft, IsShownKept, KeepsWhatIsLeft, TellsKept, kept_lines};
 
 use crate::left::left_somewhere;
-use crate::workable::is_workable;
+use crate::spread_text::{Rows, text_by_rows};
+use crate::told_delays::{ToldDelays, delays_in};
+use dating_certificates::check_shortest;
 use delay_laws::{Timetable, is_table_of, shows_kept, tight_circuits_keep_delays};
+use dioid::Date;
+use release_nets::{Planned, release_net};
 use std::alloc::{AllocError, Global};
 use teg_net::{Circuit, Net, OutOfMemory, PlaceId, is_circuit};
-use teg_text::{push_circuit, push_settled};
-use witness_check::{begins_with, is_seen_live, places_named, settled_in_line};
+use witness_check::{begins_lowest, is_seen_live};
 
 // The greatest period of a timetable.
 const GREATEST_PERIOD: u64 = 1_000_000;
 
-// The number and the period of the first line of delays that stay, and the circuit. Nothing rests
-// on it: what is read is checked.
-fn kept_in(
-    alloc: Global,
-    net: &Net,
-    text: &str,
-) -> Result<Option<(u64, u64, Circuit)>, AllocError> {
-    let mut lines = text.lines();
-    let Some((after, turn)) = settled_in_line(alloc, lines.next().unwrap_or(""))? else {
-        return Ok(None);
-    };
-    if lines.next() != Some("kept") {
-        return Ok(None);
-    }
-    let Some(words) = lines.next().unwrap_or("").strip_prefix("circuit") else {
-        return Ok(None);
-    };
-    let Some(places) = places_named(alloc, net, words)? else {
-        return Ok(None);
-    };
-    Ok(Some((after, turn, Circuit { places })))
-}
-
-// Whether the timetable is one of the net that leaves time for each place.
-fn is_planned(net: &Net, period: u64, table: &Timetable) -> bool
+// Whether the timetable is one of the net, and the period keeps its limits.
+fn is_asked(net: &Net, period: u64, table: &Timetable) -> bool
+    ensures some { IsTrue result → 1 ≤ period }
+    ensures period { IsTrue result → period ≤ greatest_period }
     ensures table { IsTrue result → IsTableOf net.now table.now }
-    ensures workable { IsTrue result → IsWorkable net.now period table.now }
 {
-    period <= GREATEST_PERIOD && is_table_of(net, table) && is_workable(net, period, table)
-}
-
-// The number of the transition that the place leaves.
-fn from_of(net: &Net, place: PlaceId) -> u32
-    requires { place.index < length net.now.places }
-    ensures { result ≡ from_of net.now place }
-{
-    net.places()[place.index as usize].from.index
-}
-
-// Whether none of the places leaves a lower numbered transition than this.
-fn are_from(net: &Net, lowest: u32, places: &[PlaceId]) -> bool
-    requires { AreInRange net.now places.now }
-    ensures { IsTrue result → All (λ p. lowest ≤ from_of net.now p) places.now }
-{
-    for place in places {
-        if from_of(net, *place) < lowest {
-            return false;
-        }
-    }
-    true
-}
-
-// Whether the first of the places leaves the lowest numbered of the transitions that they leave.
-fn begins_lowest(net: &Net, places: &[PlaceId]) -> bool
-    requires { AreInRange net.now places.now }
-    ensures { IsTrue result → BeginsLowest net.now places.now }
-{
-    if places.len() == 0 {
-        return true;
-    }
-    let first = places[0];
-    are_from(net, from_of(net, first), places)
+    1 <= period && period <= GREATEST_PERIOD && is_table_of(net, table)
 }
 
 // Whether one of the transitions that the places leave is late where so much is left.
@@ -102,66 +52,155 @@ fn is_late(net: &Net, left: &[u64], places: &[PlaceId]) -> bool
 
 // Whether the places are a circuit that keeps some of the delays of the timetable: it has no time to
 // spare, and one of its transitions is late.
-fn keeps_delays(net: &Net, period: u64, table: &Timetable, left: &[u64], places: &[PlaceId]) -> bool
-    requires range { AreInRange net.now places.now }
-    requires live { IsLive net.now }
-    requires workable { IsWorkable net.now period table.now }
-    requires left { AreSomewhereLeft net.now period table.now left.now }
-    ensures { IsTrue result → KeepsWhatIsLeft net.now period table.now places.now }
+fn keeps_delays(planned: &Planned<'_>, left: &[u64], places: &[PlaceId]) -> bool
+    requires range { AreInRange planned.now.net.now places.now }
+    requires left { AreSomewhereLeft planned.now.net.now planned.now.period planned.now.table.now
+        left.now }
+    ensures { IsTrue result → KeepsWhatIsLeft planned.now.net.now planned.now.period
+        planned.now.table.now places.now }
 {
-    net.rules();
+    let net = planned.net;
     tight_circuits_keep_delays();
-    if !shows_kept(net, period, places) || !begins_lowest(net, places) {
+    if !shows_kept(net, planned.period, places) || !begins_lowest(net, places) {
         return false;
     }
     is_late(net, left, places)
 }
 
-// The first three lines of delays that stay.
-fn told(
-    alloc: Global,
-    net: &Net,
-    after: u64,
-    turn: u64,
-    circuit: &Circuit,
-) -> Result<String, AllocError>
-    requires { AreInRange net.now circuit.now.places.items }
-    ensures { IfOk result (λ text. string_bytes text ≡ line_then (settled_words after turn)
-        (line_then (codes "kept" ∷ [])
-        (line_then (circuit_line net.now circuit.now.places.items) []))) }
+// Whether these are rows and steps by which the delays of the timetable settle.
+fn are_form_rows(alloc: Global, planned: &Planned<'_>, rows: &Rows<'_>) -> Result<bool, OutOfMemory>
+    requires { rows.now.width
+        ≡ length planned.now.net.now.transitions + length planned.now.net.now.transitions }
+    ensures { IfOk result (λ yes. IsTrue yes → IsFormOfDelays planned.now.net.now
+        planned.now.period planned.now.table.now (form_by_rows rows.now.width rows.now.dates.now
+        rows.now.after rows.now.turn rows.now.steps.now)) }
 {
-    let mut text = String::new(alloc);
-    push_settled(&mut text, after, turn)?;
-    text.push_str("kept\n")?;
-    push_circuit(&mut text, net, circuit)?;
-    Ok(text)
+    let derived = release_net(alloc, planned)?;
+    let (after, turn) = (rows.after, rows.turn);
+    let is_form = check_shortest(alloc, &derived, after, turn, rows.dates, rows.steps)?;
+    Ok(is_form)
 }
 
-// Whether the text begins with the lines of delays that this circuit keeps.
-fn tells_kept(
+// How many dates of each transition rows of this width tell, where they have them.
+fn count_of(width: usize, after: u64, turn: u64, dates: &[Date]) -> Option<u64>
+    ensures count { IfSome result (λ count. count ≡ after + turn) }
+    ensures rows { IfSome result (λ count. count * width ≤ length dates.now) }
+{
+    let count = after.checked_add(turn)?;
+    let cells = (count as usize).checked_mul(width)?;
+    if cells <= dates.len() {
+        Some(count)
+    } else {
+        None
+    }
+}
+
+// Whether the whole text is that of the delays of these rows, which the circuit keeps.
+fn is_told(
     alloc: Global,
-    net: &Net,
+    planned: &Planned<'_>,
+    rows: &Rows<'_>,
+    circuit: &Circuit,
     text: &str,
-    after: u64,
-    turn: u64,
-    circuit: &Circuit,
 ) -> Result<bool, AllocError>
-    requires { AreInRange net.now circuit.now.places.items }
-    ensures { IfOk result (λ yes. IsTrue yes
-        → TellsKept net.now text.now circuit.now.places.items) }
+    requires circuit { AreInRange planned.now.net.now circuit.now.places.items }
+    requires wide { length planned.now.net.now.transitions ≤ rows.now.width }
+    ensures { IfOk result (λ yes. IsTrue yes → text.now ≡ written (kept_lines planned.now.net.now
+        rows.now.after rows.now.turn circuit.now.places.items (delay_by_rows rows.now.width
+        rows.now.dates.now rows.now.after rows.now.turn rows.now.steps.now planned.now.period
+        planned.now.table.now))) }
 {
-    let lines = told(alloc, net, after, turn, circuit)?;
-    Ok(begins_with(text, lines.as_str()))
+    let lines = text_by_rows(alloc, planned, rows, circuit)?;
+    Ok(lines.as_str() == text)
 }
 
-/// The circuit that the text of `teg timetable` tells for delays that are kept, where it is shown to
-/// keep some of this timetable that departs again every `period`, in the user's unit (chapters 2
-/// and 3): the net is seen to be live, the timetable leaves time for each place, the circuit takes
-/// just the time that it gives, and one of its transitions is late at some number, by a given delay
-/// that places pass on. So each of its transitions is late at numbers past every bound. The lines of
-/// the delays that are left, and where they settle, are not looked at. It takes memory for a number
-/// each transition, and time of the order places times transitions, with the square of the number
-/// of delays. `OutOfMemory` comes only where no memory is found.
+// Whether the text tells the delays of these rows, which are those that are left, as those that the
+// circuit keeps.
+fn tells_rows(
+    alloc: Global,
+    planned: &Planned<'_>,
+    rows: &Rows<'_>,
+    circuit: &Circuit,
+    text: &str,
+) -> Result<bool, OutOfMemory>
+    requires circuit { AreInRange planned.now.net.now circuit.now.places.items }
+    requires wide { rows.now.width
+        ≡ length planned.now.net.now.transitions + length planned.now.net.now.transitions }
+    ensures { IfOk result (λ yes. IsTrue yes → TellsKept planned.now.net.now planned.now.period
+        planned.now.table.now text.now circuit.now.places.items) }
+{
+    if !are_form_rows(alloc, planned, rows)? {
+        return Ok(false);
+    }
+    let is_told = is_told(alloc, planned, rows, circuit, text)?;
+    Ok(is_told)
+}
+
+// Whether the text tells the delays of the timetable that are left, as those that the circuit keeps.
+fn tells_delays(
+    alloc: Global,
+    planned: &Planned<'_>,
+    told: &ToldDelays,
+    text: &str,
+) -> Result<bool, OutOfMemory>
+    requires { AreInRange planned.now.net.now told.now.circuit.places.items }
+    ensures { IfOk result (λ yes. IsTrue yes → TellsKept planned.now.net.now planned.now.period
+        planned.now.table.now text.now told.now.circuit.places.items) }
+{
+    let transitions = planned.net.transitions().len();
+    let width = transitions + transitions;
+    let cells = told.dates(alloc, planned)?;
+    let dates = cells.as_slice();
+    let step = i128::from(planned.period).saturating_mul(i128::from(told.turn));
+    let steps = vec![in alloc; step; width]?;
+    let Some(count) = count_of(width, told.after, told.turn, dates) else {
+        return Ok(false);
+    };
+    let rows = Rows {
+        after: told.after,
+        turn: told.turn,
+        width,
+        count,
+        dates,
+        steps: steps.as_slice(),
+    };
+    let tells = tells_rows(alloc, planned, &rows, &told.circuit, text)?;
+    Ok(tells)
+}
+
+// Whether the text shows that the circuit that it tells keeps delays.
+fn shows(
+    alloc: Global,
+    planned: &Planned<'_>,
+    told: &ToldDelays,
+    text: &str,
+) -> Result<bool, OutOfMemory>
+    ensures { IfOk result (λ yes. IsTrue yes → IsShownKept planned.now.net.now planned.now.period
+        planned.now.table.now text.now told.now.circuit.places.items) }
+{
+    let places = told.circuit.places.as_slice();
+    if !is_circuit(planned.net, places) {
+        return Ok(false);
+    }
+    let left = left_somewhere(alloc, planned.net, planned.period, planned.table)?;
+    if !keeps_delays(planned, &left, places) {
+        return Ok(false);
+    }
+    let tells = tells_delays(alloc, planned, told, text)?;
+    Ok(tells)
+}
+
+/// The circuit that the text of `teg timetable` tells for delays that are kept, where the whole text
+/// is shown to be right for this timetable that departs again every `period`, in the user's unit
+/// (chapters 2 and 3): the net is seen to be live, the timetable leaves time for each place, number
+/// and period are those of the shortest settled form of delayed dates and releases together, the
+/// delays of each line are those that are left, and the circuit keeps some for ever: it takes just
+/// the time that the plan gives it, and one of its transitions is late at some number. Which of
+/// several such circuits is told is free. It takes memory for the dates up to a period and the
+/// tokens of a place past those that are told, and for the text; and time of their order with the
+/// places, for each number that divides the period once more, and of the order places times
+/// transitions, with the square of the number of delays. `OutOfMemory` comes only where no memory is
+/// found.
 pub fn shown_kept(
     alloc: Global,
     net: &Net,
@@ -172,22 +211,20 @@ pub fn shown_kept(
     ensures { IfOk result (λ shown. IfSome shown (λ circuit.
         IsShownKept net.now period table.now text.now circuit.places.items)) }
 {
-    let Some((after, turn, circuit)) = kept_in(alloc, net, text)? else {
+    let Some(told) = delays_in(alloc, net, text)? else {
         return Ok(None);
     };
-    let places = circuit.places.as_slice();
-    if !is_circuit(net, places) || !is_planned(net, period, table) {
+    if !is_asked(net, period, table) {
         return Ok(None);
     }
     if !is_seen_live(alloc, net)? {
         return Ok(None);
     }
-    let left = left_somewhere(alloc, net, period, table)?;
-    if !keeps_delays(net, period, table, &left, places) {
+    let Ok(planned) = Planned::checked(net, period, table) else {
+        return Ok(None);
+    };
+    if !shows(alloc, &planned, &told, text)? {
         return Ok(None);
     }
-    if !tells_kept(alloc, net, text, after, turn, &circuit)? {
-        return Ok(None);
-    }
-    Ok(Some(circuit))
+    Ok(Some(told.circuit))
 }

@@ -2,18 +2,22 @@
 //! and the text alone.
 //!
 //! [`shown_kept`] reads a text without a promise, as the calls of `witness_check` do, looks at the
-//! net, at the timetable and at the circuit that was read, prints its lines anew, and compares. So
-//! what it tells rests on the laws of delays and on the words of the lines, and neither on the
-//! parser nor on whatever found the answer. Where it tells nothing, its clause says nothing.
+//! net, at the timetable, at the circuit and at the delays that were read, prints the whole text
+//! anew, and compares. The delays, with the plan and the releases, are rows of dates of the net with
+//! the releases as inputs (`release_net`), which `check_shortest` looks at. So what it tells rests on
+//! the laws of delays and on the words of the lines, and neither on the parser nor on whatever found
+//! the answer. Where it tells nothing, its clause says nothing.
 //!
-//! The crate stands on `delay_laws` for timetables and what delays are, on `witness_check` for
-//! whether a net is live, beginnings of texts and names, on `teg_text` for words, and on `teg_net`
-//! for nets; no crate of the program's search is below it. Its examples stand in
-//! `witness_examples`.
+//! The crate stands on `delay_laws` for timetables and what delays are, on `release_nets` for the
+//! net with the releases, on `dating_certificates` for rows of dates, on `witness_check` for whether
+//! a net is live and how a circuit is told, on `teg_text` for words, on `settled_laws`, `teg_model`
+//! and `dioid` for forms and dates, and on `teg_net` for nets; no crate of the program's search is
+//! below it. Its examples stand in `witness_examples`.
 #![tactic(auto)]
 
 mod kept;
 mod left;
-mod workable;
+mod spread_text;
+mod told_delays;
 
 pub use kept::shown_kept;

@@ -10,7 +10,8 @@
 //! transitions and places together, it keeps the limits of a net.
 //!
 //! The crate stands on `delay_laws` for timetables and what delays are, on a definition of
-//! `timetable_files`, and on `teg_net` for nets; no search is below it.
+//! `timetable_files`, and on `teg_net` for nets; no search is below it. Its examples stand in
+//! `witness_examples`, in `planned_nets.rt`.
 #![tactic(auto)]
 
 mod derived;

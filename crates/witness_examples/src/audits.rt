@@ -22,7 +22,7 @@ path material 1 by feed saw 1 by to_drill drill 1 by drill_free drill 2 by to_sh
 ";
 
 // The files of the shelf, by name.
-const FILES: [(&str, &str); 22] = [
+const FILES: [(&str, &str); 23] = [
     (
         "loop",
         "transition = [{ name = \"a\" }, { name = \"b\" }]
@@ -93,14 +93,18 @@ place = [
     ),
     (
         "kept",
-        "settled after 2 period 1\nkept\ncircuit south_down south_up\n",
+        "settled after 2 period 1\nkept\ncircuit south_down south_up\ndelays North 10 0 0\ndelays Centre>North 0 1 3\ndelays Centre>South 0 5 5\ndelays South 0 5 5\n",
+    ),
+    (
+        "other delay",
+        "settled after 2 period 1\nkept\ncircuit south_down south_up\ndelays North 10 0 0\ndelays Centre>North 0 1 4\ndelays Centre>South 0 5 5\ndelays South 0 5 5\n",
     ),
 ];
 
 // The words of a call, how it ends, and what it writes.
 type Call<'a> = (&'a [&'a str], AuditStatus, &'a str);
 
-const CALLS: [Call<'static>; 32] = [
+const CALLS: [Call<'static>; 33] = [
     (&["loop", "live"], AuditStatus::Shown, "shown live\n"),
     (
         &["loop", "other counts"],
@@ -196,6 +200,11 @@ const CALLS: [Call<'static>; 32] = [
     ),
     (
         &["railway", "kept", "31", "table"],
+        AuditStatus::NotShown,
+        "not shown kept\nnot shown circuit south_down south_up\n",
+    ),
+    (
+        &["railway", "other delay", "30", "table"],
         AuditStatus::NotShown,
         "not shown kept\nnot shown circuit south_down south_up\n",
     ),

@@ -6,7 +6,7 @@ use std::test::Fail;
 use teg_net::{Net, OutOfMemory, TransitionId};
 use teg_reader::read_net;
 
-const RAILWAY: &str =
+pub(crate) const RAILWAY: &str =
     "transition = [{ name = \"North\" }, { name = \"Centre>North\" }, { name = \"Centre>South\" }, { name = \"South\" }]
 place = [
  { name = \"north_down\", from = \"North\", to = \"Centre>North\", hold = 24, tokens = 1 },
@@ -21,10 +21,14 @@ place = [
 const KEPT: &str = "settled after 2 period 1
 kept
 circuit south_down south_up
+delays North 10 0 0
+delays Centre>North 0 1 3
+delays Centre>South 0 5 5
+delays South 0 5 5
 ";
 
 // The timetable of the railway, with the first train from North late by so much, or on time.
-fn table(alloc: Global, by: u64) -> Result<Timetable, AllocError> {
+pub(crate) fn table(alloc: Global, by: u64) -> Result<Timetable, AllocError> {
     let mut delays = Vec::new(alloc);
     if by >= 1 {
         delays.push(Delay {
@@ -63,19 +67,126 @@ fn shown(alloc: Global, period: u64, by: u64, text: &str) -> Result<Option<usize
     Ok(told?)
 }
 
+// The first lines alone.
+const SHORT: &str = "settled after 2 period 1\nkept\ncircuit south_down south_up\n";
+
+// The text with a delay more at the end, and one that misses a line.
+const OTHER_DELAY: &str = "settled after 2 period 1
+kept
+circuit south_down south_up
+delays North 10 0 0
+delays Centre>North 0 1 3
+delays Centre>South 0 5 5
+delays South 0 5 6
+";
+
+const LINE_LESS: &str = "settled after 2 period 1
+kept
+circuit south_down south_up
+delays North 10 0 0
+delays Centre>North 0 1 3
+delays Centre>South 0 5 5
+";
+
+// The same delays in another order, and with a blank more.
+const OTHER_ORDER: &str = "settled after 2 period 1
+kept
+circuit south_down south_up
+delays Centre>North 0 1 3
+delays North 10 0 0
+delays Centre>South 0 5 5
+delays South 0 5 5
+";
+
+const BLANK_MORE: &str = "settled after 2 period 1
+kept
+circuit south_down south_up
+delays North 10  0 0
+delays Centre>North 0 1 3
+delays Centre>South 0 5 5
+delays South 0 5 5
+";
+
+// True delays by a number and a period that are greater than they need be, and up to less than the
+// number.
+const LATER: &str = "settled after 3 period 1
+kept
+circuit south_down south_up
+delays North 10 0 0 0
+delays Centre>North 0 1 3 3
+delays Centre>South 0 5 5 5
+delays South 0 5 5 5
+";
+
+const LONGER: &str = "settled after 2 period 2
+kept
+circuit south_down south_up
+delays North 10 0 0 0
+delays Centre>North 0 1 3 3
+delays Centre>South 0 5 5 5
+delays South 0 5 5 5
+";
+
+const SOONER: &str = "settled after 1 period 1
+kept
+circuit south_down south_up
+delays North 10 0
+delays Centre>North 0 1
+delays Centre>South 0 5
+delays South 0 5
+";
+
+// The circuit begun elsewhere, one with time to spare, and delays that are over.
+const TURNED: &str = "settled after 2 period 1
+kept
+circuit south_up south_down
+delays North 10 0 0
+delays Centre>North 0 1 3
+delays Centre>South 0 5 5
+delays South 0 5 5
+";
+
+const SPARE: &str = "settled after 2 period 1
+kept
+circuit north_down north_up
+delays North 10 0 0
+delays Centre>North 0 1 3
+delays Centre>South 0 5 5
+delays South 0 5 5
+";
+
 const RECOVERED: &str =
     "settled after 2 period 1\nrecovered after 2\ncircuit south_down south_up\n";
 
+// Numbers past all that a text can tell.
+const HUGE: &str = "settled after 18446744073709551615 period 18446744073709551615
+kept
+circuit south_down south_up
+";
+
 // Periods, delays, texts, and how many places has the circuit that these show.
-const TEXTS: [(u64, u64, &str, Option<usize>); 6] = [
+const TEXTS: [(u64, u64, &str, Option<usize>); 18] = [
     (30, 10, KEPT, Some(2)),
-    // The plan leaves 5 of them to spare on the way to Centre>South.
+    // Other delays are left of another one; the plan leaves 5 of them to spare on the way to
+    // Centre>South.
+    (30, 11, KEPT, None),
     (30, 5, KEPT, None),
     (30, 0, KEPT, None),
     // No train has the time that it takes, or each has time to spare.
     (24, 10, KEPT, None),
     (31, 10, KEPT, None),
+    (30, 10, SHORT, None),
+    (30, 10, OTHER_DELAY, None),
+    (30, 10, LINE_LESS, None),
+    (30, 10, OTHER_ORDER, None),
+    (30, 10, BLANK_MORE, None),
+    (30, 10, LATER, None),
+    (30, 10, LONGER, None),
+    (30, 10, SOONER, None),
+    (30, 10, TURNED, None),
+    (30, 10, SPARE, None),
     (30, 10, RECOVERED, None),
+    (30, 10, HUGE, None),
 ];
 
 #[test]

@@ -1,6 +1,7 @@
-//! Examples of `dating_check`, `delay_check` and `answer_check`: texts of the guide that show their dates,
-//! latest dates, late rows and delays that stay, and the same texts with a digit changed, which show nothing; and
-//! whole calls of `answer_audit`. The crate has tests alone; those of the other answers stand in `library_examples`.
+//! Examples of `dating_check`, `delay_check` and `answer_check`: texts of the guide that show their
+//! dates, latest dates, late rows and delays that stay, and the same texts with a digit changed,
+//! which show nothing; of `release_nets`, by the dates of such a net; and whole calls of
+//! `answer_audit`. The crate has tests alone; those of the other answers stand in `library_examples`.
 #![tactic(auto)]
 
 #[cfg(test)]
@@ -11,6 +12,8 @@ mod audits;
 mod kept_delays;
 #[cfg(test)]
 mod late_rows;
+#[cfg(test)]
+mod planned_nets;
 #[cfg(test)]
 mod settled_texts;
 #[cfg(test)]

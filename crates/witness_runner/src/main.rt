@@ -20,7 +20,7 @@
 //! each slack; of `size`, that the number is the least that is enough; of `dates`, that its form is
 //! the settled form; of latest dates, that the table is a plan, with a step that attains each date;
 //! of `late`, that its row is the first that comes late, and when; of `kept`, that the circuit keeps
-//! delays. Of the other lines it tells nothing.
+//! delays, with the number, the period and all lines of delays. Of the other lines it tells nothing.
 //!
 //! It stands on `answer_audit` and `teg_outside`.
 #![tactic(auto)]

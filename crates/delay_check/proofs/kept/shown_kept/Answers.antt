@@ -1,12 +1,8 @@
-use Rattle.std.proofs.Common.{rules, refl, subst}
-use Rattle.delay_check.specs.ShownDelays.{KeepsWhatIsLeft}
+use Rattle.std.proofs.Common.{rules}
 use Rattle.delay_check.proofs.kept.shown_kept.Goals as goal
 
 pub returns : goal.returns
-returns c = record {
-  told = c.in_ok-tells_kept.ensures (search rules);
-  live = c.in_ok-is_seen_live.ensures (search rules);
-  table_of = search rules;
-  workable = search rules;
-  keeps = subst (KeepsWhatIsLeft c.args.net.now c.args.period c.args.table.now) c.as_slice-places.ensures.value (c.if-not-keeps_delays.ensures refl);
-}
+returns c =
+    let same = c.in-Ok.ensures.same in
+    let shown = c.in_ok-shows.ensures (search rules) in
+    rw (same.0, same.1, same.2) at shown

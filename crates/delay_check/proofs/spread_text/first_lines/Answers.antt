@@ -1,8 +1,7 @@
-use Rattle.std.proofs.Common.{rules, ◌≡◌, List, ℕ, [], ◌++◌, codes, ap, sym, ◌∙◌, append_assoc, string_bytes}
+use Rattle.std.proofs.Common.{rules, ◌≡◌, List, ℕ, [], ◌++◌, codes, ap, ◌∙◌, append_assoc, string_bytes}
 use Rattle.teg_text.specs.Lines.{line_then}
 use Rattle.teg_text.specs.WordsOfNames.{circuit_line, settled_words}
-use Rattle.teg_text.proofs.Joining.{line_append}
-use Rattle.delay_check.proofs.kept.told.Goals as goal
+use Rattle.delay_check.proofs.spread_text.first_lines.Goals as goal
 
 pub returns : goal.returns
 returns c =
@@ -12,4 +11,4 @@ returns c =
     let head : string_bytes c.push_settled.new.text ≡ line_then words [] = search rules in
     c.in_ok-push_circuit.ensures
     ∙ (ap (λ (l : List ℕ). l ++ last) (c.in_ok-push_str.ensures.bytes ∙ ap (λ (l : List ℕ). l ++ kept) head)
-    ∙ (append_assoc (line_then words []) kept last ∙ sym (line_append words (kept ++ last))))
+    ∙ append_assoc (line_then words []) kept last)
