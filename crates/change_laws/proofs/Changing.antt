@@ -9,7 +9,7 @@ use Rattle.teg_net.specs.Nets.{NetLists, IsNet}
 use Rattle.teg_net.specs.Circuits.{no_place, place_at}
 use Rattle.teg_net.specs.ReadyDates.{ready_date}
 use Rattle.teg_net.specs.Changes.{place_with_hold, place_with_tokens, with_place}
-use Rattle.change_laws.specs.SlowerNets.{IsSlowerPlace, IsReadyNoLater, IsSlowerNet}
+use Rattle.change_laws.specs.SlowerNets.{IsSlowerPlace, IsReadyNoLater, HasReadyDatesOfTokens, IsSlowerNet}
 use Rattle.change_laws.specs.ChangesAreSlower.{LongerHoldsAreSlower, FewerTokensAreSlower, FurtherPlacesAreSlower, SlowerNetsAreOrdered, SlowerNetsHaveSlowerPlaces}
 
 -- the second place is slower, and its tokens are ready no earlier
@@ -88,16 +88,20 @@ further_places net places = record {
       (p, omega (arith, l, long), r.0, r.1);
 }
 
--- a place of a net has no token ready after 0 past its tokens
-none_ready : (net : NetLists) → IsNet net → (q : PlaceId) → q.index < length net.places → (k : ℕ) → (place_at net q).tokens < k → ready_date (place_at net q) k ≡ 0
-none_ready net ok q l k m =
-    let p : Place = place_at net q in
-    let all = (ok.each_place q.index no_place l).ready_all in
-    let few : length p.ready ≤ k - 1 = ⊎_elim (λ (e : length p.ready ≡ 0). omega (arith, e)) (λ (e : length p.ready ≡ p.tokens). omega (arith, e, m)) all in
-    get_or_past p.ready (k - 1) 0 few
+-- no place of a net has more ready dates than tokens
+pub ready_of_tokens : (net : NetLists) → IsNet net → HasReadyDatesOfTokens net
+ready_of_tokens net ok i d l =
+    let p : Place = get_or net.places i d in
+    ⊎_elim (λ (e : length p.ready ≡ 0). omega (arith, e)) (λ (e : length p.ready ≡ p.tokens). omega (arith, e)) (ok.each_place i d l).ready_all
 
-chained : (net middle slower : NetLists) → IsNet middle → IsSlowerNet net middle → IsSlowerNet middle slower → IsSlowerNet net slower
-chained net middle slower ok h g = record {
+-- such a place has no token ready after 0 past its tokens
+pub none_ready : (net : NetLists) → HasReadyDatesOfTokens net → (q : PlaceId) → q.index < length net.places → (k : ℕ) → (place_at net q).tokens < k → ready_date (place_at net q) k ≡ 0
+none_ready net ready q l k m =
+    let few = ready q.index no_place l in
+    get_or_past (place_at net q).ready (k - 1) 0 (omega (arith, few, m))
+
+chained : (net middle slower : NetLists) → HasReadyDatesOfTokens middle → IsSlowerNet net middle → IsSlowerNet middle slower → IsSlowerNet net slower
+chained net middle slower ready h g = record {
   transitions = h.transitions ∙ g.transitions;
   each = λ p l.
       let a = h.each p l in
@@ -119,7 +123,7 @@ chained net middle slower ok h g = record {
         λ k o m.
             let first = a.3 k o m in
             ⊎_elim
-            (λ (n : (place_at middle a.0).tokens < k). let none = none_ready middle ok a.0 a.1 k n in omega (arith, first, none))
+            (λ (n : (place_at middle a.0).tokens < k). let none = none_ready middle ready a.0 a.1 k n in omega (arith, first, none))
             (λ (n : k ≤ (place_at middle a.0).tokens). let second = b.3 k o n in omega (arith, first, second))
             (cases_lt (place_at middle a.0).tokens k),
       );

@@ -2,10 +2,10 @@
 use Rattle.std.specs.Prelude.{ℕ, ◌≤◌, List, ◌++◌}
 use Rattle.teg_net.specs.declared.entries.Place.{Place}
 use Rattle.teg_net.specs.declared.entries.PlaceId.{PlaceId}
-use Rattle.teg_net.specs.Nets.{NetLists, IsNet, lists_of}
+use Rattle.teg_net.specs.Nets.{NetLists, lists_of}
 use Rattle.teg_net.specs.Circuits.{place_at}
 use Rattle.teg_net.specs.Changes.{with_hold, with_tokens}
-use Rattle.change_laws.specs.SlowerNets.{IsSlowerNet, HasSlowerPlaces}
+use Rattle.change_laws.specs.SlowerNets.{HasReadyDatesOfTokens, IsSlowerNet, HasSlowerPlaces}
 
 -- the net with a longer holding time of a place is slower, and with a shorter one the net is slower than it
 pub record LongerHoldsAreSlower : Type 0 where
@@ -24,7 +24,7 @@ FurtherPlacesAreSlower = (net : NetLists) (places : List Place) → IsSlowerNet 
 -- a net is slower than itself, and than one that a quicker net is slower than
 pub record SlowerNetsAreOrdered : Type 0 where
   pub same : (net : NetLists) → IsSlowerNet net net
-  pub chain : (net middle slower : NetLists) → IsNet middle → IsSlowerNet net middle → IsSlowerNet middle slower → IsSlowerNet net slower
+  pub chain : (net middle slower : NetLists) → HasReadyDatesOfTokens middle → IsSlowerNet net middle → IsSlowerNet middle slower → IsSlowerNet net slower
 
 -- a slower net has slower places
 abbrev pub SlowerNetsHaveSlowerPlaces : Type 0

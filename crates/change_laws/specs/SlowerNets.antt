@@ -1,5 +1,5 @@
 -- Slower nets: places with longer holding times or fewer tokens, and further places (chapter 2).
-use Rattle.std.specs.Prelude.{ℕ, ◌<◌, ◌≤◌, ◌≡◌, length}
+use Rattle.std.specs.Prelude.{ℕ, ◌<◌, ◌≤◌, ◌≡◌, length, All}
 use Rattle.teg_net.specs.declared.entries.Place.{Place}
 use Rattle.teg_net.specs.declared.entries.PlaceId.{PlaceId}
 use Rattle.teg_net.specs.Nets.{NetLists}
@@ -16,6 +16,10 @@ pub record IsSlowerPlace (p q : Place) : Type 0 where
 -- a token that the first place has is ready when that of its number in the second is, or before, and at 0 where the second has none
 abbrev pub IsReadyNoLater : Place → Place → Type 0
 IsReadyNoLater p q = (k : ℕ) → 1 ≤ k → k ≤ p.tokens → ready_date p k ≤ ready_date q k
+
+-- no place has more ready dates than tokens
+abbrev pub HasReadyDatesOfTokens : NetLists → Type 0
+HasReadyDatesOfTokens net = All (λ p. length p.ready ≤ p.tokens) net.places
 
 -- for each place of the first net the second has a slower one; it may have further places
 abbrev pub HasSlowerPlaces : NetLists → NetLists → Type 0

@@ -22,8 +22,8 @@ pub fn further_places_make_slower_nets()
 {}
 
 /// A net is slower than itself, and changes that make it slower may follow each other (chapter 2).
-/// The net between has to keep the rules of a net: a token that it lacks counts as ready at 0, so
-/// ready dates past its tokens would tell too much.
+/// No place of the net between may have more ready dates than tokens, as none of a net file has: a
+/// token that it lacks counts as ready at 0, so ready dates past its tokens would tell too much.
 pub fn slower_nets_are_ordered()
     ensures { SlowerNetsAreOrdered }
 {}

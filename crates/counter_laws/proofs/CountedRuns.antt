@@ -36,8 +36,8 @@ count_first p (x ∷ xs) (suc n) l passes fails =
     omega (arith, one, some, rest)
 
 pub counters_count : CountersCountFirings
-counters_count net x c most run ok least e counts t d n l is up =
-    let whole = earliest_whole net x most run ok least e in
+counters_count net x c most run least e counts t d n l is up =
+    let whole = earliest_whole net x most run least e in
     let ds : List ℕ = dates_of_transition run t in
     let dated : (i : ℕ) → i < length ds → x t (i + 1) ≡ At (pos (get_or ds i 0)) =
     λ i m.

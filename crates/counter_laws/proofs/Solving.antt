@@ -19,7 +19,7 @@ use Rattle.teg_model.specs.LiveRanks.{AreRanks}
 use Rattle.teg_model.proofs.DateFunctions.{Dating}
 use Rattle.teg_model.proofs.LeastOver.{falls}
 use Rattle.teg_model.proofs.LiveRanks.{live_is_ranked}
-use Rattle.teg_model.proofs.OfNet.{net_ends, all_extended_in, tight_of_least}
+use Rattle.teg_model.proofs.OfNet.{all_extended_in, tight_of_least}
 use Rattle.teg_model.proofs.Tokens.{available_after, available_first, implicit_after, place_keeps, not_before_zero}
 use Rattle.counter_laws.specs.Counters.{IsUpTo, and_more, tokens_by, AreReadyBy, IsUpToLeast, AreWithinLeast}
 use Rattle.dating_laws.proofs.SlowerNets.{climb}
@@ -132,7 +132,7 @@ module _ (net : NetLists) (u x : Dating) (r c : Counts) (h : AreCounted net u x 
   within t d k l o low = record {
     tokens = λ i e m to.
         let p : Place = get_or net.places i no_place in
-        let place = h.net_rules.each_place i no_place m in
+        let from_in = (h.ends i no_place m).0 in
         let same : get_or net.places i e ≡ p = get_or_default net.places i e no_place m in
         let into : p.to.index ≡ t = rw same at to in
         let keeps : IsAtMostDate (available_at x p k) (x t k) = rw into at (place_keeps net u x h.least.feasible k o i m) in
@@ -141,9 +141,9 @@ module _ (net : NetLists) (u x : Dating) (r c : Counts) (h : AreCounted net u x 
         (tokens_up c p d k (λ q.
         let j : ℕ = k - p.tokens in
         let a : Date = x p.from.index j in
-        let first = not_before_zero net u x h.least.feasible p.from.index j place.from_in (omega (arith, q)) in
+        let first = not_before_zero net u x h.least.feasible p.from.index j from_in (omega (arith, q)) in
         let back = held_back p.hold d a first (rw (available_after initial_date x p k a q refl) at by) in
-        (back.0, (h.firings p.from.index place.from_in (d - p.hold) j (omega (arith, q))).0 back.1)));
+        (back.0, (h.firings p.from.index from_in (d - p.hold) j (omega (arith, q))).0 back.1)));
     ready = λ i e m to j one up first.
         let p : Place = get_or net.places i no_place in
         let same : get_or net.places i e ≡ p = get_or_default net.places i e no_place m in
@@ -183,7 +183,7 @@ module _ (net : NetLists) (u x : Dating) (r c : Counts) (h : AreCounted net u x 
   reached tight t d (suc n) l o up =
       comes_with tight c t d (suc n) l o up
       (λ i e m to q held w. (h.firings (get_or net.places i e).from.index
-      (h.net_rules.each_place i e m).from_in (d - (get_or net.places i e).hold) (suc n - (get_or net.places i e).tokens) (omega (arith, q))).1 w)
+      (h.ends i e m).0 (d - (get_or net.places i e).hold) (suc n - (get_or net.places i e).tokens) (omega (arith, q))).1 w)
       (λ j e one. let same : j ≡ n = omega (arith, e) in rw same (reached tight t d n l (omega (arith, one, same)) (lower_least t d n (suc n) (omega arith) up)))
 
   greatest : (bound : ℕ) (rank : ℕ → ℕ) → AreRanks net.places bound rank → IsTight net u x → (other : Counts) → AreWithinLeast net r other
@@ -196,7 +196,7 @@ module _ (net : NetLists) (u x : Dating) (r c : Counts) (h : AreCounted net u x 
       let p : Place = get_or net.places i e in
       let down = falls bound k p.tokens (rank p.from.index) (rank p.to.index) q (rr.below p.from.index) (rr.rise i e b) in
       let here : rank p.to.index ≡ rank t = ap rank to in
-      greatest bound rank rr tight other keeps n p.from.index (d - p.hold) (k - p.tokens) (h.net_rules.each_place i e b).from_in (omega (arith, q)) w (omega (arith, down, here, m)))
+      greatest bound rank rr tight other keeps n p.from.index (d - p.hold) (k - p.tokens) (h.ends i e b).0 (omega (arith, q)) w (omega (arith, down, here, m)))
       (λ j e one.
       let back : k - 1 ≡ j = omega (arith, e) in
       let down = falls bound k 1 (rank t) (rank t) (omega (arith, e, one)) below (λ z. absurd (omega (arith, z))) in
@@ -205,7 +205,7 @@ module _ (net : NetLists) (u x : Dating) (r c : Counts) (h : AreCounted net u x 
 
 pub least_of_tokens : CountersAreLeastOfTokens
 least_of_tokens net u x r c h t d k l o =
-    let ranked = live_is_ranked net (net_ends net h.net_rules) h.live in
+    let ranked = live_is_ranked net h.ends h.live in
     let tight = tight_of_least net u x ranked.0 ranked.1 ranked.2 h.least in (
       λ up. within net u x r c h t d k l o ((h.firings t l d k o).1 up),
       λ up. (h.firings t l d k o).0 (reached net u x r c h tight t d k l o up),
@@ -213,6 +213,6 @@ least_of_tokens net u x r c h t d k l o =
 
 pub counters_greatest : CountersAreGreatest
 counters_greatest net u x r c other h keeps t d k l o up =
-    let ranked = live_is_ranked net (net_ends net h.net_rules) h.live in
+    let ranked = live_is_ranked net h.ends h.live in
     let tight = tight_of_least net u x ranked.0 ranked.1 ranked.2 h.least in
     (h.firings t l d k o).0 (greatest net u x r c h ranked.0 ranked.1 ranked.2 tight other keeps (suc (k * ranked.0 + ranked.1 t)) t d k l o up (omega arith))

@@ -36,7 +36,7 @@ use Rattle.slope_laws.proofs.Starts.{Behind}
 use Rattle.slope_laws.proofs.WalkPaths.{IsPathOf, walk_path}
 use Rattle.bound_laws.proofs.Onward.{PutIn, put_in}
 use Rattle.growth_laws.specs.Growth.{IsEndless}
-use Rattle.growth_laws.proofs.Growth.{cancel, unit, is_number, on_by, on, near, slope_of, slopes_are_one}
+use Rattle.growth_laws.proofs.Growth.{cancel, unit, is_number, on_by, on, near, slope_of, lists_repeat, slopes_are_one}
 use Rattle.cyclicity_laws.specs.PartsTowards.{IsCommonTowards, DatesRepeatByParts}
 use Rattle.cyclicity_laws.proofs.Lines.{rise_by}
 use Rattle.cyclicity_laws.proofs.Rounds.{IsRound, ComesRound, repeated, comes_round}
@@ -160,7 +160,7 @@ module _ (repeat : LeastDatingsRepeat) (net : NetLists) (ok : IsNet net) (live :
   units =
       let w = slope_of repeat net ok live x least t lt endless in (
         w.0,
-        slopes_are_one net ok live t a b w.0 P some_b some slope w.2,
+        slopes_are_one net live t a b w.0 P (lists_repeat net ok t) some_b some slope w.2,
         λ k m. on_by repeat net ok live x least t lt endless k m,
       )
 

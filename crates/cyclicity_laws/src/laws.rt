@@ -60,7 +60,8 @@ pub fn dates_repeat_by_parts()
 /// In each live net there are numbers such as the laws of cyclicity ask for: the product of all
 /// whole numbers up to `1,000 n`, for `n` transitions, is common by the parts at every ratio,
 /// towards each transition at every rate, and for the net, whatever its ready dates, inputs and
-/// parts are (chapter 3). The least common multiple is far below it.
+/// parts are (chapter 3). The least common multiple is far below it. The net keeps the limits of a
+/// net file, by which no place has more than 1,000 tokens and no list repeats more dates.
 pub fn common_numbers_exist()
     ensures parts { CommonByPartsExist }
     ensures towards { CommonTowardsExist }

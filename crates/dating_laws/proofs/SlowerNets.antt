@@ -3,21 +3,23 @@ use Rattle.std.proofs.Common.{ℕ, zero, suc, ◌+◌, ◌-◌, ◌<◌, ◌≤�
 use Rattle.std.specs.Prelude.{pos}
 use Rattle.std.proofs.lemmas.Bool.{cases_lt}
 use Rattle.std.proofs.lemmas.Int.{ints}
-use Rattle.std.proofs.lemmas.List.{get_or_default, get_or_past}
+use Rattle.std.proofs.lemmas.List.{get_or_default}
 use Rattle.teg_model.specs.dioid.declared.dates.Date.{Date}
 use Rattle.teg_model.specs.dioid.declared.dates.Date.TheVariants.{At}
 use Rattle.teg_model.specs.dioid.Dates.{IsAtMostDate, delayed}
 use Rattle.teg_model.proofs.dioid_proofs.DateOrder.{at_most_refl, at_most_trans, delayed_rises, delayed_later}
 use Rattle.teg_model.specs.teg_net.declared.entries.Place.{Place}
-use Rattle.teg_model.specs.teg_net.Nets.{NetLists, IsNet}
+use Rattle.teg_model.specs.teg_net.Nets.{NetLists}
 use Rattle.teg_model.specs.teg_net.Circuits.{no_place}
 use Rattle.teg_model.specs.teg_net.ReadyDates.{ready_date}
+use Rattle.teg_model.specs.LiveRanks.{HasEndsInRange}
 use Rattle.teg_model.specs.Datings.{available_at, initial_date, IsFeasibleUnder}
 use Rattle.teg_model.proofs.DateFunctions.{Dating}
 use Rattle.teg_model.proofs.Delays.{delayed_twice}
 use Rattle.teg_model.proofs.OfNet.{all_extended_in}
 use Rattle.teg_model.proofs.Tokens.{available_after, available_first, place_keeps, implicit_keeps, dates_climb, not_before_zero}
-use Rattle.change_laws.specs.SlowerNets.{IsSlowerPlace, IsReadyNoLater}
+use Rattle.change_laws.specs.SlowerNets.{IsSlowerPlace, IsReadyNoLater, HasReadyDatesOfTokens}
+use Rattle.change_laws.proofs.Changing.{none_ready}
 use Rattle.dating_laws.specs.SlowerNets.{SlowerNetsAreLater}
 
 -- the dates of a feasible dating rise over any numbers
@@ -33,16 +35,10 @@ longer_hold g h d l =
     let e : g + (h - g) ≡ h = omega arith in
     subst (λ n. IsAtMostDate (delayed g d) (delayed n d)) e (rw (delayed_twice g (h - g) d) (delayed_later (h - g) (delayed g d)))
 
-module _ (slower : NetLists) (ok : IsNet slower) (v y : Dating) (f : IsFeasibleUnder slower v y) (i : ℕ) (l : i < length slower.places)
+module _ (slower : NetLists) (ends : HasEndsInRange slower) (few : HasReadyDatesOfTokens slower) (v y : Dating) (f : IsFeasibleUnder slower v y) (i : ℕ) (l : i < length slower.places)
     (p : Place) (h : IsSlowerPlace p (get_or slower.places i no_place)) (ready : IsReadyNoLater p (get_or slower.places i no_place)) where
   abbrev q : Place
   q = get_or slower.places i no_place
-
-  -- a place has no token ready after 0 past its tokens
-  none_ready : (k : ℕ) → q.tokens < k → ready_date q k ≡ 0
-  none_ready k m =
-      let few : length q.ready ≤ k - 1 = ⊎_elim (λ (e : length q.ready ≡ 0). omega (arith, e)) (λ (e : length q.ready ≡ q.tokens). omega (arith, e, m)) (ok.each_place i no_place l).ready_all in
-      get_or_past q.ready (k - 1) 0 few
 
   -- a place keeps what a slower one keeps
   kept : (k : ℕ) → 1 ≤ k → IsAtMostDate (available_at y p k) (y p.to.index k)
@@ -57,7 +53,7 @@ module _ (slower : NetLists) (ok : IsNet slower) (v y : Dating) (f : IsFeasibleU
       let a : Date = y q.from.index j in
       let b : Date = y q.from.index (k - q.tokens) in
       let apart : j + (p.tokens - q.tokens) ≡ k - q.tokens = omega (arith, m, more) in
-      let from = (ok.each_place i no_place l).from_in in
+      let from = (ends i no_place l).0 in
       let rises : IsAtMostDate a b = rw apart at (climb slower v y f q.from.index j from (omega (arith, m)) (p.tokens - q.tokens)) in
       let there : IsAtMostDate (delayed q.hold b) (y to k) = rw (available_after initial_date y q k b (omega (arith, m, more)) refl) at keeps in
       let held = at_most_trans (delayed p.hold a) (delayed q.hold a) (delayed q.hold b) (longer_hold p.hold q.hold a h.holds) (delayed_rises q.hold a b rises) in
@@ -67,7 +63,7 @@ module _ (slower : NetLists) (ok : IsNet slower) (v y : Dating) (f : IsFeasibleU
       let first : IsAtMostDate (At (pos (ready_date p k))) (At (pos (ready_date q k))) = omega (arith, ints, early) in
       let there : IsAtMostDate (At (pos (ready_date q k))) (y to k) =
       ⊎_elim
-      (λ (n : q.tokens < k). rw (none_ready k n) (not_before_zero slower v y f to k (ok.each_place i no_place l).to_in o))
+      (λ (n : q.tokens < k). rw (none_ready slower few (record { index = i }) l k n) (not_before_zero slower v y f to k (ends i no_place l).1 o))
       (λ (n : k ≤ q.tokens). rw (available_first initial_date y q k n) at keeps)
       (cases_lt q.tokens k) in
       rw (available_first initial_date y p k m) (at_most_trans (At (pos (ready_date p k))) (At (pos (ready_date q k))) (y to k) first there))
@@ -75,13 +71,13 @@ module _ (slower : NetLists) (ok : IsNet slower) (v y : Dating) (f : IsFeasibleU
       rw h.same_to low
 
 pub slower_later : SlowerNetsAreLater
-slower_later net slower ok s u v x y before least late t k in' o =
+slower_later net slower ends few s u v x y before least late t k in' o =
     let f = late.feasible in
     let many = ap length s.transitions in
     least.least y
     (record {
       places = λ j one. all_extended_in net (λ p. IsAtMostDate (available_at y p j) (y p.to.index j))
-          (λ i d l. let w = s.each (record { index = i }) l in rw (get_or_default net.places i d no_place l) (kept slower ok v y f w.0.index w.1 (get_or net.places i no_place) w.2 w.3 j one))
+          (λ i d l. let w = s.each (record { index = i }) l in rw (get_or_default net.places i d no_place l) (kept slower ends few v y f w.0.index w.1 (get_or net.places i no_place) w.2 w.3 j one))
           (λ a m. implicit_keeps slower v y f a j (omega (arith, many, m)) one);
       inputs = λ a j one i. at_most_trans (u a j) (v a j) (y a j) (before a j one i) (f.inputs a j one (rw s.transitions at i));
     })

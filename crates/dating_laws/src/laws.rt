@@ -38,7 +38,8 @@ pub fn no_shift_grows()
 /// none of its least dates is earlier, also under later releases (chapter 2); it may have further
 /// places. A token that the quicker net has beyond those of the slower one has to be ready at 0:
 /// one more token, ready at 5, before a transition that had one token, ready at 0, on a place of
-/// hold 1 that comes from an input released at 0, puts off its second firing from 1 to 5. Changes
+/// hold 1 that comes from an input released at 0, puts off its second firing from 1 to 5. So no
+/// place of the slower net may have more ready dates than tokens, as none of a net file has. Changes
 /// of one place that make a net slower are told by `change_laws`.
 pub fn dates_rise_with_the_net()
     ensures { SlowerNetsAreLater }

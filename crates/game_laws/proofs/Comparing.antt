@@ -38,16 +38,16 @@ no_longer net x most run other h g t l =
     (cases_lt (length (dates_of_transition other t)) (length (dates_of_transition run t)))
 
 pub earliest_alike : EarliestRunsAreAlike
-earliest_alike net x most run other ok least e f t l =
-    let h = earliest_whole net x most run ok least e in
-    let g = earliest_whole net x most other ok least f in
+earliest_alike net x most run other least e f t l =
+    let h = earliest_whole net x most run least e in
+    let g = earliest_whole net x most other least f in
     ext_get_or 0 (dates_of_transition run t) (dates_of_transition other t)
     (omega (arith, no_longer net x most run other h g t l, no_longer net x most other run g h t l))
     (λ i m. sym (dates_in net x most run other h g t i l m).1)
 
 pub earliest_first : EarliestRunsAreFirst
 earliest_first net x most run other ok live least e legal t k date l o m q =
-    let h = earliest_whole net x most run ok least e in
+    let h = earliest_whole net x most run least e in
     let low : IsAtMostDate (x t k) (At (pos date)) = not_early net x other ok live least legal t k date l o q in
     ⊎_elim
     (λ (n : x t k ≡ Never). absurd (rw n at low))

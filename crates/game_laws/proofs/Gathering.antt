@@ -12,7 +12,6 @@ use Rattle.teg_model.specs.dioid.Dates.{IsAtMostDate}
 use Rattle.teg_model.proofs.dioid_proofs.DateOrder.{at_most_refl, at_most_trans, at_most_total}
 use Rattle.teg_net.specs.Nets.{NetLists}
 use Rattle.teg_model.specs.Datings.{listed_releases, IsFeasibleUnder}
-use Rattle.teg_model.proofs.OfNet.{net_ends}
 use Rattle.teg_model.proofs.Tokens.{not_before_zero}
 use Rattle.teg_model.proofs.LiveRanks.{live_is_ranked}
 use Rattle.teg_model.proofs.DateFunctions.{Dating}
@@ -306,8 +305,8 @@ each_rank_has net x rank most least =
     (h.list, map (fired_at x) h.list, gathered_in_order net x rank most h)
 
 pub earliest_exist : EarliestRunsExist
-earliest_exist net x most ok live least =
-    let ranks = live_is_ranked net (net_ends net ok) live in
+earliest_exist net x most ends live least =
+    let ranks = live_is_ranked net ends live in
     let made = each_rank_has net x ranks.1 most least in
     (made.1, record { rank = ranks.1; rises = ranks.2.rise; firings = made.0; in_order = made.2 })
 

@@ -94,10 +94,10 @@ never_fire net run ps legal c none =
     run legal
 
 pub shows_life : FiringEachShowsLife
-shows_life net run ok legal each ps c none =
+shows_life net run ends legal each ps c none =
     let still : length (dates_of_transition run (from_of net (get_or ps 0 no_id))) ≡ 0 = ap (λ ds. length ds) (never_fire net run ps legal c none 0 no_id c.not_empty) in
     let range = IsPathBetween-in_range net ps c.closed.0 c.closed.0 c.closed.1 0 no_id c.not_empty in
-    let some = each (from_of net (get_or ps 0 no_id)) (ok.each_place (get_or ps 0 no_id).index no_place range).from_in in
+    let some = each (from_of net (get_or ps 0 no_id)) (ends (get_or ps 0 no_id).index no_place range).0 in
     omega (arith, some, still)
 
 -- ---- where no input list ends, no date is never
@@ -154,12 +154,13 @@ all_come net x ok live on least t k l o never =
 
 fires_each : (net : NetLists) → IsNet net → IsLive net → NoInputListEnds net → (most : ℕ) → (run : List Fired) × IsLegalRun net run × FiresEach net most run
 fires_each net ok live on most =
-    let ranks = live_is_ranked net (net_ends net ok) live in
+    let ends = net_ends net ok in
+    let ranks = live_is_ranked net ends live in
     let u : Dating = listed_releases net in
     let x : Dating = least_over (system_of net u) ranks.0 ranks.1 in
     let least : IsLeastDating net x = least_of_system net u x (least_of net u ranks.0 ranks.1 ranks.2) in
-    let made = earliest_exist net x most ok live least in
-    let whole = earliest_whole net x most made.0 ok least made.1 in (
+    let made = earliest_exist net x most ends live least in
+    let whole = earliest_whole net x most made.0 least made.1 in (
       made.0,
       earliest_legal net x most made.0 ok least made.1,
       λ t l.
@@ -172,5 +173,5 @@ fires_each net ok live on most =
 pub fire_on : LiveNetsFireOn
 fire_on net ok on = (
   λ live. fires_each net ok live on,
-  λ each. let one = each 1 in shows_life net one.0 ok one.1 (λ t l. omega (arith, one.2 t l)),
+  λ each. let one = each 1 in shows_life net one.0 (net_ends net ok) one.1 (λ t l. omega (arith, one.2 t l)),
 )

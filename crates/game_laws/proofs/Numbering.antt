@@ -233,7 +233,7 @@ module _ (net : NetLists) (x : Dating) (f : IsFeasibleUnder net (listed_releases
       (cases_lt most (length (numbers_of fs t)))
 
 pub earliest_whole : EarliestRunsAreWhole
-earliest_whole net x most run ok least e =
+earliest_whole net x most run least e =
     let f = least.feasible in
     let o = e.in_order in
     record {

@@ -8,6 +8,7 @@ use Rattle.teg_net.specs.Nets.{NetLists, IsNet}
 use Rattle.teg_net.specs.Circuits.{IsLive}
 use Rattle.teg_model.specs.Datings.{IsLeastDating}
 use Rattle.teg_model.proofs.DateFunctions.{Dating}
+use Rattle.teg_model.proofs.OfNet.{net_ends}
 use Rattle.run_laws.specs.declared.fired.Fired.{Fired}
 use Rattle.run_laws.specs.Runs.{dates_of_transition, firing_date, IsLegalRun}
 use Rattle.game_laws.specs.DatesByTheGame.{LeastDatesAreEarliest, NeverIsInNoRun}
@@ -20,8 +21,8 @@ use Rattle.run_laws.proofs.Least.{not_early}
 reached_at : (net : NetLists) (x : Dating) → IsNet net → IsLive net → IsLeastDating net x → (t k date : ℕ) → t < length net.transitions → 1 ≤ k → x t k ≡ At (pos date)
     → (run : List Fired) × IsLegalRun net run × (firing_date run t k ≡ Some date)
 reached_at net x ok live least t k date l o e =
-    let made = earliest_exist net x k ok live least in
-    let whole = earliest_whole net x k made.0 ok least made.1 in
+    let made = earliest_exist net x k (net_ends net ok) live least in
+    let whole = earliest_whole net x k made.0 least made.1 in
     (made.0, earliest_legal net x k made.0 ok least made.1, whole.all t k date l o (omega arith) e)
 
 not_before_first : (net : NetLists) (x : Dating) → IsNet net → IsLive net → IsLeastDating net x → (t k date : ℕ) → t < length net.transitions → 1 ≤ k → x t k ≡ At (pos date)

@@ -4,6 +4,7 @@ use Rattle.teg_model.specs.dioid.declared.dates.Date.{Date}
 use Rattle.teg_model.specs.dioid.declared.dates.Date.TheVariants.{At, Never}
 use Rattle.teg_net.specs.Nets.{NetLists, IsNet}
 use Rattle.teg_net.specs.Circuits.{IsLive}
+use Rattle.teg_model.specs.LiveRanks.{HasEndsInRange}
 use Rattle.teg_model.specs.Datings.{IsLeastDating}
 use Rattle.run_laws.specs.declared.fired.Fired.{Fired}
 use Rattle.run_laws.specs.Runs.{dates_of_transition, firing_date, IsLegalRun}
@@ -13,7 +14,7 @@ use Rattle.run_laws.specs.EarliestRuns.{Numbered, IsRunInOrder, IsEarliestRun}
 -- a live net has, up to each number, an earliest run of its least dating
 abbrev pub EarliestRunsExist : Type 0
 EarliestRunsExist =
-    (net : NetLists) (x : ℕ → ℕ → Date) (most : ℕ) → IsNet net → IsLive net
+    (net : NetLists) (x : ℕ → ℕ → Date) (most : ℕ) → HasEndsInRange net → IsLive net
     → IsLeastDating net x → (run : List Fired) × IsEarliestRun net x most run
 
 -- any rank orders one: a net need not be live for that, and the rank need not rise along the places without tokens
@@ -39,13 +40,13 @@ pub record IsWholeUpTo (net : NetLists) (x : ℕ → ℕ → Date) (most : ℕ) 
 -- the earliest runs of the least dating are whole: a transition whose date of this number is not never fires so often
 abbrev pub EarliestRunsAreWhole : Type 0
 EarliestRunsAreWhole =
-    (net : NetLists) (x : ℕ → ℕ → Date) (most : ℕ) (run : List Fired) → IsNet net
+    (net : NetLists) (x : ℕ → ℕ → Date) (most : ℕ) (run : List Fired)
     → IsLeastDating net x → IsEarliestRun net x most run → IsWholeUpTo net x most run
 
 -- earliest runs of any two ranks have the same dates of each transition
 abbrev pub EarliestRunsAreAlike : Type 0
 EarliestRunsAreAlike =
-    (net : NetLists) (x : ℕ → ℕ → Date) (most : ℕ) (run other : List Fired) → IsNet net → IsLeastDating net x
+    (net : NetLists) (x : ℕ → ℕ → Date) (most : ℕ) (run other : List Fired) → IsLeastDating net x
     → IsEarliestRun net x most run → IsEarliestRun net x most other
     → (t : ℕ) → t < length net.transitions → dates_of_transition run t ≡ dates_of_transition other t
 

@@ -3,6 +3,7 @@ use Rattle.std.specs.Prelude.{ℕ, ◌<◌, ◌≤◌, ◌≡◌, ◌≢◌, ◌
 use Rattle.teg_net.specs.declared.entries.PlaceId.{PlaceId}
 use Rattle.teg_net.specs.Nets.{NetLists, IsNet}
 use Rattle.teg_net.specs.Circuits.{from_of, IsCircuit, tokens_of, IsLive}
+use Rattle.teg_model.specs.LiveRanks.{HasEndsInRange}
 use Rattle.run_laws.specs.declared.fired.Fired.{Fired}
 use Rattle.run_laws.specs.Runs.{dates_of_transition, IsLegalRun}
 
@@ -23,7 +24,7 @@ TokenFreeCircuitsNeverFire =
 -- so a net is live if some legal run has a firing of each of its transitions
 abbrev pub FiringEachShowsLife : Type 0
 FiringEachShowsLife =
-    (net : NetLists) (run : List Fired) → IsNet net → IsLegalRun net run
+    (net : NetLists) (run : List Fired) → HasEndsInRange net → IsLegalRun net run
     → ((t : ℕ) → t < length net.transitions → 1 ≤ length (dates_of_transition run t)) → IsLive net
 
 -- a net in which no input list ends is live just where, for each number, some legal run has so many firings of each transition

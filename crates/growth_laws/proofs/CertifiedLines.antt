@@ -114,7 +114,7 @@ level : (lift i j : ℕ) (w x y : ℤ) → i ≡ j → (w +ℤ x) ≤ℤ y → (
 level lift i j w x y e h = let same : lift * i ≡ lift * j = ap (λ n. lift * n) e in omega (arith, ints, h, same)
 
 pub draw_lines : CertificatesDrawLines
-draw_lines net answer ok h inside a b lift into = record {
+draw_lines net answer ends h inside a b lift into = record {
   closed = into.closed;
   potentials = keeps;
 } where
@@ -131,10 +131,10 @@ draw_lines net answer ok h inside a b lift into = record {
       (λ (not : part_at answer t ≤ part_at answer s).
       let k : ℕ = part_at answer t in
       let same : part_at answer s ≡ k = omega (arith, rises, not) in
-      let ends = ok.each_place p.index no_place l in
+      let own_ends = ends p.index no_place l in
       let count = h.count in
-      let from_in : s < length answer.part_of.items = omega (arith, ends.from_in, count) in
-      let to_in : t < length answer.part_of.items = omega (arith, ends.to_in, count) in
+      let from_in : s < length answer.part_of.items = omega (arith, own_ends.0, count) in
+      let to_in : t < length answer.part_of.items = omega (arith, own_ends.1, count) in
       let member : IsPlaceOfPart net answer.part_of.items k p =
       record { in_range = l; from_member = record { in_range = from_in; here = same }; to_member = record { in_range = to_in; here = refl } } in
       let here = in_part net answer.part_of.items k a b (slice_index_or answer.parts.items k NoCircuit) (h.parts k (h.below t 0 to_in)) (λ q e. into.ratios t q i e) p member in

@@ -51,24 +51,27 @@ some_tokens net live t ps w = ⊎_elim
     (λ (l : tokens_of net ps ≤ 0). absurd (live ps w.circuit (omega (arith, l))))
     (cases_lt 0 (tokens_of net ps))
 
-at_most : (net : NetLists) → IsNet net → IsLive net → (t a b c d : ℕ) → IsSlope net t b a → IsSlope net t d c → a * d ≤ c * b
-at_most net ok live t a b c d h k =
+-- each list of a net that goes on repeats some of its dates
+pub lists_repeat : (net : NetLists) → IsNet net → (t : ℕ) (l : InputList) (again : Again) → IsGoingOnTowards net t l again → 1 ≤ again.every
+lists_repeat net ok t l again w = (rule_of l.dates l.again again w.goes_on (dates_of_list net l ok w.of_net).0.again).some
+
+at_most : (net : NetLists) → IsLive net → (t a b c d : ℕ) → ((l : InputList) (again : Again) → IsGoingOnTowards net t l again → 1 ≤ again.every)
+    → IsSlope net t b a → IsSlope net t d c → a * d ≤ c * b
+at_most net live t a b c d some h k =
     ⊎_elim
     (λ (e : a ≡ 0). let none : a * d ≡ 0 = rw e (omega arith) in omega (arith, none))
     (λ other. ⊎_elim
     (λ (w : (ps : List PlaceId) × IsCircuitTowards net t ps × (a * tokens_of net ps ≡ b * time_of net ps)).
     no_more a b c d (time_of net w.0) (tokens_of net w.0) (some_tokens net live t w.0 w.1) w.2 (k.circuits w.0 w.1))
     (λ (w : (l : InputList) × (again : Again) × IsGoingOnTowards net t l again × (a * again.every ≡ b * again.gap)).
-    let facts = dates_of_list net w.0 ok w.2.of_net in
-    let rule = rule_of w.0.dates w.0.again w.1 w.2.goes_on facts.0.again in
-    no_more a b c d w.1.gap w.1.every rule.some w.3 (k.lists w.0 w.1 w.2))
+    no_more a b c d w.1.gap w.1.every (some w.0 w.1 w.2) w.3 (k.lists w.0 w.1 w.2))
     other)
     h.attained
 
 pub slopes_are_one : SlopesAreOne
-slopes_are_one net ok live t a b c d one two h k =
-    let up = at_most net ok live t a b c d h k in
-    let down = at_most net ok live t c d a b k h in
+slopes_are_one net live t a b c d some one two h k =
+    let up = at_most net live t a b c d some h k in
+    let down = at_most net live t c d a b some k h in
     omega (arith, up, down)
 
 -- ---- numbers that repeat by steps
@@ -232,7 +235,7 @@ module _ (repeat : LeastDatingsRepeat) (net : NetLists) (ok : IsNet net) (live :
   pub grow_by : (a b : ℕ) → 1 ≤ b → IsSlope net t b a → GrowBy (x t) a b
   grow_by a b one h =
       let units : ℕ = slope_of.0 in
-      let same : a * period ≡ units * b = slopes_are_one net ok live t a b units period one some h slope_of.2 in
+      let same : a * period ≡ units * b = slopes_are_one net live t a b units period (lists_repeat net ok t) one some h slope_of.2 in
       record {
         below = b * (units * (after + period));
         above = b * (period * most values after period units some on_by);

@@ -4,13 +4,14 @@ use Rattle.periodic_laws.specs.teg_net.declared.entries.PlaceId.{PlaceId}
 use Rattle.periodic_laws.specs.teg_net.declared.answers.PartAnswer.{PartAnswer}
 use Rattle.periodic_laws.specs.teg_net.declared.answers.PartAnswer.TheVariants.{NoCircuit, Best}
 use Rattle.periodic_laws.specs.teg_net.declared.answers.CycleAnswer.{CycleAnswer}
-use Rattle.periodic_laws.specs.teg_net.Nets.{NetLists, IsNet}
+use Rattle.periodic_laws.specs.teg_net.Nets.{NetLists}
 use Rattle.periodic_laws.specs.teg_net.Ratios.{Fraction}
 use Rattle.periodic_laws.specs.teg_net.Circuits.{from_of}
 use Rattle.periodic_laws.specs.teg_net.Parts.{to_of}
 use Rattle.periodic_laws.specs.teg_net.ReducedTimes.{reduced_time}
 use Rattle.periodic_laws.specs.teg_net.GreatestRatios.{ratio_at}
 use Rattle.periodic_laws.specs.teg_net.Certificates.{potential_at, IsCertificate}
+use Rattle.periodic_laws.specs.teg_model.LiveRanks.{HasEndsInRange}
 use Rattle.growth_laws.specs.DateLines.{ArePotentialsInto}
 
 -- the quotient by n, rounded down
@@ -44,5 +45,5 @@ pub record IsLiftInto (net : NetLists) (answer : CycleAnswer) (inside : ℕ → 
 
 -- then no place into the set exceeds the lifted potentials
 abbrev pub CertificatesDrawLines : Type 0
-CertificatesDrawLines = (net : NetLists) (answer : CycleAnswer) → IsNet net → IsCertificate net answer
+CertificatesDrawLines = (net : NetLists) (answer : CycleAnswer) → HasEndsInRange net → IsCertificate net answer
     → (inside : ℕ → Bool) (a b lift : ℕ) → IsLiftInto net answer inside a b lift → ArePotentialsInto net inside a b (lifted_potential b lift answer)

@@ -2,11 +2,12 @@
 use Rattle.std.specs.Prelude.{ℕ, pos, ◌+◌, ◌*◌, ◌<◌, ◌≤◌, ◌≡◌, ◌+ℤ◌, ◌*ℤ◌, ◌≤ℤ◌, length}
 use Rattle.periodic_laws.specs.dioid.declared.dates.Date.{Date}
 use Rattle.periodic_laws.specs.dioid.declared.dates.Date.TheVariants.{Early, At, Never}
+use Rattle.periodic_laws.specs.teg_net.declared.entries.Again.{Again}
 use Rattle.periodic_laws.specs.teg_net.declared.entries.InputList.{InputList}
 use Rattle.periodic_laws.specs.teg_net.Nets.{NetLists, IsNet}
 use Rattle.periodic_laws.specs.teg_net.Circuits.{IsLive}
 use Rattle.periodic_laws.specs.teg_model.Datings.{IsLeastDating}
-use Rattle.slope_laws.specs.Slopes.{IsEndedTowards, IsSlope}
+use Rattle.slope_laws.specs.Slopes.{IsEndedTowards, IsGoingOnTowards, IsSlope}
 
 -- the date comes, and b times it is no more than c below a times k and no more than d above
 abbrev pub IsNearLine : (a b c d k : ℕ) → Date → Type 0
@@ -36,7 +37,8 @@ SlopesExist =
     (net : NetLists) → IsNet net → IsLive net → (x : ℕ → ℕ → Date) → IsLeastDating net x → (t : ℕ) → t < length net.transitions → IsEndless net t
     → (a : ℕ) × (b : ℕ) × (1 ≤ b) × IsSlope net t b a
 
--- and only one, as a fraction
+-- and only one, as a fraction, where each list that goes on to it repeats some of its dates
 abbrev pub SlopesAreOne : Type 0
 SlopesAreOne =
-    (net : NetLists) → IsNet net → IsLive net → (t a b c d : ℕ) → 1 ≤ b → 1 ≤ d → IsSlope net t b a → IsSlope net t d c → a * d ≡ c * b
+    (net : NetLists) → IsLive net → (t a b c d : ℕ) → ((l : InputList) (again : Again) → IsGoingOnTowards net t l again → 1 ≤ again.every)
+    → 1 ≤ b → 1 ≤ d → IsSlope net t b a → IsSlope net t d c → a * d ≡ c * b

@@ -11,8 +11,8 @@ use periodic_laws::least_datings_repeat;
 /// each least date, so that no date of the set rises by more than the ratio in the long run
 /// (chapter 3).
 ///
-/// Where no input is kept waiting there is such a constant: `b` times the greatest ready date, and
-/// as much as the potentials are below 0. The places into the set have to come from it: a
+/// Where no input is kept waiting there is such a constant: `b` times the greatest ready date that a
+/// net file may have, and as much as the potentials are below 0 (`starts`). The places into the set have to come from it: a
 /// transition behind a slower one that is left out comes later than its own line.
 pub fn potentials_bound_dates()
     ensures bound { PotentialsBoundDates }
@@ -33,7 +33,9 @@ pub fn certificates_draw_lines()
 /// b` (chapter 3).
 ///
 /// Past the end of a list that reaches it the dates are `Never`. The net has to be live: a circuit
-/// without tokens leaves a slope of any size, or none.
+/// without tokens leaves a slope of any size, or none. That the slope is one (`one`) is said of
+/// slopes alone, without dates: so it asks of the rules of a net only that no list goes on by the
+/// date of no firing, which would be as steep as one likes.
 pub fn dates_grow_by_slopes()
     ensures growth { DatesGrowBySlopes }
     ensures exist { SlopesExist }

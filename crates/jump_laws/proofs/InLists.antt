@@ -11,11 +11,10 @@ use Rattle.teg_net.specs.declared.entries.Again.{Again}
 use Rattle.teg_net.specs.declared.entries.InputList.{InputList}
 use Rattle.teg_net.specs.Nets.{NetLists, IsNet, EndsOrGoesOn}
 use Rattle.teg_net.specs.Inputs.{moved_by, GoOnBy, list_date, date_by_list, list_of_input}
-use Rattle.teg_net.proofs.InputDates.{IsInputDates-list_date, found_rules}
+use Rattle.teg_net.proofs.InputDates.{IsInputDates-list_date}
 use Rattle.teg_model.specs.Datings.{as_date, listed_releases}
-use Rattle.teg_model.proofs.OfNet.{net_ends}
 use Rattle.jump_laws.specs.Jumps.{MovesTo}
-use Rattle.jump_laws.specs.ListedJumps.{HasWholeLaps, GoesOnInTurns, gaps_in, pace_by_list, listed_pace, ListedReleasesMove, ListedDatesJump, JumpsTellTooLong}
+use Rattle.jump_laws.specs.ListedJumps.{HasListsByRule, HasWholeLaps, GoesOnInTurns, gaps_in, pace_by_list, listed_pace, ListedReleasesMove, ListedDatesJump, JumpsTellTooLong}
 use Rattle.jump_laws.proofs.InNets.{dates_jump}
 use Rattle.jump_laws.proofs.Overtaken.{come_after}
 use Rattle.settled_laws.specs.SettledForms.{step_of_form}
@@ -64,35 +63,39 @@ found_has P (x ∷ xs) t l h e =
     (λ (b : eqb x.transition.index t ≡ false). found_has P xs t l (λ i d m. h (suc i) d (omega arith)) (rw b at e))
     (cases_Bool (eqb x.transition.index t))
 
-by_list : (net : NetLists) → IsNet net → (turn after last : ℕ) → All (GoesOnInTurns turn after) net.inputs → (t : ℕ) (o : Option InputList) → o ≡ list_of_input net t
+-- the lists of a net keep that rule
+pub lists_by_rule : (net : NetLists) → IsNet net → HasListsByRule net
+lists_by_rule net ok i d l = (ok.each_input i d l).again
+
+by_list : (net : NetLists) → HasListsByRule net → (turn after last : ℕ) → All (GoesOnInTurns turn after) net.inputs → (t : ℕ) (o : Option InputList) → o ≡ list_of_input net t
     → MovesTo (λ k. as_date (date_by_list o k)) after turn last (λ k. pace_by_list turn o)
-by_list net ok turn after last h t None e k a m = sym (move_zero (At (pos 0)))
-by_list net ok turn after last h t (Some l) e k a m =
-    let rules = found_rules net net.inputs t l ok.each_input e in
+by_list net rules turn after last h t None e k a m = sym (move_zero (At (pos 0)))
+by_list net rules turn after last h t (Some l) e k a m =
+    let rule : EndsOrGoesOn l.dates l.again = found_has (λ z. EndsOrGoesOn z.dates z.again) net.inputs t l rules e in
     let own : GoesOnInTurns turn after l = found_has (GoesOnInTurns turn after) net.inputs t l h e in
-    by_again l.dates l.again (list_date l.dates l.again) rules.again (IsInputDates-list_date l rules.again).past after turn own.left own.laps k a
+    by_again l.dates l.again (list_date l.dates l.again) rule (IsInputDates-list_date l rule).past after turn own.left own.laps k a
 
 pub listed_move : ListedReleasesMove
-listed_move net ok turn after last h t = by_list net ok turn after last h t (list_of_input net t) refl
+listed_move net rules turn after last h t = by_list net rules turn after last h t (list_of_input net t) refl
 
 pub listed_jump : ListedDatesJump
-listed_jump net ok live x h after turn last turns step w =
-    dates_jump net (net_ends net ok) live (listed_releases net) x h after turn last turns step (listed_pace net turn)
+listed_jump net ends rules live x h after turn last turns step w =
+    dates_jump net ends live (listed_releases net) x h after turn last turns step (listed_pace net turn)
     (record {
       window = w.window;
       in_time = w.in_time;
       paces = λ t k. refl;
-      releases = λ t i. listed_move net ok turn (last - turn - turn) (last + turns * turn) w.lists t;
+      releases = λ t i. listed_move net rules turn (last - turn - turn) (last + turns * turn) w.lists t;
       released = w.released;
     })
 
 pub too_long : JumpsTellTooLong
-too_long net ok x h after turn last turns limit step w late room = (
+too_long net ends x h after turn last turns limit step w late room = (
   x,
   h,
   λ f stands.
       ⊎_elim
       (λ (q : last < f.after + f.period + turn + turn). omega (arith, q, room))
       (λ (q : last < after + f.period + turn + turn). omega (arith, q, room))
-      (come_after net (net_ends net ok) (listed_releases net) x h.feasible after turn last turns step w late f.after f.period (step_of_form f) stands.repeats),
+      (come_after net ends (listed_releases net) x h.feasible after turn last turns step w late f.after f.period (step_of_form f) stands.repeats),
 )

@@ -3,12 +3,17 @@ use Rattle.std.specs.Prelude.{ℕ, ℤ, pos, ◌+◌, ◌-◌, ◌*◌, ◌/◌,
 use Rattle.dioid.specs.declared.dates.Date.{Date}
 use Rattle.teg_net.specs.declared.entries.Again.{Again}
 use Rattle.teg_net.specs.declared.entries.InputList.{InputList}
-use Rattle.teg_net.specs.Nets.{NetLists, IsNet, IsInput}
+use Rattle.teg_net.specs.Nets.{NetLists, IsInput, EndsOrGoesOn}
 use Rattle.teg_net.specs.Inputs.{list_of_input}
 use Rattle.teg_net.specs.Circuits.{IsLive}
+use Rattle.teg_model.specs.LiveRanks.{HasEndsInRange}
 use Rattle.teg_model.specs.Datings.{IsLeastDating, listed_releases}
 use Rattle.settled_laws.specs.SettledForms.{NetSettlesPast}
 use Rattle.jump_laws.specs.Jumps.{MovesTo, MovesUpTo, MovesInTurns, AreInTimeAfter, IsReleasedAfter}
+
+-- each input list keeps the rule of one that ends or goes on
+abbrev pub HasListsByRule : NetLists → Type 0
+HasListsByRule net = All (λ l. EndsOrGoesOn l.dates l.again) net.inputs
 
 -- a turn is some times the `every` of a list that goes on
 abbrev pub HasWholeLaps : ℕ → Option Again → Type 0
@@ -36,7 +41,7 @@ listed_pace net turn t k = pace_by_list turn (list_of_input net t)
 
 -- where the lists go on in turns, their dates move by that pace for ever
 abbrev pub ListedReleasesMove : Type 0
-ListedReleasesMove = (net : NetLists) → IsNet net → (turn after last : ℕ) → All (GoesOnInTurns turn after) net.inputs
+ListedReleasesMove = (net : NetLists) → HasListsByRule net → (turn after last : ℕ) → All (GoesOnInTurns turn after) net.inputs
     → (t : ℕ) → MovesTo (listed_releases net t) after turn last (listed_pace net turn t)
 
 -- a window of turns by which the lists have been left, and after which so many more are free of overtakings
@@ -49,14 +54,14 @@ pub record IsListedJump (net : NetLists) (x : ℕ → ℕ → Date) (after turn 
 
 -- in a live net the least dating by its lists then moves by the steps for as many turns more
 abbrev pub ListedDatesJump : Type 0
-ListedDatesJump = (net : NetLists) → IsNet net → IsLive net → (x : ℕ → ℕ → Date) → IsLeastDating net x
+ListedDatesJump = (net : NetLists) → HasEndsInRange net → HasListsByRule net → IsLive net → (x : ℕ → ℕ → Date) → IsLeastDating net x
     → (after turn last turns : ℕ) (step : ℕ → ℕ → ℤ) → IsListedJump net x after turn last turns step
     → MovesUpTo (length net.transitions) x after turn (last + turns * turn) step
 
 -- where the least dating by the lists moves by turns in a window that a limit and two turns leave room in, and some turns on a token
 -- would be late, the net has no form within the limit
 abbrev pub JumpsTellTooLong : Type 0
-JumpsTellTooLong = (net : NetLists) → IsNet net → (x : ℕ → ℕ → Date) → IsLeastDating net x
+JumpsTellTooLong = (net : NetLists) → HasEndsInRange net → (x : ℕ → ℕ → Date) → IsLeastDating net x
     → (after turn last turns limit : ℕ) (step : ℕ → ℕ → ℤ) → MovesInTurns net x after turn last step
     → (AreInTimeAfter turns net x turn last step → ⊥) → after + limit + turn + turn ≤ last
     → NetSettlesPast net limit

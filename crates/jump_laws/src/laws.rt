@@ -63,8 +63,9 @@ pub fn turns_are_read_off()
 /// The law of [`dates_jump`] for the input lists of the net: past its dates a list that goes on
 /// moves by its gaps in each turn that is some times its `every`, and one that ends, and an input
 /// without a list, stays (`lists`); so the least dating of a live net jumps where its lists have
-/// been left before the last two turns of the window (`jump`) (chapters 2 and 3). It does nothing
-/// when it runs.
+/// been left before the last two turns of the window (`jump`) (chapters 2 and 3). Of the rules of a
+/// net it asks those of its lists: one that repeated more dates than it has would go on by dates
+/// that are not there. It does nothing when it runs.
 pub fn listed_dates_jump()
     ensures lists { ListedReleasesMove }
     ensures jump { ListedDatesJump }

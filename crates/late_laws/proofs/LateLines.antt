@@ -6,7 +6,6 @@ use Rattle.std.proofs.lemmas.Int.{ints}
 use Rattle.std.proofs.Math.Nat.{mul-le-mul_left}
 use Rattle.forever_laws.specs.teg_net.Nets.{NetLists}
 use Rattle.growth_laws.specs.DateLines.{line_at, IsBelowLine}
-use Rattle.growth_laws.proofs.teg_model_proofs.OfNet.{net_ends}
 use Rattle.growth_laws.proofs.DateLines.{bound_dates}
 use Rattle.forever_laws.specs.due_laws.MeetingDueDates.{inputs_at_zero}
 use Rattle.endless_due.specs.declared.row.EndlessRow.{EndlessRow}
@@ -54,7 +53,7 @@ late_not_past b due least line some low high late =
     omega (arith, ints, more, product, low, high)
 
 pub none_past_line : NoneLatePastLine
-none_past_line net ok live x least r row inside a b c v into starts member last under = (
+none_past_line net ends live x least r row inside a b c v into starts member last under = (
   near,
   λ none k due date late. none k due date (near k due date late) late,
 ) where
@@ -63,7 +62,7 @@ none_past_line net ok live x least r row inside a b c v into starts member last 
       ⊎_elim
       (λ (past : last < k).
       let low = subst (IsBelowLine b (line_at a c v r.transition.index k)) late.comes
-      (bound_dates net (net_ends net ok) live inputs_at_zero x least inside a b c v into starts r.transition.index k row.in_range late.from_one member) in
+      (bound_dates net ends live inputs_at_zero x least inside a b c v into starts r.transition.index k row.in_range late.from_one member) in
       let high = subst (λ n. line_at a c v r.transition.index k ≤ℤ pos (b * n)) (sym (due_only r k due late.is_due)) (under_dues net r row a b c v last under k past) in
       absurd (late_not_past b due date (line_at a c v r.transition.index k) under.some low high late.late))
       (λ (not : k ≤ last). not)

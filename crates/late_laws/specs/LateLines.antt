@@ -1,8 +1,9 @@
 -- Late numbers and lines: past the number at which the line of a row's transition passes under its due dates, none is late.
 use Rattle.std.specs.Prelude.{ℕ, ℤ, pos, Bool, IsTrue, ◌+◌, ◌*◌, ◌<◌, ◌≤◌, ◌≡◌, ◌≤ℤ◌, Some, length}
 use Rattle.forever_laws.specs.dioid.declared.dates.Date.{Date}
-use Rattle.forever_laws.specs.teg_net.Nets.{NetLists, IsNet}
+use Rattle.forever_laws.specs.teg_net.Nets.{NetLists}
 use Rattle.forever_laws.specs.teg_net.Circuits.{IsLive}
+use Rattle.forever_laws.specs.teg_model.LiveRanks.{HasEndsInRange}
 use Rattle.forever_laws.specs.teg_model.Datings.{IsLeastUnder}
 use Rattle.growth_laws.specs.DateLines.{line_at, ArePotentialsInto, AreStartsBelow}
 use Rattle.forever_laws.specs.due_laws.MeetingDueDates.{inputs_at_zero}
@@ -21,7 +22,7 @@ pub record IsLineUnderDues (r : EndlessRow) (a b : ℕ) (c : ℤ) (v : ℕ → �
 -- and so none at all where none up to `last` is
 abbrev pub NoneLatePastLine : Type 0
 NoneLatePastLine =
-    (net : NetLists) → IsNet net → IsLive net → (x : ℕ → ℕ → Date) → IsLeastUnder net inputs_at_zero x → (r : EndlessRow) → IsEndlessRow net r
+    (net : NetLists) → HasEndsInRange net → IsLive net → (x : ℕ → ℕ → Date) → IsLeastUnder net inputs_at_zero x → (r : EndlessRow) → IsEndlessRow net r
     → (inside : ℕ → Bool) (a b : ℕ) (c : ℤ) (v : ℕ → ℤ) → ArePotentialsInto net inside a b v → AreStartsBelow net inputs_at_zero inside a b c v → IsTrue (inside r.transition.index)
     → (last : ℕ) → IsLineUnderDues r a b c v last
     → ((k due least : ℕ) → IsLateAt x r k due least → k ≤ last) × (NoneLateTo x r last → NoneLate x r)

@@ -7,12 +7,13 @@ use Rattle.teg_model.specs.dioid.declared.dates.Date.{Date}
 use Rattle.teg_model.specs.dioid.declared.dates.Date.TheVariants.{Early, At}
 use Rattle.teg_model.specs.dioid.Dates.{IsAtMostDate, delayed}
 use Rattle.teg_model.proofs.dioid_proofs.DateOrder.{at_most_trans, delayed_rises, later_is_left}
-use Rattle.teg_model.specs.teg_net.Nets.{NetLists, IsNet, IsInput}
+use Rattle.teg_model.specs.teg_net.Nets.{NetLists, IsInput}
 use Rattle.teg_model.specs.teg_net.Circuits.{IsLive, place_at}
 use Rattle.teg_model.specs.teg_net.ReadyDates.{start_date}
 use Rattle.teg_model.specs.teg_net.declared.walks.Step.{Step}
 use Rattle.teg_model.specs.teg_net.declared.walks.Step.TheVariants.{By, Next}
 use Rattle.teg_model.specs.teg_net.Walks.{Walks, walk_time}
+use Rattle.teg_model.specs.LiveRanks.{HasEndsInRange}
 use Rattle.teg_model.specs.Datings.{at_input, system_of, IsLeastUnder}
 use Rattle.teg_model.specs.Starts.{start_of_firing}
 use Rattle.teg_model.specs.WalkDates.{IsDateOfWalk}
@@ -20,7 +21,7 @@ use Rattle.teg_model.proofs.DateFunctions.{Dating}
 use Rattle.teg_model.proofs.GreatestWalks.{least_is_walk, not_before_ready}
 use Rattle.teg_model.proofs.LeastOver.{least_over}
 use Rattle.teg_model.proofs.LiveRanks.{live_is_ranked}
-use Rattle.teg_model.proofs.OfNet.{net_ends, input_or_not, least_of, least_of_system}
+use Rattle.teg_model.proofs.OfNet.{input_or_not, least_of, least_of_system}
 use Rattle.due_laws.specs.MeetingDueDates.{InputsMeet, inputs_at_zero}
 use Rattle.due_laws.specs.LatestDates.{AreLatestDates, IsDateToDue}
 use Rattle.due_laws.proofs.LatestDates.{Dues, earlier_by, earlier_delayed, kept_below}
@@ -44,28 +45,27 @@ numbers_rise net (By p ∷ steps) a s b k w =
 numbers_rise net (Next ∷ steps) a s b k w = let rest = numbers_rise net steps a (s + 1) b k w in omega (arith, rest)
 
 -- a live net has a least dating with inputs at 0
-zero_dating : (net : NetLists) → IsNet net → IsLive net → (x : Dating) × IsLeastUnder net inputs_at_zero x
-zero_dating net ok live =
-    let ranked = live_is_ranked net (net_ends net ok) live in
+zero_dating : (net : NetLists) → HasEndsInRange net → IsLive net → (x : Dating) × IsLeastUnder net inputs_at_zero x
+zero_dating net ends live =
+    let ranked = live_is_ranked net ends live in
     let x : Dating = least_over (system_of net inputs_at_zero) ranked.0 ranked.1 in (
       x,
       least_of_system net inputs_at_zero x (least_of net inputs_at_zero ranked.0 ranked.1 ranked.2),
     )
 
 -- no latest date is before its start where inputs at 0 meet the due dates
-starts_kept : (net : NetLists) (due : Dues) (y : Dating) → IsNet net → AreLatestDates net due y → InputsMeet net due inputs_at_zero → (last : ℕ) → StartsAreKept net last y
-starts_kept net due y ok l meets last t k in' o few =
+starts_kept : (net : NetLists) (due : Dues) (y : Dating) → HasEndsInRange net → AreLatestDates net due y → InputsMeet net due inputs_at_zero → (last : ℕ) → StartsAreKept net last y
+starts_kept net due y ends l meets last t k in' o few =
     let x : Dating = meets.0 in
     let f = meets.1.feasible in
     at_most_trans (At (pos (start_date net t k))) (x t k) (y t k)
     (not_before_ready net inputs_at_zero x f t k in' o)
-    (kept_below net due inputs_at_zero x (net_ends net ok) f meets.2 t k (y t k) in' o (l t k in' o))
+    (kept_below net due inputs_at_zero x ends f meets.2 t k (y t k) in' o (l t k in' o))
 
 -- a due firing comes in time where the starts up to its number are kept
-due_kept : (net : NetLists) (due : Dues) (x y : Dating) → IsNet net → IsLive net → IsLeastUnder net inputs_at_zero x → AreLatestDates net due y
+due_kept : (net : NetLists) (due : Dues) (x y : Dating) → HasEndsInRange net → IsLive net → IsLeastUnder net inputs_at_zero x → AreLatestDates net due y
     → (t k d : ℕ) → t < length net.transitions → 1 ≤ k → due t k ≡ Some d → StartsAreKept net k y → IsAtMostDate (x t k) (At (pos d))
-due_kept net due x y ok live h l t k d in' o is kept =
-    let ends = net_ends net ok in
+due_kept net due x y ends live h l t k d in' o is kept =
     let ranked = live_is_ranked net ends live in
     let w : IsDateOfWalk net inputs_at_zero t k (x t k) = (least_is_walk net inputs_at_zero x ranked.0 ranked.1 ends ranked.2 h t k in' o).reached in
     let time : ℕ = walk_time net w.steps in
@@ -79,18 +79,18 @@ due_kept net due x y ok live h l t k d in' o is kept =
     rw reached (rw whole at (delayed_rises time start back low))
 
 pub zero_meet_by_starts : ZeroInputsMeetByStarts
-zero_meet_by_starts net ok live due last up y l = (
-  λ meets. starts_kept net due y ok l meets last,
+zero_meet_by_starts net ends live due last up y l = (
+  λ meets. starts_kept net due y ends l meets last,
   λ kept.
-      let x = zero_dating net ok live in (
+      let x = zero_dating net ends live in (
         x.0,
         x.1,
-        λ t k d in' o is. due_kept net due (x.0) y ok live x.1 l t k d in' o is (λ s j s_in one few. let below = up t k d in' is in kept s j s_in one (omega (arith, few, below))),
+        λ t k d in' o is. due_kept net due (x.0) y ends live x.1 l t k d in' o is (λ s j s_in one few. let below = up t k d in' is in kept s j s_in one (omega (arith, few, below))),
       ),
 )
 
 pub zero_meet_by_all_starts : ZeroInputsMeetByAllStarts
-zero_meet_by_all_starts net ok live due y l = (
-  λ meets. starts_kept net due y ok l meets,
-  λ kept. let x = zero_dating net ok live in (x.0, x.1, λ t k d in' o is. due_kept net due (x.0) y ok live x.1 l t k d in' o is (kept k)),
+zero_meet_by_all_starts net ends live due y l = (
+  λ meets. starts_kept net due y ends l meets,
+  λ kept. let x = zero_dating net ends live in (x.0, x.1, λ t k d in' o is. due_kept net due (x.0) y ends live x.1 l t k d in' o is (kept k)),
 )

@@ -3,9 +3,10 @@ use Rattle.std.specs.Prelude.{ℕ, pos, ◌<◌, ◌≤◌, ◌↔◌, length, O
 use Rattle.teg_model.specs.dioid.declared.dates.Date.{Date}
 use Rattle.teg_model.specs.dioid.declared.dates.Date.TheVariants.{At}
 use Rattle.teg_model.specs.dioid.Dates.{IsAtMostDate}
-use Rattle.teg_model.specs.teg_net.Nets.{NetLists, IsNet}
+use Rattle.teg_model.specs.teg_net.Nets.{NetLists}
 use Rattle.teg_model.specs.teg_net.Circuits.{IsLive}
 use Rattle.teg_model.specs.teg_net.ReadyDates.{start_date}
+use Rattle.teg_model.specs.LiveRanks.{HasEndsInRange}
 use Rattle.due_laws.specs.MeetingDueDates.{InputsMeet, inputs_at_zero}
 use Rattle.due_laws.specs.LatestDates.{AreLatestDates}
 use Rattle.latest_laws.specs.BackwardSolutions.{AreDueUpTo}
@@ -16,10 +17,10 @@ StartsAreKept net last y = (t k : ℕ) → t < length net.transitions → 1 ≤ 
 
 -- inputs at 0 meet due dates up to a number just where no latest date up to there is before its start
 abbrev pub ZeroInputsMeetByStarts : Type 0
-ZeroInputsMeetByStarts = (net : NetLists) → IsNet net → IsLive net → (due : ℕ → ℕ → Option ℕ) (last : ℕ) → AreDueUpTo net due last → (y : ℕ → ℕ → Date) → AreLatestDates net due y
+ZeroInputsMeetByStarts = (net : NetLists) → HasEndsInRange net → IsLive net → (due : ℕ → ℕ → Option ℕ) (last : ℕ) → AreDueUpTo net due last → (y : ℕ → ℕ → Date) → AreLatestDates net due y
     → (InputsMeet net due inputs_at_zero ↔ StartsAreKept net last y)
 
 -- they meet due dates without an end just where no latest date at all is
 abbrev pub ZeroInputsMeetByAllStarts : Type 0
-ZeroInputsMeetByAllStarts = (net : NetLists) → IsNet net → IsLive net → (due : ℕ → ℕ → Option ℕ) (y : ℕ → ℕ → Date) → AreLatestDates net due y
+ZeroInputsMeetByAllStarts = (net : NetLists) → HasEndsInRange net → IsLive net → (due : ℕ → ℕ → Option ℕ) (y : ℕ → ℕ → Date) → AreLatestDates net due y
     → (InputsMeet net due inputs_at_zero ↔ ((last : ℕ) → StartsAreKept net last y))

@@ -19,6 +19,8 @@ use Rattle.settled_laws.specs.OneSettledForm.{FormsTellDates}
 use Rattle.settled_laws.specs.SettledForms.{SettledForm, settled_date, IsSettledFormOf}
 use Rattle.teg_settle.specs.Transfers.{IsTransferOf}
 use Rattle.change_laws.specs.SlowerNets.{IsSlowerNet, HasSlowerPlaces}
+use Rattle.change_laws.proofs.Changing.{ready_of_tokens}
+use Rattle.teg_model.proofs.OfNet.{net_ends}
 use Rattle.dating_laws.specs.SlowerNets.{SlowerNetsAreLater}
 use Rattle.pace_laws.specs.SlowerNets.{SlowerNetsHaveMore}
 use Rattle.io_laws.specs.InputOutput.{no_releases, IsOutput, DatesAreOutputsOfTransfers}
@@ -29,7 +31,7 @@ pub forms_later : SlowerNetsAreLater → FormsTellDates → (net slower : NetLis
     → (f g : SettledForm) → IsSettledFormOf net f → IsSettledFormOf slower g
     → (t k : ℕ) → t < length net.transitions → 1 ≤ k → IsAtMostDate (settled_date f t k) (settled_date g t k)
 forms_later later tell net slower ok s same f g a b t k l o =
-    let low = later net slower ok s (listed_releases net) (listed_releases slower) a.0 b.0 (λ i j one in'. rw (same i j) (at_most_refl (listed_releases slower i j))) a.1 b.1 t k l o in
+    let low = later net slower (net_ends slower ok) (ready_of_tokens slower ok) s (listed_releases net) (listed_releases slower) a.0 b.0 (λ i j one in'. rw (same i j) (at_most_refl (listed_releases slower i j))) a.1 b.1 t k l o in
     let here : t < length slower.transitions = subst (λ ts. t < length ts) s.transitions l in
     rw (tell (length net.transitions) f a.0 a.2.stands t k l o) (rw (tell (length slower.transitions) g b.0 b.2.stands t k here o) low)
 

@@ -94,7 +94,6 @@ pub fn counts_are_of_runs(net: &Net, run: &[Fired], most: u64)
         → (t d n : ℕ) → t < length net.now.transitions → c t d ≡ Some n → n ≤ most
         → count_by (λ z. nat_le z d) (dates_of_transition run.now t) ≡ n }
 {
-    net.rules();
     counters_count_firings();
 }
 
@@ -114,7 +113,6 @@ pub fn run_is_whole(net: &Net, run: &[Fired], most: u64)
     ensures { (x : ℕ → ℕ → Date) → IsLeastDating net.now x → IsEarliestRun net.now x most run.now
         → IsWholeUpTo net.now x most run.now }
 {
-    net.rules();
     earliest_runs_are_whole();
 }
 

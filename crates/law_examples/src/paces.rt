@@ -30,7 +30,6 @@ pub fn has_pace(net: &Net, live: &Live)
     requires live { IsRanking net.now live.now }
     ensures { HasNoCircuit net.now IsAnyPlace ⊎ ((r : Fraction) × IsGreatestRatio net.now IsAnyPlace r) }
 {
-    net.rules();
     ranked_nets_are_live();
     greatest_ratios_exist();
 }
@@ -111,7 +110,6 @@ pub fn potential_is_spanned(
     ensures { IsSpannedAt net.now parts.now.part_of part ratio.time ratio.tokens
         (potential_at potentials.now) transition }
 {
-    net.rules();
     potentials_are_spanned();
 }
 
@@ -186,7 +184,6 @@ pub fn rounds_are_within(
         → length rounds.now ≤ length members
         * most_ratios (length members * hold) (length members * tokens) }
 {
-    net.rules();
     ranked_nets_are_live();
     rounds_are_few();
 }

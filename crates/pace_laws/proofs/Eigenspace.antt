@@ -66,7 +66,7 @@ pub begun_are : BegunPotentialsAreTight
 begun_are net part_of part a b s v c h = greatest_are_tight net part_of part a b s v c.0 h c.1.not_empty c.1.closed c.1.inside c.1.attains
 
 pub begun_exist : BegunPotentialsExist
-begun_exist net part_of part s r ok strong g m = begun_from net part_of part ok strong r s m g
+begun_exist net part_of part s r ends strong g m = begun_from net part_of part ends strong r s m g
 
 pub round_of : (net : NetLists) (part_of : List ℕ) (part a b : ℕ) (v : ℕ → ℤ) (h : AreTightPotentials net part_of part a b v) (t : ℕ) → (f : IsFromCritical net part_of part a b v h t)
     → IsCriticalRound net part_of part a b f.at f.circuit
@@ -78,8 +78,8 @@ no_path_above : (net : NetLists) (part_of : List ℕ) (part a b : ℕ) (v : ℕ 
 no_path_above net part_of part a b v h ps s t path inside = above_along net a b v ps s t (λ i d l. h.none_above (get_or ps i d) (inside i d l)) path
 
 pub spanned : PotentialsAreSpanned
-spanned net part_of part a b v ok h t m =
-    let f = from_critical net part_of part a b v h ok t m in
+spanned net part_of part a b v h t m =
+    let f = from_critical net part_of part a b v h t m in
     let sum = tight_sum net part_of part a b v h f.after f.at t f.path f.each in
     let inside : All (IsPlaceOfPart net part_of part) f.after = λ i d l. (f.each i d l).inside in
     record {
@@ -151,8 +151,8 @@ pub begins_for_each : OneBeginsForEachPart
 begins_for_each net part_of part a b s t v w l h k = one_begins net part_of part a b s t l v w h k
 
 pub tells_all : OneCriticalPartTellsAll
-tells_all net part_of part a b m v w ok in' linked h k =
-    let f = from_critical net part_of part a b v h ok m in' in
+tells_all net part_of part a b m v w in' linked h k =
+    let f = from_critical net part_of part a b v h m in' in
     let at : ℕ = f.at in
     let here : IsCriticalTransition net part_of part a b at = (f.circuit, round_of net part_of part a b v h m f) in
     let n : ℤ = v at -ℤ w at in
@@ -161,7 +161,7 @@ tells_all net part_of part a b m v w ok in' linked h k =
     (let e = as_one net part_of part a b at s (linked at s here (c, r)) v w h k in omega (arith, ints, e)) in (
       n,
       λ t i.
-          let one = nowhere_below net part_of part a b v h ok (λ t. w t +ℤ n) o.none_above agree t i in
-          let two = nowhere_below net part_of part a b (λ t. w t +ℤ n) o ok v h.none_above (λ s c q r. sym (agree s c q r)) t i in
+          let one = nowhere_below net part_of part a b v h (λ t. w t +ℤ n) o.none_above agree t i in
+          let two = nowhere_below net part_of part a b (λ t. w t +ℤ n) o v h.none_above (λ s c q r. sym (agree s c q r)) t i in
           omega (arith, ints, one, two),
     )

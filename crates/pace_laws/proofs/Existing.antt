@@ -5,18 +5,19 @@ use Rattle.std.proofs.lemmas.Bool.{cases_lt, cases_eq}
 use Rattle.std.proofs.lemmas.Int.{ints}
 use Rattle.std.proofs.lemmas.List.Elements.{All-nil, All-cons}
 use Rattle.teg_net.specs.declared.entries.PlaceId.{PlaceId}
-use Rattle.teg_net.specs.Nets.{NetLists, IsNet, IsPlaceOf}
+use Rattle.teg_net.specs.Nets.{NetLists}
 use Rattle.teg_net.specs.Ratios.{Fraction}
 use Rattle.teg_net.specs.GreatestRatios.{IsGreatestRatio}
-use Rattle.teg_net.specs.Circuits.{place_at, no_place, from_of, IsPathBetween, IsCircuit, time_of, tokens_of}
+use Rattle.teg_net.specs.Circuits.{from_of, IsPathBetween, IsCircuit, time_of, tokens_of}
 use Rattle.teg_net.specs.Parts.{to_of, IsMember, IsPlaceOfPart}
 use Rattle.teg_net.specs.ReducedTimes.{reduced_time_of, IsGreatestPathTime}
 use Rattle.teg_net.proofs.PathLaws.{IsPathBetween-append}
 use Rattle.teg_parts.specs.Partitions.{AreStrong}
+use Rattle.teg_loops.specs.Loops.{EndsBelow}
 use Rattle.pace_laws.specs.TightPotentials.{AreTightPotentials, TightPotentialsExist, TightJustAtTheRatio}
 use Rattle.pace_laws.proofs.Sums.{weight_is}
 use Rattle.pace_laws.proofs.Longest.{IsWay, best_of_all}
-use Rattle.pace_laws.proofs.Tight.{ends_below, greatest_are_tight, tell_the_ratio}
+use Rattle.pace_laws.proofs.Tight.{greatest_are_tight, tell_the_ratio}
 
 pub member_or : (part_of : List ℕ) (part t : ℕ) → IsMember part_of part t ⊎ (IsMember part_of part t → ⊥)
 member_or part_of part t = ⊎_elim
@@ -42,16 +43,15 @@ place_or net part_of part p = ⊎_elim
     (λ (g : length net.places ≤ p.index). inr (λ m. let l = m.in_range in absurd (omega arith)))
     (cases_lt p.index (length net.places))
 
-module _ (net : NetLists) (part_of : List ℕ) (part : ℕ) (ok : IsNet net) (strong : AreStrong net part_of) where
+module _ (net : NetLists) (part_of : List ℕ) (part : ℕ) (ends : EndsBelow net (length net.transitions)) (strong : AreStrong net part_of) where
   -- a path from a member, from whose end a path leads back, stays in the part
   stays : (ps : List PlaceId) (s t : ℕ) (back : List PlaceId) → IsMember part_of part s → IsPathBetween net s ps t → IsPathBetween net t back s → All (IsPlaceOfPart net part_of part) ps
   stays [] s t back m path home = All-nil (IsPlaceOfPart net part_of part)
   stays (p ∷ ps) s t back m path home =
-      let rules : IsPlaceOf net (place_at net p) = ok.each_place p.index no_place path.0 in
       let count = strong.count in
       let low = m.in_range in
       let u : ℕ = to_of net p in
-      let in' : u < length part_of = (let l = rules.to_in in omega arith) in
+      let in' : u < length part_of = (let l = ends.to_in p path.0 in omega arith) in
       let there : IsPathBetween net s (p ∷ []) u = (path.0, path.1, refl) in
       let again : IsPathBetween net u (ps ++ back) s = IsPathBetween-append net ps back u t s path.2 home in
       let same = (strong.strong s u low in').1 ((p ∷ [], there), (ps ++ back, again)) in
@@ -74,7 +74,7 @@ module _ (net : NetLists) (part_of : List ℕ) (part : ℕ) (ok : IsNet net) (st
         let End : ℕ → Type 0 = λ u. u ≡ t in
         let way : IsWay net a b (IsPlaceOfPart net part_of part) (place_or net part_of part) End (λ u. cases_eq u t) s ps = record { to = t; path = both.0.1; at_end = refl; inside = inside } in
         let o = best_of_all net a b (IsPlaceOfPart net part_of part) (place_or net part_of part) End (λ u. cases_eq u t)
-        (length net.transitions) (ends_below net ok) (λ u e. omega arith) no_gain s ps way in (
+        (length net.transitions) ends (λ u e. omega arith) no_gain s ps way in (
           reduced_time_of net a b o.best,
           record {
             attained = (o.best, subst (λ (z : ℕ). IsPathBetween net s o.best z) o.way.at_end o.way.path, o.way.inside, refl);
@@ -102,23 +102,23 @@ none_gains net part_of part r g ps d i =
     omega (arith, ints, w, e)
 
 -- the greatest sums of the paths from a member
-pub begun_from : (net : NetLists) (part_of : List ℕ) (part : ℕ) → IsNet net → AreStrong net part_of → (r : Fraction) (s : ℕ)
+pub begun_from : (net : NetLists) (part_of : List ℕ) (part : ℕ) → EndsBelow net (length net.transitions) → AreStrong net part_of → (r : Fraction) (s : ℕ)
     → IsMember part_of part s → IsGreatestRatio net (IsPlaceOfPart net part_of part) r
     → (v : ℕ → ℤ) × ((t : ℕ) → IsMember part_of part t → IsGreatestPathTime net part_of part r.time r.tokens s t (v t))
-begun_from net part_of part ok strong r s m g = (
-  (λ t. (sum_or net part_of part ok strong r.time r.tokens s m (none_gains net part_of part r g) t).0),
-  λ t i. (sum_or net part_of part ok strong r.time r.tokens s m (none_gains net part_of part r g) t).1 i,
+begun_from net part_of part ends strong r s m g = (
+  (λ t. (sum_or net part_of part ends strong r.time r.tokens s m (none_gains net part_of part r g) t).0),
+  λ t i. (sum_or net part_of part ends strong r.time r.tokens s m (none_gains net part_of part r g) t).1 i,
 )
 
 pub exist : TightPotentialsExist
-exist net part_of part r ok strong g =
+exist net part_of part r ends strong g =
     let c : List PlaceId = g.attained.0 in
     let round : IsCircuit net c = g.attained.1 in
     let inside = g.attained.2 in
     let a : ℕ = r.time in
     let b : ℕ = r.tokens in
     let s : ℕ = round.closed.0 in
-    exist_from net part_of part ok strong a b s (first_member c s s round.not_empty round.closed.1 inside)
+    exist_from net part_of part ends strong a b s (first_member c s s round.not_empty round.closed.1 inside)
     (none_gains net part_of part r g)
     c round.not_empty round.closed.1 inside g.attained.3 where
       first_member : (ps : List PlaceId) (s t : ℕ) → 0 < length ps → IsPathBetween net s ps t → All (IsPlaceOfPart net part_of part) ps → IsMember part_of part s
@@ -126,4 +126,4 @@ exist net part_of part r ok strong g =
       first_member (p ∷ ps) s t l path all = subst (λ (z : ℕ). IsMember part_of part z) path.1 (all 0 p (omega arith)).from_member
 
 pub just_at : TightJustAtTheRatio
-just_at net part_of part t a b ok live strong m some = (λ w. tell_the_ratio net part_of part t a b w.0 ok live m some w.1, λ g. exist net part_of part (record { time = a; tokens = b }) ok strong g)
+just_at net part_of part t a b ends live strong m some = (λ w. tell_the_ratio net part_of part t a b w.0 live m some w.1, λ g. exist net part_of part (record { time = a; tokens = b }) ends strong g)

@@ -1,5 +1,6 @@
 pub mod Slower
 pub mod Sums
+pub mod SomeEnds
 pub mod Longest
 pub mod Tight
 pub mod Existing

@@ -5,7 +5,7 @@ use Rattle.std.proofs.lemmas.Bool.{cases_lt, cases_eq}
 use Rattle.std.proofs.lemmas.List.Elements.{All-nil, All-cons, All-tail}
 use Rattle.std.proofs.Math.Nat.{mul-le-mul_right}
 use Rattle.teg_net.specs.declared.entries.PlaceId.{PlaceId}
-use Rattle.teg_net.specs.Nets.{NetLists, IsNet}
+use Rattle.teg_net.specs.Nets.{NetLists}
 use Rattle.teg_net.specs.Ratios.{Fraction}
 use Rattle.teg_net.specs.Circuits.{from_of, IsPathBetween, IsCircuit, IsLive, time_of, tokens_of}
 use Rattle.teg_net.specs.Parts.{to_of, IsPlaceOfPart}
@@ -16,7 +16,7 @@ use Rattle.teg_loops.proofs.Straight.{straight_short}
 use Rattle.pace_laws.specs.RatiosExist.{NetsHaveRatios, PartsHaveRatios, StrongPartsHaveAPace}
 use Rattle.pace_laws.proofs.Slower.{cancel}
 use Rattle.pace_laws.proofs.Searching.{NonePasses, IsGreatestOf, IsShortList, search_all}
-use Rattle.pace_laws.proofs.Tight.{ends_below}
+use Rattle.pace_laws.proofs.SomeEnds.{ends_below_some}
 use Rattle.pace_laws.proofs.Existing.{place_or, exist}
 
 all_or : {X : Type 0} (P : X → Type 0) → ((x : X) → P x ⊎ (P x → ⊥)) → (xs : List X) → All P xs ⊎ (All P xs → ⊥)
@@ -94,7 +94,7 @@ module _ (net : NetLists) where
       }) in
       omega arith
 
-module _ (net : NetLists) (ok : IsNet net) (live : IsLive net) (Within : PlaceId → Type 0) (within : (p : PlaceId) → Within p ⊎ (Within p → ⊥)) where
+module _ (net : NetLists) (live : IsLive net) (Within : PlaceId → Type 0) (within : (p : PlaceId) → Within p ⊎ (Within p → ⊥)) where
   pub record IsOwnCircuit (ps : List PlaceId) : Type 0 where
     pub circuit : IsCircuit net ps
     pub inside : All Within ps
@@ -130,13 +130,14 @@ module _ (net : NetLists) (ok : IsNet net) (live : IsLive net) (Within : PlaceId
 
   pub ratio_or : HasNoCircuit net Within ⊎ ((r : Fraction) × IsGreatestRatio net Within r)
   ratio_or =
-      let n : ℕ = length net.transitions in
+      let ends = ends_below_some net 0 in
+      let n : ℕ = ends.0 in
       let long : ℕ = length net.places in
       let join : (x y z : List PlaceId) → IsOwnCircuit y → AtMost x y → AtMost y z → AtMost x z = λ x y z c l m.
       chained (time_of net x) (tokens_of net x) (time_of net y) (tokens_of net y) (time_of net z) (tokens_of net z) (some_tokens y c.circuit) l m in
       let same : (x : List PlaceId) → AtMost x x = λ x. omega arith in
       let listed : (ps : List PlaceId) → IsCircuit net ps → IsShortList long IsOwnCircuit own_or AtMost same either join n ps = λ ps c.
-      record { low = IsPathBetween-in_range net ps c.closed.0 c.closed.0 c.closed.1; few = circuit_short net n (ends_below net ok) ps c } in
+      record { low = IsPathBetween-in_range net ps c.closed.0 c.closed.0 c.closed.1; few = circuit_short net n ends.1 ps c } in
       ⊎_elim
       (λ (no : NonePasses long IsOwnCircuit own_or AtMost same either
       join (IsShortList long IsOwnCircuit own_or AtMost same either join n)). inl (λ ps c i. no ps (listed ps c) (record { circuit = c; inside = i })))
@@ -154,15 +155,15 @@ module _ (net : NetLists) (ok : IsNet net) (live : IsLive net) (Within : PlaceId
       (search_all long IsOwnCircuit own_or AtMost same either join n)
 
 pub nets_have_ratios : NetsHaveRatios
-nets_have_ratios net ok live = ratio_or net ok live IsAnyPlace (λ p. inl tt)
+nets_have_ratios net live = ratio_or net live IsAnyPlace (λ p. inl tt)
 
 pub parts_have_ratios : PartsHaveRatios
-parts_have_ratios net part_of part ok live = ratio_or net ok live (IsPlaceOfPart net part_of part) (place_or net part_of part)
+parts_have_ratios net part_of part live = ratio_or net live (IsPlaceOfPart net part_of part) (place_or net part_of part)
 
 pub have_a_pace : StrongPartsHaveAPace
-have_a_pace net part_of part ok live strong = ⊎_elim
+have_a_pace net part_of part ends live strong = ⊎_elim
     (λ (no : HasNoCircuit net (IsPlaceOfPart net part_of part)). inl no)
     (λ (w : (r : Fraction) × IsGreatestRatio net (IsPlaceOfPart net part_of part) r).
-    let v = exist net part_of part w.0 ok strong w.1 in
+    let v = exist net part_of part w.0 ends strong w.1 in
     inr (record { ratio = w.0; greatest = w.1; potentials = v.0; tight = v.1 }))
-    (parts_have_ratios net part_of part ok live)
+    (parts_have_ratios net part_of part live)

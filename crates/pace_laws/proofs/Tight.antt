@@ -5,28 +5,23 @@ use Rattle.std.proofs.lemmas.Bool.{cases_lt}
 use Rattle.std.proofs.lemmas.Int.{ints, by_lt_z}
 use Rattle.std.proofs.lemmas.List.Elements.{All-nil, All-cons, All-tail, All-same}
 use Rattle.teg_net.specs.declared.entries.PlaceId.{PlaceId}
-use Rattle.teg_net.specs.Nets.{NetLists, IsNet, IsPlaceOf}
+use Rattle.teg_net.specs.Nets.{NetLists}
 use Rattle.teg_net.specs.Ratios.{Fraction}
-use Rattle.teg_net.specs.Circuits.{place_at, no_place, from_of, IsPathBetween, IsCircuit, time_of, tokens_of}
+use Rattle.teg_net.specs.Circuits.{place_at, from_of, IsPathBetween, IsCircuit, time_of, tokens_of}
 use Rattle.teg_net.specs.Parts.{to_of, IsMember, IsPlaceOfPart}
 use Rattle.teg_net.specs.ReducedTimes.{reduced_time, reduced_time_of, IsGreatestPathTime}
 use Rattle.teg_net.specs.GreatestRatios.{IsGreatestRatio}
 use Rattle.teg_net.specs.PartAnswers.{first_transition_of}
 use Rattle.teg_net.specs.Certificates.{potential_at}
 use Rattle.teg_net.proofs.PathLaws.{IsPathBetween-split}
-use Rattle.teg_loops.specs.Loops.{EndsBelow, HasLoop}
+use Rattle.teg_loops.specs.Loops.{HasLoop}
 use Rattle.teg_loops.proofs.Straight.{looped}
 use Rattle.pace_laws.specs.TightPotentials.{offered, IsTightInto, AreTightPotentials, BestPotentialsAreTight, TightPotentialsTellTheRatio}
 use Rattle.pace_laws.specs.TightPotentials.{TightRatiosAreOne, IsCriticalIn, CriticalPlacesAreTight, CriticalTransitionsTell, TightPotentialsArePaced}
 use Rattle.pace_laws.specs.Eigenspaces.{IsCriticalRound}
 use Rattle.pace_laws.proofs.Slower.{bounded}
 use Rattle.pace_laws.proofs.Sums.{weight_is, weight-append, above_along, bound_ratios, told_at, greatest_are_potentials, all_left, all_right}
-
-pub ends_below : (net : NetLists) → IsNet net → EndsBelow net (length net.transitions)
-ends_below net ok = record {
-  from_in = λ id l. (let rules : IsPlaceOf net (place_at net id) = ok.each_place id.index no_place l in rules.from_in);
-  to_in = λ id l. (let rules : IsPlaceOf net (place_at net id) = ok.each_place id.index no_place l in rules.to_in);
-}
+use Rattle.pace_laws.proofs.SomeEnds.{ends_below_some}
 
 -- the last of a list that is not empty
 pub record HasLast (ps : List PlaceId) : Type 0 where
@@ -141,17 +136,13 @@ module _ (net : NetLists) (part_of : List ℕ) (part a b : ℕ) (v : ℕ → ℤ
     pub path : IsPathBetween net at after t
     pub each : All IsTight after
 
-  pub from_critical : IsNet net → (t : ℕ) → IsMember part_of part t → IsFromCritical t
-  from_critical ok t m =
-      let n : ℕ = length net.transitions in
+  pub from_critical : (t : ℕ) → IsMember part_of part t → IsFromCritical t
+  from_critical t m =
+      let ends = ends_below_some net t in
+      let n : ℕ = ends.0 in
       let w = way_back n t m in
-      let e = h.met t m in
-      let rules : IsPlaceOf net (place_at net e.0) = ok.each_place e.0.index no_place e.1.inside.in_range in
-      let into = e.1.into in
-      let to_in = rules.to_in in
-      let below : t < n = omega arith in
       let long = w.long in
-      let loop : HasLoop net w.start t w.places = looped net n w.places w.start t (ends_below net ok) below w.path (omega arith) in
+      let loop : HasLoop net w.start t w.places = looped net n w.places w.start t ends.1 ends.2 w.path (omega arith) in
       let all : All IsTight (loop.before ++ (loop.loop ++ loop.after)) = All-same IsTight (loop.before ++ (loop.loop ++ loop.after)) w.places (sym loop.is) w.each in
       let late : All IsTight (loop.loop ++ loop.after) = all_right IsTight loop.before (loop.loop ++ loop.after) all in
       let each : All IsTight loop.loop = all_left IsTight loop.loop loop.after late in
@@ -168,14 +159,14 @@ module _ (net : NetLists) (part_of : List ℕ) (part a b : ℕ) (v : ℕ → ℤ
         each = all_right IsTight loop.loop loop.after late;
       }
 
-  tight_circuit : IsNet net → (t : ℕ) → IsMember part_of part t → (ps : List PlaceId) × IsCircuit net ps × All (IsPlaceOfPart net part_of part) ps × (time_of net ps * b ≡ a * tokens_of net ps)
-  tight_circuit ok t m = let f = from_critical ok t m in let c = f.critical in (f.circuit, c.circuit, c.inside, c.attains)
+  tight_circuit : (t : ℕ) → IsMember part_of part t → (ps : List PlaceId) × IsCircuit net ps × All (IsPlaceOfPart net part_of part) ps × (time_of net ps * b ≡ a * tokens_of net ps)
+  tight_circuit t m = let f = from_critical t m in let c = f.critical in (f.circuit, c.circuit, c.inside, c.attains)
 
   -- potentials that no place exceeds, and that are equal at critical transitions, are nowhere below
-  pub nowhere_below : IsNet net → (w : ℕ → ℤ) → ((p : PlaceId) → IsPlaceOfPart net part_of part p → offered net a b w p ≤ℤ w (to_of net p))
+  pub nowhere_below : (w : ℕ → ℤ) → ((p : PlaceId) → IsPlaceOfPart net part_of part p → offered net a b w p ≤ℤ w (to_of net p))
       → ((s : ℕ) (c : List PlaceId) → IsCriticalIn net part_of part a b c → IsCriticalRound net part_of part a b s c → v s ≡ w s) → (t : ℕ) → IsMember part_of part t → v t ≤ℤ w t
-  nowhere_below ok w none_above agree t m =
-      let f = from_critical ok t m in
+  nowhere_below w none_above agree t m =
+      let f = from_critical t m in
       let here = agree f.at f.circuit f.critical (record { not_empty = f.critical.circuit.not_empty; closed = f.round; inside = f.critical.inside; attains = f.critical.attains }) in
       let sum = tight_sum f.after f.at t f.path f.each in
       let up = above_along net a b w f.after f.at t (λ i e l. none_above (get_or f.after i e) (f.each i e l).inside) f.path in
@@ -190,9 +181,9 @@ at_begin net part_of part a b v w agree s c k r =
     ap v first ∙ agree c k 0 d r.not_empty ∙ sym (ap w first)
 
 pub critical_tell : CriticalTransitionsTell
-critical_tell net part_of part a b v w ok h k agree t m =
-    let one = nowhere_below net part_of part a b v h ok w k.none_above (at_begin net part_of part a b v w agree) t m in
-    let two = nowhere_below net part_of part a b w k ok v h.none_above (λ s c i r. sym (at_begin net part_of part a b v w agree s c i r)) t m in
+critical_tell net part_of part a b v w h k agree t m =
+    let one = nowhere_below net part_of part a b v h w k.none_above (at_begin net part_of part a b v w agree) t m in
+    let two = nowhere_below net part_of part a b w k v h.none_above (λ s c i r. sym (at_begin net part_of part a b v w agree s c i r)) t m in
     omega (arith, ints, one, two)
 
 -- where a place offers its end less than the potential, so does the path
@@ -227,8 +218,8 @@ critical_are_tight net part_of part a b v none_above c k i d l =
     (λ (least : y ≤ℤ x). record { inside = own; into = refl; tight = omega (arith, ints, up, least) })
 
 pub tell_the_ratio : TightPotentialsTellTheRatio
-tell_the_ratio net part_of part t a b v ok live m some h =
-    let tight = tight_circuit net part_of part a b v h ok t m in
+tell_the_ratio net part_of part t a b v live m some h =
+    let tight = tight_circuit net part_of part a b v h t m in
     record {
       some = some;
       attained = tight;
@@ -244,9 +235,9 @@ no_more net part_of part r q g k =
     bounded (time_of net ps) (tokens_of net ps) (time_of net ps) (tokens_of net ps) r.time r.tokens q.time q.tokens g.token (omega arith) (omega arith) g.attained.3 (k.greatest ps c g.attained.2)
 
 pub are_one : TightRatiosAreOne
-are_one net part_of part t a b c d v w ok live m some more h k =
-    let g = tell_the_ratio net part_of part t a b v ok live m some h in
-    let j = tell_the_ratio net part_of part t c d w ok live m more k in
+are_one net part_of part t a b c d v w live m some more h k =
+    let g = tell_the_ratio net part_of part t a b v live m some h in
+    let j = tell_the_ratio net part_of part t c d w live m more k in
     let one = no_more net part_of part (record { time = a; tokens = b }) (record { time = c; tokens = d }) g j in
     let two = no_more net part_of part (record { time = c; tokens = d }) (record { time = a; tokens = b }) j g in
     omega arith

@@ -1,13 +1,14 @@
 -- All tight potentials of a part, its eigenspace: those that begin at critical transitions span it (chapter 3).
 use Rattle.std.specs.Prelude.{ℕ, ℤ, ◌*◌, ◌<◌, ◌≡◌, ◌⊎◌, ◌+ℤ◌, ◌≤ℤ◌, List, ◌++◌, length, All}
 use Rattle.teg_net.specs.declared.entries.PlaceId.{PlaceId}
-use Rattle.teg_net.specs.Nets.{NetLists, IsNet}
+use Rattle.teg_net.specs.Nets.{NetLists}
 use Rattle.teg_net.specs.Ratios.{Fraction}
 use Rattle.teg_net.specs.Circuits.{IsPathBetween, time_of, tokens_of}
 use Rattle.teg_net.specs.Parts.{IsMember, IsPlaceOfPart}
 use Rattle.teg_net.specs.ReducedTimes.{IsGreatestPathTime}
 use Rattle.teg_net.specs.GreatestRatios.{IsGreatestRatio}
 use Rattle.teg_parts.specs.Partitions.{AreStrong}
+use Rattle.teg_loops.specs.Loops.{EndsBelow}
 use Rattle.pace_laws.specs.TightPotentials.{AreTightPotentials}
 
 -- a way in the part from transition s round to it that has the ratio: a critical circuit, or several in one another
@@ -59,7 +60,8 @@ BegunPotentialsAreTight =
 -- from each member of a strong part some begin, at its greatest ratio
 abbrev pub BegunPotentialsExist : Type 0
 BegunPotentialsExist =
-    (net : NetLists) (part_of : List ℕ) (part s : ℕ) (r : Fraction) → IsNet net → AreStrong net part_of → IsGreatestRatio net (IsPlaceOfPart net part_of part) r → IsMember part_of part s
+    (net : NetLists) (part_of : List ℕ) (part s : ℕ) (r : Fraction) → EndsBelow net (length net.transitions) → AreStrong net part_of
+    → IsGreatestRatio net (IsPlaceOfPart net part_of part) r → IsMember part_of part s
     → (v : ℕ → ℤ) × AreBegunAt net part_of part r.time r.tokens s v
 
 -- the potential of the transition is the greatest of those that begin anywhere, each moved by the potential of where it
@@ -71,7 +73,7 @@ pub record IsSpannedAt (net : NetLists) (part_of : List ℕ) (part a b : ℕ) (v
 -- tight potentials are so at each member
 abbrev pub PotentialsAreSpanned : Type 0
 PotentialsAreSpanned =
-    (net : NetLists) (part_of : List ℕ) (part a b : ℕ) (v : ℕ → ℤ) → IsNet net → AreTightPotentials net part_of part a b v
+    (net : NetLists) (part_of : List ℕ) (part a b : ℕ) (v : ℕ → ℤ) → AreTightPotentials net part_of part a b v
     → (t : ℕ) → IsMember part_of part t → IsSpannedAt net part_of part a b v t
 
 -- in one critical part all tight potentials differ by the same from transition to transition
@@ -89,6 +91,6 @@ OneBeginsForEachPart =
 -- where the critical transitions are in one critical part, any two tight potentials differ by one number
 abbrev pub OneCriticalPartTellsAll : Type 0
 OneCriticalPartTellsAll =
-    (net : NetLists) (part_of : List ℕ) (part a b m : ℕ) (v w : ℕ → ℤ) → IsNet net → IsMember part_of part m
+    (net : NetLists) (part_of : List ℕ) (part a b m : ℕ) (v w : ℕ → ℤ) → IsMember part_of part m
     → ((s t : ℕ) → IsCriticalTransition net part_of part a b s → IsCriticalTransition net part_of part a b t → AreInOneCriticalPart net part_of part a b s t)
     → AreTightPotentials net part_of part a b v → AreTightPotentials net part_of part a b w → (n : ℤ) × ((t : ℕ) → IsMember part_of part t → v t ≡ (w t +ℤ n))

@@ -1,8 +1,8 @@
 -- Potentials of a part that a place meets at each member, the eigenvectors of the part, and its greatest ratio (chapters 2 and 3).
-use Rattle.std.specs.Prelude.{ℕ, ℤ, pos, ◌+◌, ◌*◌, ◌≤◌, ◌≡◌, ◌+ℤ◌, ◌≤ℤ◌, List, All, ◌↔◌}
+use Rattle.std.specs.Prelude.{ℕ, ℤ, pos, ◌+◌, ◌*◌, ◌≤◌, ◌≡◌, ◌+ℤ◌, ◌≤ℤ◌, List, length, All, ◌↔◌}
 use Rattle.teg_net.specs.declared.entries.PlaceId.{PlaceId}
 use Rattle.teg_net.specs.declared.answers.Potential.{Potential}
-use Rattle.teg_net.specs.Nets.{NetLists, IsNet}
+use Rattle.teg_net.specs.Nets.{NetLists}
 use Rattle.teg_net.specs.Ratios.{Fraction}
 use Rattle.teg_net.specs.Circuits.{IsCircuit, IsLive, place_at, from_of, time_of, tokens_of}
 use Rattle.teg_net.specs.Parts.{to_of, IsMember, IsPlaceOfPart}
@@ -11,6 +11,7 @@ use Rattle.teg_net.specs.GreatestRatios.{IsGreatestRatio}
 use Rattle.teg_net.specs.PartAnswers.{IsBestOfPart}
 use Rattle.teg_net.specs.Certificates.{potential_at}
 use Rattle.teg_parts.specs.Partitions.{AreStrong}
+use Rattle.teg_loops.specs.Loops.{EndsBelow}
 
 -- what a place offers its end at the ratio a / b: its reduced time and the potential of its start
 abbrev pub offered : NetLists → ℕ → ℕ → (ℕ → ℤ) → PlaceId → ℤ
@@ -36,25 +37,26 @@ BestPotentialsAreTight =
 -- a ratio at which a part of a live net with a member has tight potentials is its greatest, and has a circuit
 abbrev pub TightPotentialsTellTheRatio : Type 0
 TightPotentialsTellTheRatio =
-    (net : NetLists) (part_of : List ℕ) (part t a b : ℕ) (v : ℕ → ℤ) → IsNet net → IsLive net → IsMember part_of part t → 1 ≤ b
+    (net : NetLists) (part_of : List ℕ) (part t a b : ℕ) (v : ℕ → ℤ) → IsLive net → IsMember part_of part t → 1 ≤ b
     → AreTightPotentials net part_of part a b v → IsGreatestRatio net (IsPlaceOfPart net part_of part) (record { time = a; tokens = b })
 
 -- where the numbers are those of strong parts, a part has tight potentials at its greatest ratio
 abbrev pub TightPotentialsExist : Type 0
 TightPotentialsExist =
-    (net : NetLists) (part_of : List ℕ) (part : ℕ) (r : Fraction) → IsNet net → AreStrong net part_of → IsGreatestRatio net (IsPlaceOfPart net part_of part) r
+    (net : NetLists) (part_of : List ℕ) (part : ℕ) (r : Fraction) → EndsBelow net (length net.transitions) → AreStrong net part_of
+    → IsGreatestRatio net (IsPlaceOfPart net part_of part) r
     → (v : ℕ → ℤ) × AreTightPotentials net part_of part r.time r.tokens v
 
 -- and at no other: a ratio is the greatest of a strong part of a live net just where the part has tight potentials at it
 abbrev pub TightJustAtTheRatio : Type 0
 TightJustAtTheRatio =
-    (net : NetLists) (part_of : List ℕ) (part t a b : ℕ) → IsNet net → IsLive net → AreStrong net part_of → IsMember part_of part t → 1 ≤ b
+    (net : NetLists) (part_of : List ℕ) (part t a b : ℕ) → EndsBelow net (length net.transitions) → IsLive net → AreStrong net part_of → IsMember part_of part t → 1 ≤ b
     → ((v : ℕ → ℤ) × AreTightPotentials net part_of part a b v) ↔ IsGreatestRatio net (IsPlaceOfPart net part_of part) (record { time = a; tokens = b })
 
 -- at no other ratio has the part of a live net tight potentials
 abbrev pub TightRatiosAreOne : Type 0
 TightRatiosAreOne =
-    (net : NetLists) (part_of : List ℕ) (part t a b c d : ℕ) (v w : ℕ → ℤ) → IsNet net → IsLive net → IsMember part_of part t → 1 ≤ b → 1 ≤ d
+    (net : NetLists) (part_of : List ℕ) (part t a b c d : ℕ) (v w : ℕ → ℤ) → IsLive net → IsMember part_of part t → 1 ≤ b → 1 ≤ d
     → AreTightPotentials net part_of part a b v → AreTightPotentials net part_of part c d w → a * d ≡ c * b
 
 -- a circuit of the part that has the ratio
@@ -72,7 +74,7 @@ CriticalPlacesAreTight =
 -- tight potentials that are equal at the transitions of these circuits are equal at each member
 abbrev pub CriticalTransitionsTell : Type 0
 CriticalTransitionsTell =
-    (net : NetLists) (part_of : List ℕ) (part a b : ℕ) (v w : ℕ → ℤ) → IsNet net
+    (net : NetLists) (part_of : List ℕ) (part a b : ℕ) (v w : ℕ → ℤ)
     → AreTightPotentials net part_of part a b v → AreTightPotentials net part_of part a b w
     → ((c : List PlaceId) → IsCriticalIn net part_of part a b c → All (λ p. v (from_of net p) ≡ w (from_of net p)) c) → (t : ℕ) → IsMember part_of part t → v t ≡ w t
 

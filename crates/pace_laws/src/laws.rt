@@ -8,7 +8,9 @@ ghost use Rattle.pace_laws.specs.TightPotentials.{BestPotentialsAreTight, Critic
 /// A live net has no circuit, or a greatest ratio, and so does each part of it; and a strong part
 /// with a circuit has with its ratio potentials that are tight at it (chapters 2 and 3).
 ///
-/// The net has to be live: a circuit with time and without tokens has no ratio.
+/// The net has to be live: a circuit with time and without tokens has no ratio. Strong parts are
+/// told of nets whose places begin and end at transitions of the net: a way back by way of a number
+/// that is none is a way out of the part.
 pub fn greatest_ratios_exist()
     ensures nets { NetsHaveRatios }
     ensures parts { PartsHaveRatios }

@@ -5,7 +5,7 @@ use Rattle.std.proofs.lemmas.Bool.{cases_lt}
 use Rattle.std.proofs.Math.Nat.{mul-le-mul_left, mul-le-mul_right}
 use Rattle.teg_net.specs.declared.entries.PlaceId.{PlaceId}
 use Rattle.teg_net.specs.declared.rounds.Round.{Round}
-use Rattle.teg_net.specs.Nets.{NetLists, IsNet}
+use Rattle.teg_net.specs.Nets.{NetLists}
 use Rattle.teg_net.specs.Ratios.{Fraction}
 use Rattle.teg_net.specs.Circuits.{no_place, place_at, from_of, IsCircuit, IsLive, time_of, tokens_of}
 use Rattle.teg_net.specs.Parts.{IsPlaceOfPart, ListsMembers}
@@ -15,11 +15,11 @@ use Rattle.teg_howard.proofs.Turns.{greater_ratio}
 use Rattle.teg_howard.proofs.Optimum.{some_token}
 use Rattle.teg_howard.proofs.RoundStates.{ratio_less}
 use Rattle.teg_howard.proofs.teg_certificates_proofs.Ratios.{ratio_trans_less}
-use Rattle.teg_howard.proofs.OneRun.{runs_agree}
 use Rattle.teg_loops.proofs.Taking.{sum_most}
 use Rattle.policy_laws.specs.RoundCounts.{RoundsOfOneRatioAreFew, most_ratios, RoundsAreFew}
 use Rattle.policy_laws.proofs.RatioCounts.{ratios_up_to, ratios_rise, ratios_few}
 use Rattle.policy_laws.proofs.OneRound.{Gains, LeadsHome, gains}
+use Rattle.policy_laws.proofs.Homes.{are_rounds, lead_home}
 use Rattle.policy_laws.proofs.InPart.{circuit_in_part}
 use Rattle.policy_laws.proofs.Kept.{AllGain, none_keep_on}
 
@@ -42,15 +42,15 @@ pub record Rises (net : NetLists) (r s : Round) : Type 0 where
   pub ratio : r.ratio.time * s.ratio.tokens < s.ratio.time * r.ratio.tokens
   pub circuit : time_of net r.circuit.places.items * tokens_of net s.circuit.places.items < time_of net s.circuit.places.items * tokens_of net r.circuit.places.items
 
-module _ (net : NetLists) (parts : List ℕ) (part : ℕ) (ok : IsNet net) (live : IsLive net) (ts : List ℕ) (lists : ListsMembers parts part ts) (rounds : List Round) (run : IsRunTo net parts part rounds) (d : Round) where
+module _ (net : NetLists) (parts : List ℕ) (part : ℕ) (live : IsLive net) (ts : List ℕ) (lists : ListsMembers parts part ts) (rounds : List Round) (run : IsRunTo net parts part rounds) (d : Round) where
   abbrev R : ℕ → Round
   R k = get_or rounds k d
 
   is_round : (k : ℕ) → k < length rounds → IsRound net parts part (R k)
-  is_round k l = (runs_agree net parts part live ok rounds rounds d run run k l l).2
+  is_round k l = are_rounds net parts part rounds run d k l
 
   home : (k : ℕ) → k < length rounds → LeadsHome net parts part (R k)
-  home k l = (runs_agree net parts part live ok rounds rounds d run run k l l).1
+  home k l = lead_home net parts part rounds run d k l
 
   step : (k : ℕ) → k + 1 < length rounds → Gains net parts part (R k).ratio (R k) (R (k + 1)) ⊎ Rises net (R k) (R (k + 1))
   step k l =
@@ -233,12 +233,12 @@ module _ (net : NetLists) (parts : List ℕ) (part : ℕ) (ok : IsNet net) (live
         omega (arith, up, wide, spread, l)
 
 pub one_ratio_few : RoundsOfOneRatioAreFew
-one_ratio_few net part_of part members rounds ok live lists run i k d l m same = of_one_ratio net part_of part ok live members lists rounds run.run d i k l m same
+one_ratio_few net part_of part members rounds live lists run i k d l m same = of_one_ratio net part_of part live members lists rounds run.run d i k l m same
 
 pub few_rounds : RoundsAreFew
-few_rounds net part_of part members hold tokens rounds ok live lists run holds marks = by_first net part_of part members hold tokens rounds ok live lists run.run holds marks run.run.some where
-  by_first : (net : NetLists) (part_of : List ℕ) (part : ℕ) (members : List ℕ) (hold tokens : ℕ) (rounds : List Round) → IsNet net → IsLive net → ListsMembers part_of part members
+few_rounds net part_of part members hold tokens rounds live lists run holds marks = by_first net part_of part members hold tokens rounds live lists run.run holds marks run.run.some where
+  by_first : (net : NetLists) (part_of : List ℕ) (part : ℕ) (members : List ℕ) (hold tokens : ℕ) (rounds : List Round) → IsLive net → ListsMembers part_of part members
       → IsRunTo net part_of part rounds → All (λ p. p.hold ≤ hold) net.places → All (λ p. p.tokens ≤ tokens) net.places → 0 < length rounds
       → length rounds ≤ length members * most_ratios (length members * hold) (length members * tokens)
-  by_first net part_of part members hold tokens (r ∷ rounds) ok live lists run holds marks l = all_few net part_of part ok live members lists (r ∷ rounds) run r hold tokens holds marks l
-  by_first net part_of part members hold tokens [] ok live lists run holds marks l = absurd (omega arith)
+  by_first net part_of part members hold tokens (r ∷ rounds) live lists run holds marks l = all_few net part_of part live members lists (r ∷ rounds) run r hold tokens holds marks l
+  by_first net part_of part members hold tokens [] live lists run holds marks l = absurd (omega arith)

@@ -1,7 +1,7 @@
 -- How many rounds policy iteration takes (chapter 3).
 use Rattle.std.specs.Prelude.{ℕ, ◌+◌, ◌*◌, ◌<◌, ◌≤◌, ◌≡◌, List, length, All, slice_index_or}
 use Rattle.teg_net.specs.declared.rounds.Round.{Round}
-use Rattle.teg_net.specs.Nets.{NetLists, IsNet}
+use Rattle.teg_net.specs.Nets.{NetLists}
 use Rattle.teg_net.specs.Circuits.{IsLive}
 use Rattle.teg_net.specs.Parts.{ListsMembers}
 use Rattle.teg_howard.specs.PolicyRounds.{IsPolicyRun}
@@ -9,7 +9,7 @@ use Rattle.teg_howard.specs.PolicyRounds.{IsPolicyRun}
 -- of one ratio there are at most as many rounds as the part has members
 abbrev pub RoundsOfOneRatioAreFew : Type 0
 RoundsOfOneRatioAreFew =
-    (net : NetLists) (part_of : List ℕ) (part : ℕ) (members : List ℕ) (rounds : List Round) → IsNet net → IsLive net → ListsMembers part_of part members
+    (net : NetLists) (part_of : List ℕ) (part : ℕ) (members : List ℕ) (rounds : List Round) → IsLive net → ListsMembers part_of part members
     → IsPolicyRun net part_of part rounds
     → (i k : ℕ) (d : Round) → i ≤ k → k < length rounds → (slice_index_or rounds i d).ratio ≡ (slice_index_or rounds k d).ratio → k < i + length members
 
@@ -21,7 +21,7 @@ most_ratios time tokens = time * tokens + 1
 -- and so there are at most so many rounds in a run, by the greatest holding time and the most tokens of a place
 abbrev pub RoundsAreFew : Type 0
 RoundsAreFew =
-    (net : NetLists) (part_of : List ℕ) (part : ℕ) (members : List ℕ) (hold tokens : ℕ) (rounds : List Round) → IsNet net → IsLive net
+    (net : NetLists) (part_of : List ℕ) (part : ℕ) (members : List ℕ) (hold tokens : ℕ) (rounds : List Round) → IsLive net
     → ListsMembers part_of part members → IsPolicyRun net part_of part rounds
     → All (λ p. p.hold ≤ hold) net.places → All (λ p. p.tokens ≤ tokens) net.places
     → length rounds ≤ length members * most_ratios (length members * hold) (length members * tokens)

@@ -21,7 +21,7 @@ use Rattle.date_rows.specs.DateTables.{TableDates, date_at}
 use Rattle.jump_laws.specs.Jumps.{MovesUpTo, MovesInTurns, AreInTimeAfter, IsInTimeAfter, IsReleasedAfter}
 use Rattle.jump_laws.specs.ListedJumps.{GoesOnInTurns, listed_pace}
 use Rattle.jump_laws.specs.Runs.{Run, IsRunOf, kept_date, kept_step}
-use Rattle.jump_laws.proofs.InLists.{listed_jump}
+use Rattle.jump_laws.proofs.InLists.{lists_by_rule, listed_jump}
 use Rattle.jump_laws.proofs.Runs.{read_off}
 use Rattle.run_rows.specs.LeastRuns.{AreRowsPast}
 use Rattle.run_rows.specs.ReadRuns.{IsJumpRun, IsLastTurn, MovesInRows}
@@ -131,7 +131,7 @@ module _ (net : NetLists) (ok : IsNet net) (live : IsLive net) (after : ℕ) (ro
         rw (here, date) at (((left.inputs t input).each i in_turn).at turns go (omega arith))
 
     jumped : MovesUpTo (length net.transitions) x begin last.turn ((after + rows.count) + turns * last.turn) (step_of last)
-    jumped = listed_jump net ok live x h begin turn end turns step (record {
+    jumped = listed_jump net (net_ends net ok) (lists_by_rule net ok) live x h begin turn end turns step (record {
       window = window;
       in_time = in_time;
       lists = let at : after + ((rows.count - turn) - turn) ≡ (end - turn) - turn = omega (arith, fits) in subst (λ z. All (GoesOnInTurns turn z) net.inputs) at lists;
