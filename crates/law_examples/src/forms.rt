@@ -151,8 +151,7 @@ pub fn answer_draws_lines(net: &Net, answer: &CycleAnswer)
 }
 
 /// The settled form of a still net begins with the first firing and has period 1.
-pub fn still_form(net: &Net, live: &Live, form: &Settled)
-    requires live { IsRanking net.now live.now }
+pub fn still_form(net: &Net, form: &Settled)
     requires form { IsSettledFormOf net.now form.now }
     requires no_input { (t : ℕ) → IsInput net.now t → ⊥ }
     requires reaches { (s t : ℕ) → s < length net.now.transitions → t < length net.now.transitions
@@ -163,7 +162,6 @@ pub fn still_form(net: &Net, live: &Live, form: &Settled)
     ensures period { form.now.period ≡ 1 }
 {
     net.rules();
-    ranked_nets_are_live();
     still_nets_settle_at_once();
 }
 

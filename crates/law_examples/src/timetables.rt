@@ -1,12 +1,14 @@
 //! What a timetable keeps besides the places of a net: greatest times, longer jobs, a clock; and the
 //! earliest one of a period.
-ghost use Rattle.std.specs.Prelude.{ℕ, ◌+◌, ◌*◌, ◌<◌, ◌≤◌, ◌≡◌, ◌↔◌, List, length, slice_index, IfOk};
+ghost use Rattle.std.specs.Prelude.{ℕ, ◌+◌, ◌*◌, ◌<◌, ◌≤◌, ◌≡◌, ◌↔◌, List, length, slice_index, All, IfOk};
 ghost use Rattle.planning_laws.specs.Clocks.{each_period, HasClock};
 ghost use Rattle.planning_laws.specs.GreatestTimes.{date_by, with_places, without_wait, ArePlacesBack, CanKeepAll, GreatestTime, KeepsGreatestTime};
 ghost use Rattle.planning_laws.specs.LongerJobs.{IsLongerJob, IsWithinSlack};
 ghost use Rattle.teg_check.specs.Ranks.{IsRanking};
 ghost use Rattle.teg_net.specs.GreatestRatios.{IsAnyPlace, IsGreatestRatio};
+ghost use Rattle.teg_net.specs.Limits.{most_target_tokens};
 ghost use Rattle.timetable_calls.specs.Earliest.{AreLeastFirsts};
+ghost use Rattle.timetable_calls.specs.FractionPeriods.{whole_date, AreLeastFirstsAt, KeepsPlace, LeavesCircuitsTimeAt};
 ghost use Rattle.workable_laws.specs.WorkablePeriods.{LeavesCircuitsTime, LeavesPlaceTime};
 
 use planning_laws::{
@@ -16,7 +18,10 @@ use planning_laws::{
 use std::alloc::Global;
 use teg_check::{Live, ranked_nets_are_live};
 use teg_net::{Net, Place, PlaceId, Ratio, TransitionId};
-use timetable_calls::{PeriodRefused, earliest_timetable, earliest_timetables_exist};
+use timetable_calls::{
+    PeriodRefused, earliest_timetable, earliest_timetable_at, earliest_timetables_exist,
+    whole_dates_keep_places,
+};
 
 /// Greatest times can be kept just at the periods from the cycle time of the net with their places
 /// back on.
@@ -102,4 +107,42 @@ pub fn earliest_is_one(
     earliest_timetables_exist();
     let firsts = earliest_timetable(alloc, net, live, period)?;
     Ok(firsts)
+}
+
+/// A period that is a fraction and leaves each circuit its time has a least list of first
+/// departures too, in parts of the unit.
+pub fn fraction_has_earliest(net: &Net, period: Ratio)
+    requires { LeavesCircuitsTimeAt net.now period.tokens period.time }
+    ensures { (first : ℕ → ℕ) × AreLeastFirstsAt net.now period.tokens period.time first }
+{
+    net.rules();
+    earliest_timetables_exist();
+}
+
+/// The earliest timetable of a period that is a fraction: rounded down, its dates keep each place.
+pub fn earliest_in_whole_dates(
+    alloc: Global,
+    net: &Net,
+    live: &Live,
+    period: Ratio,
+) -> Result<Vec<u64>, PeriodRefused>
+    requires live { IsRanking net.now live.now }
+    requires some { 1 ≤ period.tokens }
+    requires tokens { period.tokens ≤ most_target_tokens }
+    ensures { IfOk result (λ firsts. All (KeepsPlace (λ t k. whole_date period.tokens period.time
+        (slice_index firsts.items t) k)) net.now.places) }
+{
+    whole_dates_keep_places();
+    let firsts = earliest_timetable_at(alloc, net, live, period)?;
+    Ok(firsts)
+}
+
+/// And they repeat: `b` firings later they are `a` units later, at the period `a / b`.
+pub fn whole_dates_go_on(period: Ratio, first: u64, number: u64)
+    requires some { 1 ≤ period.tokens }
+    requires number { 1 ≤ number }
+    ensures { whole_date period.tokens period.time first (number + period.tokens)
+        ≡ whole_date period.tokens period.time first number + period.time }
+{
+    whole_dates_keep_places();
 }

@@ -1,1 +1,2 @@
+pub mod AtZero
 pub mod StillNets

@@ -7,8 +7,8 @@ use Rattle.bound_laws.specs.dioid.declared.dates.Date.TheVariants.{At}
 use Rattle.bound_laws.specs.teg_net.declared.entries.PlaceId.{PlaceId}
 use Rattle.bound_laws.specs.teg_net.Circuits.{time_of, tokens_of}
 use Rattle.bound_laws.specs.settled_laws.SettledForms.{RepeatsAfter}
-use Rattle.bound_laws.proofs.Bounded.{still_nets_stay_at_zero_by}
 use Rattle.still_laws.specs.StillNets.{StillByRatio, StillNetsSettleAtOnce, OthersAreStrong}
+use Rattle.still_laws.proofs.AtZero.{stay_at_zero}
 
 no_factor : (a b : ℕ) → 1 ≤ b → a * b ≤ 0 → a ≡ 0
 no_factor zero b o l = refl
@@ -36,9 +36,9 @@ zeros_repeat count x h = record {
 }
 
 pub settle_at_once : StillNetsSettleAtOnce
-settle_at_once net ok live no_input reaches still ready f h =
+settle_at_once net ends no_input reaches still ready f h =
     let x : ℕ → ℕ → Date = h.0 in
-    let zeros = zeros_repeat (length net.transitions) x (still_nets_stay_at_zero_by net ok live no_input reaches still ready x h.1) in
+    let zeros = zeros_repeat (length net.transitions) x (stay_at_zero net ends reaches still no_input ready x h.1) in
     let period = h.2.least_period 0 1 (λ t. pos 0) zeros in
     let after = h.2.least_after 0 1 (λ t. pos 0) zeros in
     let one = h.2.stands.sizes.at_least_one in

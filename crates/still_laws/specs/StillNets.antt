@@ -5,6 +5,7 @@ use Rattle.bound_laws.specs.teg_net.Nets.{NetLists, IsNet, IsInput}
 use Rattle.bound_laws.specs.teg_net.Circuits.{IsPathBetween, IsCircuit, IsLive, time_of}
 use Rattle.bound_laws.specs.teg_net.GreatestRatios.{IsGreatestRatio, IsAnyPlace}
 use Rattle.bound_laws.specs.teg_net.Ratios.{Fraction}
+use Rattle.bound_laws.specs.teg_model.LiveRanks.{HasEndsInRange}
 use Rattle.bound_laws.specs.settled_laws.SettledForms.{SettledForm, IsSettledFormOf}
 use Rattle.bound_laws.specs.teg_net.Limits.{greatest_hold, most_place_tokens}
 use Rattle.bound_laws.specs.Critical.{AllReadyAtZero, IsStrong}
@@ -17,10 +18,10 @@ IsStill net = (ps : List PlaceId) → IsCircuit net ps → time_of net ps ≡ 0
 abbrev pub StillByRatio : Type 0
 StillByRatio = (net : NetLists) (r : Fraction) → IsLive net → IsGreatestRatio net IsAnyPlace r → r.time ≡ 0 ↔ IsStill net
 
--- then the settled form of a strongly connected live net without inputs, whose tokens are all ready at 0, is periodic from the
+-- then the settled form of a strongly connected net without inputs, live or not, whose tokens are all ready at 0, is periodic from the
 -- first firing on, with period 1
 abbrev pub StillNetsSettleAtOnce : Type 0
-StillNetsSettleAtOnce = (net : NetLists) → IsNet net → IsLive net → ((t : ℕ) → IsInput net t → ⊥)
+StillNetsSettleAtOnce = (net : NetLists) → HasEndsInRange net → ((t : ℕ) → IsInput net t → ⊥)
     → ((s t : ℕ) → s < length net.transitions → t < length net.transitions → (ps : List PlaceId) × IsPathBetween net s ps t)
     → IsStill net → AllReadyAtZero net
     → (f : SettledForm) → IsSettledFormOf net f → (f.after ≡ 0) × (f.period ≡ 1)

@@ -3,8 +3,8 @@
 //! Their greatest ratio is 0, and a strongly connected one is periodic from the first firing on,
 //! with period 1. This is what the settling bound leaves out, which asks for a ratio above 0; all
 //! other strongly connected nets keep it. Each law is the contract of a function that does nothing
-//! when it runs. The crate stands on `bound_laws` and what it stands on; no crate of the program
-//! stands on it.
+//! when it runs. The crate stands on `bound_laws` and what it stands on, on `teg_model` for datings,
+//! and on `teg_loops` for circuits in ways round; no crate of the program stands on it.
 #![tactic(auto)]
 
 mod laws;

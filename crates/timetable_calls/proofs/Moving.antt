@@ -1,14 +1,14 @@
 -- Departures moved by ready dates, and by the places in a round.
 use Rattle.std.proofs.Common.{ℕ, ◌+◌, ◌-◌, ◌*◌, ◌<◌, ◌≤◌, ◌≡◌, ◌≢◌, ◌⊎◌, inl, inr, List, length, sym, ap, subst, ◌∙◌, arith, ⊎_elim}
-use Rattle.std.specs.Prelude.{slice_index}
+use Rattle.std.specs.Prelude.{slice_index, All}
 use Rattle.std.proofs.lemmas.Bool.{cases_lt, cases_eq}
 use Rattle.std.proofs.Math.Nat.{mul-le-mul_left}
 use Rattle.teg_net.specs.declared.entries.PlaceId.{PlaceId}
-use Rattle.teg_net.specs.Limits.{greatest_input_date}
-use Rattle.teg_net.specs.Nets.{NetLists, IsNet}
+use Rattle.teg_net.specs.Nets.{NetLists}
 use Rattle.teg_net.specs.ReadyDates.{ready_date}
 use Rattle.teg_net.specs.Circuits.{no_place, place_at, from_of}
 use Rattle.teg_net.specs.Parts.{to_of}
+use Rattle.change_laws.specs.SlowerNets.{HasReadyDatesOfTokens}
 use Rattle.timetable_calls.specs.FractionPeriods.{AreFirstsAt}
 use Rattle.timetable_calls.specs.Departures.{IsMoved, IsFirstReady, AreStarts, IsBy, IsRoundUpTo}
 
@@ -31,17 +31,11 @@ late_enough before after at date m = let here = m.here in omega arith
 same_number : (p : PlaceId) (k : ℕ) → p.index ≡ k → p ≡ record { index = k }
 same_number p k e = ap (λ (z : ℕ). record { index = z }) e
 
--- the ready dates of a place are those of its initial tokens
-few_ready : (net : NetLists) → IsNet net → (p : PlaceId) → p.index < length net.places → length (place_at net p).ready ≤ (place_at net p).tokens
-few_ready net ok p l =
-    let own = ok.each_place p.index no_place l in
-    ⊎_elim (λ (z : length (place_at net p).ready ≡ 0). omega arith) (λ (s : length (place_at net p).ready ≡ (place_at net p).tokens). omega arith) own.ready_all
-
 -- workable dates wait for the ready dates of each place
-pub waits : (net : NetLists) (scale period : ℕ) (g : ℕ → ℕ) → IsNet net → AreFirstsAt net scale period g → (p : PlaceId) → p.index < length net.places → (k : ℕ) → k < length (place_at net p).ready
+pub waits : (net : NetLists) (scale period : ℕ) (g : ℕ → ℕ) → HasReadyDatesOfTokens net → AreFirstsAt net scale period g → (p : PlaceId) → p.index < length net.places → (k : ℕ) → k < length (place_at net p).ready
     → scale * slice_index (place_at net p).ready k ≤ g (to_of net p) + period * k
-waits net scale period g ok w p l k below =
-    let few = few_ready net ok p l in
+waits net scale period g of_tokens w p l k below =
+    let few = of_tokens p.index no_place l in
     let own = (w p.index no_place l).ready (k + 1) (omega arith) (omega arith) in
     let same : (k + 1) - 1 ≡ k = omega arith in
     let read : scale * ready_date (place_at net p) (k + 1) ≤ g (to_of net p) + period * ((k + 1) - 1) = own in
@@ -63,12 +57,13 @@ ready_more scale period ready k first own new h l is up over one = record {
 }
 
 -- past a place whose end is moved to wait for its ready dates
-pub starts_more : (net : NetLists) (scale period k first : ℕ) (before after : List ℕ) → IsNet net → AreStarts net scale period k before → k < length net.places
+pub starts_more : (net : NetLists) (scale period most k first : ℕ) (before after : List ℕ) → HasReadyDatesOfTokens net → All (λ p. All (λ d. d ≤ most) p.ready) net.places
+    → AreStarts net scale period most k before → k < length net.places
     → IsMoved before (to_of net (record { index = k })) first after
     → ((j : ℕ) → j < length (place_at net (record { index = k })).ready → scale * slice_index (place_at net (record { index = k })).ready j ≤ first + period * j)
     → ((d : ℕ) → ((j : ℕ) → j < length (place_at net (record { index = k })).ready → scale * slice_index (place_at net (record { index = k })).ready j ≤ d + period * j) → first ≤ d)
-    → AreStarts net scale period (k + 1) after
-starts_more net scale period k first before after ok h in' m late least =
+    → AreStarts net scale period most (k + 1) after
+starts_more net scale period most k first before after of_tokens up_to h in' m late least =
     let id : PlaceId = record { index = k } in
     let at : ℕ = to_of net id in
     let long = m.count in
@@ -83,11 +78,11 @@ starts_more net scale period k first before after ok h in' m late least =
           (λ low. let own = late j low in let up = late_enough before after at first m in omega arith) below)
           (cases_lt p.index k);
       least = λ g w t l. moved (g t) t (h.least g w t l) (λ e.
-          least (g t) (λ j low. subst (λ (z : ℕ). scale * slice_index (place_at net id).ready j ≤ g z + period * j) (sym e) (waits net scale period g ok w id in' j low)));
-      small = λ t l. moved (scale * greatest_input_date) t (h.small t (omega arith)) (λ e. least (scale * greatest_input_date) (λ j low. let own = dated j low in omega arith));
+          least (g t) (λ j low. subst (λ (z : ℕ). scale * slice_index (place_at net id).ready j ≤ g z + period * j) (sym e) (waits net scale period g of_tokens w id in' j low)));
+      small = λ t l. moved (scale * most) t (h.small t (omega arith)) (λ e. least (scale * most) (λ j low. let own = dated j low in omega arith));
     } where
-      moved : (most t : ℕ) → slice_index before t ≤ most → (t ≡ to_of net (record { index = k }) → first ≤ most) → slice_index after t ≤ most
-      moved most t old new = ⊎_elim
+      moved : (end t : ℕ) → slice_index before t ≤ end → (t ≡ to_of net (record { index = k }) → first ≤ end) → slice_index after t ≤ end
+      moved end t old new = ⊎_elim
           (λ (e : t ≡ to_of net (record { index = k })).
           let one : slice_index before t ≡ slice_index before (to_of net (record { index = k })) = ap (slice_index before) e in
           let two : slice_index after t ≡ slice_index after (to_of net (record { index = k })) = ap (slice_index after) e in
@@ -97,8 +92,8 @@ starts_more net scale period k first before after ok h in' m late least =
           (λ (n : t ≢ to_of net (record { index = k })). let same = m.others t n in omega arith)
           (cases_eq t (to_of net (record { index = k })))
 
-      dated : (j : ℕ) → j < length (place_at net (record { index = k })).ready → scale * slice_index (place_at net (record { index = k })).ready j ≤ scale * greatest_input_date
-      dated j low = mul-le-mul_left scale ((ok.each_place k no_place in').ready_in j 0 low)
+      dated : (j : ℕ) → j < length (place_at net (record { index = k })).ready → scale * slice_index (place_at net (record { index = k })).ready j ≤ scale * most
+      dated j low = mul-le-mul_left scale (up_to k no_place in' j 0 low)
 
 -- past a place that has moved its end
 pub round_more : (net : NetLists) (scale period k date : ℕ) (before old after : List ℕ) → IsRoundUpTo net scale period before k old → k < length net.places

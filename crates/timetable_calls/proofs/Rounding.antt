@@ -1,6 +1,6 @@
 -- Departures after as many rounds as there are transitions leave each place its time, where the period leaves it to each circuit.
 use Rattle.std.proofs.Common.{ℕ, ◌+◌, ◌-◌, ◌*◌, ◌<◌, ◌≤◌, ◌≡◌, ◌⊎◌, inl, inr, List, [], ◌∷◌, ◌++◌, length, refl, sym, ap, subst, ◌∙◌, arith, ⊎_elim}
-use Rattle.std.specs.Prelude.{slice_index, sum_by}
+use Rattle.std.specs.Prelude.{slice_index, sum_by, All}
 use Rattle.std.proofs.lemmas.Bool.{cases_lt}
 use Rattle.std.proofs.Math.Nat.{mul-le-mul_left}
 use Rattle.std.proofs.lemmas.List.{get_or_default, get_or_past, length-append}
@@ -15,7 +15,7 @@ use Rattle.teg_net.proofs.PathLaws.{IsPathBetween-append, IsPathBetween-split}
 use Rattle.teg_loops.specs.Loops.{EndsBelow}
 use Rattle.teg_loops.proofs.Splitting.{shorten}
 use Rattle.teg_loops.proofs.Straight.{straight_short}
-use Rattle.timetable_calls.specs.FractionPeriods.{AreEarliestAt, LeavesCircuitsTimeAt, LeavesTimeAt}
+use Rattle.timetable_calls.specs.FractionPeriods.{AreEarliestAt, AreLeastFirstsAt, LeavesCircuitsTimeAt, LeavesTimeAt}
 use Rattle.timetable_calls.proofs.Along.{along}
 use Rattle.timetable_calls.specs.Departures.{AreUpTo, AreStarts, IsBy, IsRoundUpTo, IsBacked, AreRounded}
 
@@ -67,26 +67,33 @@ last_or (p ∷ ps) = inr (⊎_elim
     (λ (h : HasLast ps). record { front = p ∷ h.front; last = h.last; is = ap (λ (z : List PlaceId). p ∷ z) h.is })
     (last_or ps))
 
-module _ (net : NetLists) (scale period : ℕ) (ok : IsNet net) where
+-- both ends of each place of a net are transitions of it
+pub ends_below : (net : NetLists) → IsNet net → EndsBelow net (length net.transitions)
+ends_below net ok = record {
+  from_in = λ p l. (ok.each_place p.index no_place l).from_in;
+  to_in = λ p l. (ok.each_place p.index no_place l).to_in;
+}
+
+-- no departure of a net is late after a few rounds
+pub small_enough : (net : NetLists) (scale period k : ℕ) (firsts : List ℕ) → IsNet net → k ≤ length net.transitions → AreRounded net scale period greatest_input_date greatest_hold k firsts
+    → AreUpTo (scale * 10000000000000) firsts
+small_enough net scale period k firsts ok few h = λ t l.
+    let up = h.small t l in
+    let most = ok.few_transitions in
+    let all : scale * (greatest_input_date + k * greatest_hold) ≤ scale * 10000000000000 = mul-le-mul_left scale (omega (arith, few, most)) in
+    omega (arith, up, all)
+
+module _ (net : NetLists) (scale period most hold : ℕ) (ends : EndsBelow net (length net.transitions)) where
   abbrev n : ℕ
   n = length net.transitions
 
-  from_in : (p : PlaceId) → p.index < length net.places → from_of net p < n
-  from_in p l = (ok.each_place p.index no_place l).from_in
-
-  to_in : (p : PlaceId) → p.index < length net.places → to_of net p < n
-  to_in p l = (ok.each_place p.index no_place l).to_in
-
-  ends : EndsBelow net n
-  ends = record { from_in = from_in; to_in = to_in }
-
   -- the first departures are those of no round
-  pub rounded_first : (firsts : List ℕ) → AreStarts net scale period (length net.places) firsts → AreRounded net scale period 0 firsts
+  pub rounded_first : (firsts : List ℕ) → AreStarts net scale period most (length net.places) firsts → AreRounded net scale period most hold 0 firsts
   rounded_first firsts h = record {
     begun = firsts;
     starts = h;
     count = h.count;
-    small = λ t l. let up = h.small t l in omega arith;
+    small = λ t l. let up = h.small t l in let is : scale * (most + 0 * hold) ≡ scale * most = grind arith in omega (arith, up, is);
     lower = λ ps s t l path short. at_start ps s t path short;
     backed = λ t l. record { from = t; places = []; path = refl; is = omega arith };
   } where
@@ -95,8 +102,9 @@ module _ (net : NetLists) (scale period : ℕ) (ok : IsNet net) where
     at_start (p ∷ ps) s t e short = absurd (omega arith)
 
   -- and with a round more
-  pub rounded_more : (k : ℕ) (before after : List ℕ) → AreRounded net scale period k before → IsRoundUpTo net scale period before (length net.places) after → AreRounded net scale period (k + 1) after
-  rounded_more k before after h r =
+  pub rounded_more : (k : ℕ) (before after : List ℕ) → All (λ p. p.hold ≤ hold) net.places → AreRounded net scale period most hold k before
+      → IsRoundUpTo net scale period before (length net.places) after → AreRounded net scale period most hold (k + 1) after
+  rounded_more k before after holds h r =
       let count = h.count in
       let long = r.count in
       record {
@@ -107,17 +115,20 @@ module _ (net : NetLists) (scale period : ℕ) (ok : IsNet net) where
         lower = λ ps s t l path short. lower ps s t l path short;
         backed = λ t l. backed t l;
       } where
-        up_to : (t : ℕ) → t < length before → slice_index after t ≤ scale * (greatest_input_date + (k + 1) * greatest_hold)
+        up_to : (t : ℕ) → t < length before → slice_index after t ≤ scale * (most + (k + 1) * hold)
         up_to t l = ⊎_elim
-            (λ (e : slice_index after t ≡ slice_index before t). let old = h.small t l in omega arith)
+            (λ (e : slice_index after t ≡ slice_index before t). let old = h.small t l in let more = wider in omega arith)
             (λ (b : IsBy net scale period before t (slice_index after t)).
             let count = h.count in
-            let low = from_in b.place b.in_range in
+            let low = ends.from_in b.place b.in_range in
             let old = h.small (from_of net b.place) (omega arith) in
-            let hold : scale * (place_at net b.place).hold ≤ scale * greatest_hold = mul-le-mul_left scale ((ok.each_place b.place.index no_place b.in_range).hold_in) in
+            let own : scale * (place_at net b.place).hold ≤ scale * hold = mul-le-mul_left scale (holds b.place.index no_place b.in_range) in
+            let more = wider in
             let is = b.is in
             omega arith)
-            (r.by t)
+            (r.by t) where
+              wider : scale * (most + (k + 1) * hold) ≡ scale * (most + k * hold) + scale * hold
+              wider = grind arith
 
         lower : (ps : List PlaceId) (s t : ℕ) → t < n → IsPathBetween net s ps t → length ps ≤ k + 1 → slice_index h.begun s + scale * time_of net ps ≤ slice_index after t + period * tokens_of net ps
         lower ps s t l path short = ⊎_elim
@@ -130,7 +141,7 @@ module _ (net : NetLists) (scale period : ℕ) (ok : IsNet net) where
             let to : to_of net p ≡ t = cut.2.2 in
             let first : IsPathBetween net s q.front (from_of net p) = subst (λ (z : ℕ). IsPathBetween net s q.front z) (sym from) cut.1 in
             let long : length ps ≡ length q.front + 1 = ap (λ (z : List PlaceId). length z) q.is ∙ length-append q.front (p ∷ []) in
-            let old = h.lower q.front s (from_of net p) (from_in p in') first (omega arith) in
+            let old = h.lower q.front s (from_of net p) (ends.from_in p in') first (omega arith) in
             let step = r.late p in' in' in
             let same : slice_index after (to_of net p) ≡ slice_index after t = ap (slice_index after) to in
             let time : scale * time_of net ps ≡ scale * time_of net (q.front ++ p ∷ []) = ap (λ (z : List PlaceId). scale * time_of net z) q.is in
@@ -145,7 +156,7 @@ module _ (net : NetLists) (scale period : ℕ) (ok : IsNet net) where
             (λ (e : slice_index after t ≡ slice_index before t). subst (λ (z : ℕ). IsBacked net scale period h.begun t z) (sym e) (h.backed t l))
             (λ (b : IsBy net scale period before t (slice_index after t)).
             let p : PlaceId = b.place in
-            let old = h.backed (from_of net p) (from_in p b.in_range) in
+            let old = h.backed (from_of net p) (ends.from_in p b.in_range) in
             let time_is = time_more net scale old.places p in
             let tokens_are = tokens_more net period old.places p in
             let was = old.is in
@@ -158,16 +169,8 @@ module _ (net : NetLists) (scale period : ℕ) (ok : IsNet net) where
             })
             (r.by t)
 
-  -- no departure is late after a few rounds
-  pub small_enough : (k : ℕ) (firsts : List ℕ) → k ≤ length net.transitions → AreRounded net scale period k firsts → AreUpTo (scale * 10000000000000) firsts
-  small_enough k firsts few h = λ t l.
-      let up = h.small t l in
-      let most = ok.few_transitions in
-      let all : scale * (greatest_input_date + k * greatest_hold) ≤ scale * 10000000000000 = mul-le-mul_left scale (omega (arith, few, most)) in
-      omega (arith, up, all)
-
   -- after as many rounds as there are transitions
-  module _ (time : LeavesCircuitsTimeAt net scale period) (firsts : List ℕ) (h : AreRounded net scale period (length net.transitions) firsts) where
+  module _ (time : LeavesCircuitsTimeAt net scale period) (firsts : List ℕ) (h : AreRounded net scale period most hold (length net.transitions) firsts) where
     no_gain : (ps : List PlaceId) → IsCircuit net ps → sum_by (λ p. scale * (place_at net p).hold) ps ≤ sum_by (λ p. period * (place_at net p).tokens) ps
     no_gain ps c = let up = time ps c in let is = cost_of net period ps in let own = takes_of net scale ps in omega arith
 
@@ -189,12 +192,12 @@ module _ (net : NetLists) (scale period : ℕ) (ok : IsNet net) where
 
     leaves : (p : PlaceId) → p.index < length net.places → LeavesTimeAt scale period (slice_index firsts) (place_at net p)
     leaves p in' =
-        let b = h.backed (from_of net p) (from_in p in') in
-        let low = far (b.places ++ p ∷ []) b.from (to_of net p) (to_in p in') (IsPathBetween-append net b.places (p ∷ []) b.from (from_of net p) (to_of net p) b.path (in', refl, refl)) in
+        let b = h.backed (from_of net p) (ends.from_in p in') in
+        let low = far (b.places ++ p ∷ []) b.from (to_of net p) (ends.to_in p in') (IsPathBetween-append net b.places (p ∷ []) b.from (from_of net p) (to_of net p) b.path (in', refl, refl)) in
         let time_is = time_more net scale b.places p in
         let tokens_are = tokens_more net period b.places p in
         let is = b.is in
-        let begun = far [] (to_of net p) (to_of net p) (to_in p in') refl in
+        let begun = far [] (to_of net p) (to_of net p) (ends.to_in p in') refl in
         let none : period * tokens_of net [] ≡ 0 = omega arith in
         record {
           leaves_time = omega arith;
@@ -210,9 +213,8 @@ module _ (net : NetLists) (scale period : ℕ) (ok : IsNet net) where
               (λ (g : length (place_at net p).ready ≤ k - 1). let e : scale * ready_date (place_at net p) k ≡ scale * 0 = ap (λ (z : ℕ). scale * z) (get_or_past (place_at net p).ready (k - 1) 0 g) in omega arith)
               (cases_lt (k - 1) (length (place_at net p).ready))
 
-    pub earliest : AreEarliestAt net scale period firsts
-    earliest = record {
-      one_each = h.count;
+    pub least_firsts : AreLeastFirstsAt net scale period (slice_index firsts)
+    least_firsts = record {
       workable = λ i d l. subst (LeavesTimeAt scale period (slice_index firsts)) (get_or_default net.places i no_place d l) (leaves (record { index = i }) l);
       least = λ g w t l.
           let b = h.backed t l in
@@ -223,4 +225,7 @@ module _ (net : NetLists) (scale period : ℕ) (ok : IsNet net) where
     } where
       begins : (ps : List PlaceId) (s t : ℕ) → t < n → IsPathBetween net s ps t → s < n
       begins [] s t l e = let same : s ≡ t = e in omega arith
-      begins (p ∷ ps) s t l e = let low = from_in p e.0 in let same : from_of net p ≡ s = e.1 in omega arith
+      begins (p ∷ ps) s t l e = let low = ends.from_in p e.0 in let same : from_of net p ≡ s = e.1 in omega arith
+
+    pub earliest : AreEarliestAt net scale period firsts
+    earliest = record { one_each = h.count; least = least_firsts }

@@ -7,8 +7,8 @@ use Rattle.workable_laws.specs.WorkablePeriods.{LeavesCircuitsTime, LeavesPlaceT
 use Rattle.teg_net.specs.declared.entries.PlaceId.{PlaceId}
 use Rattle.timetable_calls.specs.declared.refusal.PeriodRefused.{PeriodRefused}
 use Rattle.timetable_calls.specs.declared.refusal.PeriodRefused.TheVariants.{TooShort, OutOfMemory}
-use Rattle.timetable_calls.specs.Earliest.{AreEarliest, IsPeriodRefused, IsTooShort}
-use Rattle.timetable_calls.specs.FractionPeriods.{AreEarliestAt, IsRefusedAt, IsTooShortAt, LeavesCircuitsTimeAt, LeavesTimeAt}
+use Rattle.timetable_calls.specs.Earliest.{AreEarliest, AreLeastFirsts, IsPeriodRefused, IsTooShort}
+use Rattle.timetable_calls.specs.FractionPeriods.{AreEarliestAt, AreLeastFirstsAt, IsRefusedAt, IsTooShortAt, LeavesCircuitsTimeAt, LeavesTimeAt}
 
 to_units : (period : ℕ) (f : ℕ → ℕ) (p : Place) → LeavesTimeAt 1 period f p → LeavesPlaceTime period f p
 to_units period f p h = record { leaves_time = (let own = h.leaves_time in omega (arith, own)); ready = λ k some few. (let own = h.ready k some few in omega (arith, own)) }
@@ -16,14 +16,14 @@ to_units period f p h = record { leaves_time = (let own = h.leaves_time in omega
 from_units : (period : ℕ) (f : ℕ → ℕ) (p : Place) → LeavesPlaceTime period f p → LeavesTimeAt 1 period f p
 from_units period f p h = record { leaves_time = (let own = h.leaves_time in omega (arith, own)); ready = λ k some few. (let own = h.ready k some few in omega (arith, own)) }
 
-pub by_units : (net : NetLists) (period : ℕ) (firsts : List ℕ) → AreEarliestAt net 1 period firsts → AreEarliest net period firsts
-by_units net period firsts h = record {
-  one_each = h.one_each;
-  least = record {
-    workable = λ i d l. to_units period (slice_index firsts) _ (h.workable i d l);
-    least = λ g w t l. h.least g (λ i d m. from_units period g _ (w i d m)) t l;
-  };
+pub least_by_units : (net : NetLists) (period : ℕ) (f : ℕ → ℕ) → AreLeastFirstsAt net 1 period f → AreLeastFirsts net period f
+least_by_units net period f h = record {
+  workable = λ i d l. to_units period f _ (h.workable i d l);
+  least = λ g w t l. h.least g (λ i d m. from_units period g _ (w i d m)) t l;
 }
+
+pub by_units : (net : NetLists) (period : ℕ) (firsts : List ℕ) → AreEarliestAt net 1 period firsts → AreEarliest net period firsts
+by_units net period firsts h = record { one_each = h.one_each; least = least_by_units net period (slice_index firsts) h.least }
 
 pub in_units : (net : NetLists) (period : ℕ) → LeavesCircuitsTime net period → LeavesCircuitsTimeAt net 1 period
 in_units net period h ps c = let own = h ps c in omega (arith, own)

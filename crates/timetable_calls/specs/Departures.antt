@@ -1,7 +1,6 @@
 -- Working definitions of the departures that rounds over the places make later: dates in parts of the unit, of which `scale` make one.
 use Rattle.std.specs.Prelude.{ℕ, ◌+◌, ◌*◌, ◌<◌, ◌≤◌, ◌≡◌, ◌≢◌, ◌⊎◌, List, length, slice_index, max}
 use Rattle.teg_net.specs.declared.entries.PlaceId.{PlaceId}
-use Rattle.teg_net.specs.Limits.{greatest_hold, greatest_input_date}
 use Rattle.teg_net.specs.Nets.{NetLists}
 use Rattle.teg_net.specs.Circuits.{place_at, from_of, IsPathBetween, time_of, tokens_of}
 use Rattle.teg_net.specs.Parts.{to_of}
@@ -22,14 +21,14 @@ pub record IsFirstReady (scale period : ℕ) (ready : List ℕ) (k first : ℕ) 
   pub late : (j : ℕ) → j < k → scale * slice_index ready j ≤ first + period * j
   pub least : (d : ℕ) → ((j : ℕ) → j < length ready → scale * slice_index ready j ≤ d + period * j) → first ≤ d
 
--- the least departures that wait for the ready dates of the first so many places
-pub record AreStarts (net : NetLists) (scale period places : ℕ) (firsts : List ℕ) : Type 0 where
+-- the least departures that wait for the ready dates of the first so many places, none past the date `most`
+pub record AreStarts (net : NetLists) (scale period most places : ℕ) (firsts : List ℕ) : Type 0 where
   pub count : length firsts ≡ length net.transitions
   pub ready :
       (p : PlaceId) → p.index < places → p.index < length net.places → (k : ℕ) → k < length (place_at net p).ready
       → scale * slice_index (place_at net p).ready k ≤ slice_index firsts (to_of net p) + period * k
   pub least : (g : ℕ → ℕ) → AreFirstsAt net scale period g → (t : ℕ) → t < length net.transitions → slice_index firsts t ≤ g t
-  pub small : AreUpTo (scale * greatest_input_date) firsts
+  pub small : AreUpTo (scale * most) firsts
 
 -- by the departures before, the place makes its end so late
 pub record IsBy (net : NetLists) (scale period : ℕ) (before : List ℕ) (t date : ℕ) : Type 0 where
@@ -54,12 +53,13 @@ pub record IsBacked (net : NetLists) (scale period : ℕ) (begun : List ℕ) (t 
   pub path : IsPathBetween net from places t
   pub is : date + period * tokens_of net places ≤ slice_index begun from + scale * time_of net places
 
--- departures after so many rounds: late enough for each path of so many places, and each is that of some path
-pub record AreRounded (net : NetLists) (scale period rounds : ℕ) (firsts : List ℕ) : Type 0 where
+-- departures after so many rounds: late enough for each path of so many places, and each is that of some path; none starts past the
+-- date `most`, or moves by more than `hold` in a round
+pub record AreRounded (net : NetLists) (scale period most hold rounds : ℕ) (firsts : List ℕ) : Type 0 where
   pub begun : List ℕ
-  pub starts : AreStarts net scale period (length net.places) begun
+  pub starts : AreStarts net scale period most (length net.places) begun
   pub count : length firsts ≡ length net.transitions
-  pub small : AreUpTo (scale * (greatest_input_date + rounds * greatest_hold)) firsts
+  pub small : AreUpTo (scale * (most + rounds * hold)) firsts
   pub lower :
       (ps : List PlaceId) (s t : ℕ) → t < length net.transitions → IsPathBetween net s ps t → length ps ≤ rounds
       → slice_index begun s + scale * time_of net ps ≤ slice_index firsts t + period * tokens_of net ps

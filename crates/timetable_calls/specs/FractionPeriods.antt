@@ -22,11 +22,15 @@ AreFirstsAt net scale period f = All (LeavesTimeAt scale period f) net.places
 abbrev pub LeavesCircuitsTimeAt : NetLists → ℕ → ℕ → Type 0
 LeavesCircuitsTimeAt net scale period = (ps : List PlaceId) → IsCircuit net ps → scale * time_of net ps ≤ period * tokens_of net ps
 
+-- dates of first firings, in parts of the unit, that leave time for each place, and no such dates come before them
+pub record AreLeastFirstsAt (net : NetLists) (scale period : ℕ) (f : ℕ → ℕ) : Type 0 where
+  pub workable : AreFirstsAt net scale period f
+  pub least : (g : ℕ → ℕ) → AreFirstsAt net scale period g → (t : ℕ) → t < length net.transitions → f t ≤ g t
+
 -- one date for each transition, the least of its first firing, in parts of the unit
 pub record AreEarliestAt (net : NetLists) (scale period : ℕ) (firsts : List ℕ) : Type 0 where
   pub one_each : length firsts ≡ length net.transitions
-  pub workable : AreFirstsAt net scale period (slice_index firsts)
-  pub least : (g : ℕ → ℕ) → AreFirstsAt net scale period g → (t : ℕ) → t < length net.transitions → slice_index firsts t ≤ g t
+  pub least : AreLeastFirstsAt net scale period (slice_index firsts)
 
 -- a circuit that takes longer than the period gives it for its tokens, and so no timetable
 pub record IsTooShortAt (net : NetLists) (scale period : ℕ) (ps : List PlaceId) : Type 0 where

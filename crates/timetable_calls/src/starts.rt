@@ -52,8 +52,8 @@ pub(crate) fn starts(
     period: u64,
 ) -> Result<Vec<u64>, AllocError>
     requires parts { scale ≤ most_target_tokens }
-    ensures starts { IfOk result (λ firsts. AreStarts net.now scale period (length net.now.places)
-        firsts.items) }
+    ensures starts { IfOk result (λ firsts. AreStarts net.now scale period greatest_input_date
+        (length net.now.places) firsts.items) }
     ensures rules { IfOk result (λ _. IsNet net.now) }
 {
     let mut firsts = vec![in alloc; 0u64; net.transitions().len()]?;

@@ -2,7 +2,9 @@ use Rattle.std.proofs.Common.{ℕ, ◌≡◌, ◌≤◌, ◌<◌, ◌+◌, ◌*�
 use Rattle.teg_net.specs.declared.entries.PlaceId.{PlaceId}
 use Rattle.teg_net.specs.declared.entries.Place.{Place}
 use Rattle.teg_net.specs.Circuits.{place_at}
+use Rattle.teg_net.specs.Limits.{greatest_input_date}
 use Rattle.teg_net.proofs.Reading.{read_place}
+use Rattle.change_laws.proofs.Changing.{ready_of_tokens}
 use Rattle.timetable_calls.specs.Departures.{IsMoved}
 use Rattle.timetable_calls.proofs.Moving.{starts_more}
 use Rattle.timetable_calls.proofs.starts.starts.Goals as goal
@@ -21,7 +23,8 @@ loop-index-preserved c =
     let first : ℕ = c.first_ready-first.result in
     let late = subst (λ (xs : List ℕ). (j : ℕ) → j < length xs → scale * get_or xs j 0 ≤ first + period * j) c.as_slice.ensures c.first_ready-first.ensures.late in
     let least = subst (λ (xs : List ℕ). (d : ℕ) → ((j : ℕ) → j < length xs → scale * get_or xs j 0 ≤ d + period * j) → first ≤ d) c.as_slice.ensures c.first_ready-first.ensures.least in
-    starts_more net scale period k first old new c.places-place-items.ensures.rules c.loop-index.invariant l
+    let ok = c.places-place-items.ensures.rules in
+    starts_more net scale period greatest_input_date k first old new (ready_of_tokens net ok) (λ i d in'. (ok.each_place i d in').ready_in) c.loop-index.invariant l
     (subst (λ (z : Place). IsMoved old z.to.index first new) place c.move_to.ensures)
     (subst (λ (z : Place). (j : ℕ) → j < length z.ready → scale * get_or z.ready j 0 ≤ first + period * j) place late)
     (subst (λ (z : Place). (d : ℕ) → ((j : ℕ) → j < length z.ready → scale * get_or z.ready j 0 ≤ d + period * j) → first ≤ d) place least)
