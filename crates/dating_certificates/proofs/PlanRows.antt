@@ -84,13 +84,13 @@ pub local_plan : (net : NetLists) → IsNet net → IsLive net → (due : ℕ �
     → AreLocalPlanRows net due numbers dates ↔ ArePlanRows net due numbers dates
 local_plan net ok live due numbers dates =
     let y : Dating = date_up_to numbers (length net.transitions) dates in
-    let both = local_latest net ok live due numbers dates in (
+    let both = local_latest net (net_ends net ok) live due numbers dates in (
       λ h.
           let latest : AreLatestRows net due numbers dates = both.0 h.latest in
-          record { latest = latest; in_time = (zero_meet_by_starts net ok live due numbers (due_up_to net due numbers dates latest) y latest.latest).1 h.starts },
+          record { latest = latest; in_time = (zero_meet_by_starts net (net_ends net ok) live due numbers (due_up_to net due numbers dates latest) y latest.latest).1 h.starts },
       λ h. record {
         latest = both.1 h.latest;
-        starts = (zero_meet_by_starts net ok live due numbers (due_up_to net due numbers dates h.latest) y h.latest.latest).0 h.in_time;
+        starts = (zero_meet_by_starts net (net_ends net ok) live due numbers (due_up_to net due numbers dates h.latest) y h.latest.latest).0 h.in_time;
       },
     )
 

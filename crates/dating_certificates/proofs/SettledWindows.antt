@@ -12,20 +12,20 @@ use Rattle.dioid.proofs.Moves.{later_move}
 use Rattle.teg_net.specs.declared.entries.Place.{Place}
 use Rattle.teg_net.specs.Nets.{NetLists, IsNet, IsInput}
 use Rattle.teg_model.specs.Systems.{System}
-use Rattle.teg_model.specs.LiveRanks.{AreRanks}
+use Rattle.teg_model.specs.LiveRanks.{AreRanks, HasEndsInRange}
 use Rattle.teg_model.specs.Datings.{IsLeastUnder, extended_places, available_at, initial_date, at_input, system_of}
 use Rattle.teg_model.specs.LeastDatings.{IsTight}
 use Rattle.teg_model.proofs.DateFunctions.{Dating}
 use Rattle.teg_model.proofs.LeastOver.{least_over, least_is_tight}
 use Rattle.teg_model.proofs.LiveRanks.{live_is_ranked}
-use Rattle.teg_model.proofs.OfNet.{all_extended, all_extended_in, at_input_is, input_or_not, least_is_over, least_of, least_of_system, net_ends, ranks_extended, tight_of_least}
+use Rattle.teg_model.proofs.OfNet.{all_extended, all_extended_in, at_input_is, input_or_not, least_is_over, least_of, least_of_system, ranks_extended, tight_of_least}
 use Rattle.teg_model.proofs.Tokens.{implicit_gives, dates_climb}
 use Rattle.latest_laws.proofs.Floats.{input_in}
 use Rattle.settled_laws.specs.SettledForms.{RepeatsAfter}
 use Rattle.settled_laws.proofs.Everywhere.{Climbing, Repeats, on_first, same_repeats}
 use Rattle.settled_laws.proofs.Settling.{HasNoRelease}
 use Rattle.settled_laws.proofs.Seen.{IsRisingAt, IsAlike, accepted_repeats}
-use Rattle.dating_certificates.specs.SettledWindows.{MovesInWindow, WindowsGoOn}
+use Rattle.dating_certificates.specs.SettledWindows.{EntersNoInput, MovesInWindow, WindowsGoOn}
 
 -- the least dating under the releases is the least under its own dates at the inputs
 own_least : (net : NetLists) (u x : Dating) → IsLeastUnder net u x → IsLeastUnder net x x
@@ -37,20 +37,24 @@ own_least net u x h = record {
   }) t k l o;
 }
 
+-- no place of a net enters an input
+pub net_clear : (net : NetLists) → IsNet net → EntersNoInput net
+net_clear net ok i d l = (ok.each_place i d l).enters_no_input
+
 -- an input waits for the firing before and for its release
-input_next : (net : NetLists) → IsNet net → (u x : Dating) → IsLeastUnder net u x → IsTight net u x → (t k : ℕ) → t < length net.transitions → IsInput net t → 1 ≤ k
+input_next : (net : NetLists) → EntersNoInput net → (u x : Dating) → IsLeastUnder net u x → IsTight net u x → (t k : ℕ) → t < length net.transitions → IsInput net t → 1 ≤ k
     → x t (k + 1) ≡ later_of (x t k) (u t (k + 1))
-input_next net ok u x h tight t k l i o =
+input_next net clear u x h tight t k l i o =
     let z : Date = later_of (x t k) (u t (k + 1)) in
     same_by_at_most (x t (k + 1)) z
     (tight.tight t (k + 1) z l (omega arith)
     (all_extended_in net (λ p. p.to.index ≡ t → IsAtMostDate (available_at x p (k + 1)) z)
-    (λ j d m q. absurd ((ok.each_place j d m).enters_no_input (subst (IsInput net) (sym q) i)))
+    (λ j d m q. absurd (clear j d m (subst (IsInput net) (sym q) i)))
     (λ v m q. rw (implicit_gives initial_date x v k o, q) (later_left (x t k) (u t (k + 1)))))
     (λ e. later_right (x t k) (u t (k + 1))))
     (later_least (x t k) (u t (k + 1)) (x t (k + 1)) (dates_climb net u x h.feasible t k l o) (h.feasible.inputs t (k + 1) (omega arith) i))
 
-module _ (net : NetLists) (ok : IsNet net) (u x : Dating) (h : IsLeastUnder net u x) (bound : ℕ) (r : ℕ → ℕ) (rr : AreRanks net.places bound r)
+module _ (net : NetLists) (in_net : HasEndsInRange net) (clear : EntersNoInput net) (u x : Dating) (h : IsLeastUnder net u x) (bound : ℕ) (r : ℕ → ℕ) (rr : AreRanks net.places bound r)
     (after period last : ℕ) (step : ℕ → ℤ) (w : MovesInWindow net u x after period last step) where
   abbrev n : ℕ
   n = length net.transitions
@@ -81,8 +85,8 @@ module _ (net : NetLists) (ok : IsNet net) (u x : Dating) (h : IsLeastUnder net 
       let tight = tight_of_least net u x bound r rr h in
       let back : (j + period) + 1 ≡ k + period = omega (arith, a) in
       let released : u t ((j + period) + 1) ≡ move (step t) (u t (j + 1)) = rw (back, k_is) (w.releases t k i a) in
-      let high = input_next net ok u x h tight t (j + period) l i (omega (arith, one)) in
-      let low = input_next net ok u x h tight t j l i (omega (arith, far, room, one)) in
+      let high = input_next net clear u x h tight t (j + period) l i (omega (arith, one)) in
+      let low = input_next net clear u x h tight t j l i (omega (arith, far, room, one)) in
       let moved : x t ((j + period) + 1) ≡ move (step t) (x t (j + 1)) =
       high ∙ (ap (λ d. later_of d (u t ((j + period) + 1))) before ∙ (ap (later_of (move (step t) (x t j))) released
       ∙ (later_move (step t) (x t j) (u t (j + 1)) ∙ ap (move (step t)) (sym low)))) in
@@ -100,7 +104,7 @@ module _ (net : NetLists) (ok : IsNet net) (u x : Dating) (h : IsLeastUnder net 
   outside : (t k : ℕ) → length net.transitions ≤ t → least_over (system_of net x) bound r t k ≡ Early
   outside t k l =
       let ends : All (λ p. p.to.index < length net.transitions) (extended_places net) =
-      all_extended_in net (λ p. p.to.index < length net.transitions) (λ i d m. (ok.each_place i d m).to_in) (λ v m. m) in
+      all_extended_in net (λ p. p.to.index < length net.transitions) (λ i d m. (in_net i d m).1) (λ v m. m) in
       at_most_early (z t k)
       (least_is_tight sys bound r (ranks_extended net bound r rr) t k Early
       (λ i d m e. let in' = ends i d m in absurd (omega (arith, in', e, l)))
@@ -154,12 +158,12 @@ module _ (net : NetLists) (ok : IsNet net) (u x : Dating) (h : IsLeastUnder net 
       (all_extended net (IsRisingAt z end step)
       (λ i d l.
       let p : Place = get_or net.places i d in
-      let p_in = ok.each_place i d l in
+      let p_in = in_net i d l in
       let at : (t : ℕ) → t < n → z t end ≡ x t last = λ t m. same t end m (omega (arith, room)) ∙ ap (x t) end_is in
       ⊎_elim
-      (λ (e : x p.to.index last ≡ Never). inl (at p.to.index p_in.to_in ∙ e))
+      (λ (e : x p.to.index last ≡ Never). inl (at p.to.index p_in.1 ∙ e))
       (λ b. ⊎_elim
-      (λ (e : x p.from.index last ≡ Early). inr (inl (at p.from.index p_in.from_in ∙ e)))
+      (λ (e : x p.from.index last ≡ Early). inr (inl (at p.from.index p_in.0 ∙ e)))
       (λ (e : step p.from.index ≤ℤ step p.to.index). inr (inr e))
       b)
       (w.rises i d l))
@@ -168,6 +172,6 @@ module _ (net : NetLists) (ok : IsNet net) (u x : Dating) (h : IsLeastUnder net 
       same_repeats n z x after period step same (on_first n z after period step repeats)
 
 pub windows_go_on : WindowsGoOn
-windows_go_on net ok live u x h after period last step w =
-    let ranked = live_is_ranked net (net_ends net ok) live in
-    goes_on net ok u x h ranked.0 ranked.1 ranked.2 after period last step w
+windows_go_on net ends clear live u x h after period last step w =
+    let ranked = live_is_ranked net ends live in
+    goes_on net ends clear u x h ranked.0 ranked.1 ranked.2 after period last step w

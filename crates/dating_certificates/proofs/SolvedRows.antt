@@ -258,13 +258,13 @@ solve_solved net rows due numbers dates ok rules lists h = (
 )
 
 pub local_latest : LocallyLatestRowsAreLatest
-local_latest net ok live due numbers dates = (
-  λ h. record { whole = h.whole; latest = solutions_are_latest net (net_ends net ok) live due numbers (date_up_to numbers (length net.transitions) dates) h.solve },
+local_latest net ends live due numbers dates = (
+  λ h. record { whole = h.whole; latest = solutions_are_latest net ends live due numbers (date_up_to numbers (length net.transitions) dates) h.solve },
   λ h. record {
     whole = h.whole;
     solve = record {
       never = λ t k l m. never_past net numbers dates t k m;
-      equations = least_ahead net (net_ends net ok) due (date_up_to numbers (length net.transitions) dates) h.latest;
+      equations = least_ahead net ends due (date_up_to numbers (length net.transitions) dates) h.latest;
     };
   },
 )
@@ -289,5 +289,5 @@ tells_local net rows due numbers dates told ok rules lists whole h = (
 pub tells_latest : (net : NetLists) (due : ℕ → ℕ → Option ℕ) (numbers : ℕ) (dates : List Date) (told : Bool) → IsNet net
     → (IsTrue told ↔ AreLocallyLatest net due numbers dates) → IsLive net → IsTrue told ↔ AreLatestRows net due numbers dates
 tells_latest net due numbers dates told ok h live =
-    let both = local_latest net ok live due numbers dates in
+    let both = local_latest net (net_ends net ok) live due numbers dates in
     (λ t. both.0 (h.0 t), λ f. h.1 (both.1 f))

@@ -30,7 +30,8 @@ use Rattle.dating_certificates.specs.SettledRows.{form_by_rows, SettlesAs, IsSti
 use Rattle.dating_certificates.specs.SettledWindows.{MovesInWindow}
 use Rattle.dating_certificates.specs.ToldForms.{ToldForm, told_form, step_told, IsFormTold, ReleasesGoOn, ReleaseMoves, every_told}
 use Rattle.dating_certificates.proofs.WholeRows.{same_count}
-use Rattle.dating_certificates.proofs.SettledWindows.{windows_go_on}
+use Rattle.teg_model.proofs.OfNet.{net_ends}
+use Rattle.dating_certificates.proofs.SettledWindows.{net_clear, windows_go_on}
 
 date_moved : (gap : ℕ) (o : Option ℕ) → as_date (moved_by gap o) ≡ delayed gap (as_date o)
 date_moved gap None = refl
@@ -192,7 +193,7 @@ module _ (net : NetLists) (after period rows : ℕ) (dates : List Date) (steps :
 
   repeats : (x : Dating) → IsLeastDating net x → RepeatsAfter (length net.transitions) x after period (step_told (told_form (told_dates net rows dates) after period steps))
   repeats x least =
-      windows_go_on net ok live (listed_releases net) x least after period rows (step_told form)
+      windows_go_on net (net_ends net ok) (net_clear net ok) live (listed_releases net) x least after period rows (step_told form)
       (window_of net (listed_releases net) (date_in_rows (length net.transitions) dates) x after period rows (step_told form) ok (in_rows x least)
       (window_told net after period rows dates steps ok f))
 

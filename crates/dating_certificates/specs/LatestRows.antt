@@ -2,8 +2,9 @@
 use Rattle.std.specs.Prelude.{ℕ, ◌≡◌, ◌↔◌, List, length, Option, Some, Any, nat_le, if◌then◌else◌}
 use Rattle.dioid.specs.declared.dates.Date.{Date}
 use Rattle.dioid.specs.declared.dates.Date.TheVariants.{Never}
-use Rattle.teg_net.specs.Nets.{NetLists, IsNet}
+use Rattle.teg_net.specs.Nets.{NetLists}
 use Rattle.teg_net.specs.Circuits.{IsLive}
+use Rattle.teg_model.specs.LiveRanks.{HasEndsInRange}
 use Rattle.teg_due.specs.declared.rows.DueRow.{DueRow}
 use Rattle.teg_due.specs.RowRules.{IsDueOf}
 use Rattle.due_laws.specs.LatestDates.{AreLatestDates}
@@ -45,5 +46,5 @@ pub record AreLatestRows (net : NetLists) (due : ℕ → ℕ → Option ℕ) (nu
 
 -- rows of a live net that are the least of what is ahead are those of its latest dates, and no others are
 abbrev pub LocallyLatestRowsAreLatest : Type 0
-LocallyLatestRowsAreLatest = (net : NetLists) → IsNet net → IsLive net → (due : ℕ → ℕ → Option ℕ) (numbers : ℕ) (dates : List Date)
+LocallyLatestRowsAreLatest = (net : NetLists) → HasEndsInRange net → IsLive net → (due : ℕ → ℕ → Option ℕ) (numbers : ℕ) (dates : List Date)
     → AreLocallyLatest net due numbers dates ↔ AreLatestRows net due numbers dates

@@ -4,10 +4,15 @@ use Rattle.dioid.specs.declared.dates.Date.{Date}
 use Rattle.dioid.specs.declared.dates.Date.TheVariants.{Early, Never}
 use Rattle.dioid.specs.Dates.{move}
 use Rattle.teg_net.specs.declared.entries.Place.{Place}
-use Rattle.teg_net.specs.Nets.{NetLists, IsNet, IsInput}
+use Rattle.teg_net.specs.Nets.{NetLists, IsInput}
 use Rattle.teg_net.specs.Circuits.{IsLive}
+use Rattle.teg_model.specs.LiveRanks.{HasEndsInRange}
 use Rattle.teg_model.specs.Datings.{IsLeastUnder}
 use Rattle.settled_laws.specs.SettledForms.{RepeatsAfter}
+
+-- no place enters an input
+abbrev pub EntersNoInput : NetLists → Type 0
+EntersNoInput net = All (λ p. IsInput net p.to.index → ⊥) net.places
 
 -- the step does not fall along the place, unless the date of this number at its end is never or that at its start is early
 abbrev pub StepsRiseAlong : (ℕ → ℕ → Date) → ℕ → (ℕ → ℤ) → Place → Type 0
@@ -29,5 +34,5 @@ pub record MovesInWindow (net : NetLists) (u x : ℕ → ℕ → Date) (after pe
 
 -- where the least dating of a live net moves by steps in such a window, it moves by them for ever
 abbrev pub WindowsGoOn : Type 0
-WindowsGoOn = (net : NetLists) → IsNet net → IsLive net → (u x : ℕ → ℕ → Date) → IsLeastUnder net u x → (after period last : ℕ) (step : ℕ → ℤ)
+WindowsGoOn = (net : NetLists) → HasEndsInRange net → EntersNoInput net → IsLive net → (u x : ℕ → ℕ → Date) → IsLeastUnder net u x → (after period last : ℕ) (step : ℕ → ℤ)
     → MovesInWindow net u x after period last step → RepeatsAfter (length net.transitions) x after period step

@@ -15,7 +15,8 @@ pub fn first_rows_are_least()
 
 /// In a live net, whole rows of dates of which each is the latest of what its firing waits for are
 /// the first rows of the least dating, by the input lists of the net, and no other rows are
-/// (chapter 2). It does nothing when it runs.
+/// (chapter 2). The net keeps the limits of a net file, from which the rows have their bound. It
+/// does nothing when it runs.
 pub fn tight_rows_are_first_rows()
     ensures { TightRowsAreFirstRows }
 {}
@@ -42,7 +43,8 @@ pub fn due_rows_are_listed()
 /// Where the least dating of a live net, under any releases, moves by steps in a window, it moves
 /// by them for ever (chapter 3): the window has room for two periods and for the tokens of each
 /// place, no step falls along a place, unless to a date that is never or from one that is early,
-/// and the releases of the inputs move by the steps too. It does nothing when it runs.
+/// and the releases of the inputs move by the steps too. No place enters an input, as in a net
+/// file. It does nothing when it runs.
 ///
 /// That no step falls is needed: of two machines of holds 2 and 1, of which the second is 9 numbers
 /// ahead, the faster seems to keep its own pace until the slower has caught up.
