@@ -7,6 +7,8 @@
 #[cfg(test)]
 mod advice;
 #[cfg(test)]
+mod built_nets;
+#[cfg(test)]
 mod by_hand;
 #[cfg(test)]
 mod calls;
@@ -30,6 +32,8 @@ mod logged_plants;
 mod made_nets;
 #[cfg(test)]
 mod matrices;
+#[cfg(test)]
+mod one_refusal;
 #[cfg(test)]
 mod plans;
 #[cfg(test)]

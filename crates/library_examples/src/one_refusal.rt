@@ -1,0 +1,71 @@
+//! A program whose calls refuse by one type.
+ghost use Rattle.std.specs.Prelude.{◌≤◌, length};
+ghost use Rattle.teg_due.specs.csv_records.Records.{most_file_bytes};
+
+use example_nets::says;
+use net_builder::NetBuilder;
+use std::alloc::Global;
+use teg_check::LiveNet;
+use teg_due::{read_due, read_log};
+use teg_jit::latest_inputs;
+use teg_net::Role;
+use teg_reader::read_net;
+use teg_refusals::Refusal;
+use teg_settle::settle;
+
+// A machine works 3 units on each part that comes in.
+const NET: &[u8] = b"transition = [{name = 'in', role = 'input'}, {name = 'work'}]
+place = [
+  {name = 'belt', from = 'in', to = 'work', hold = 2},
+  {name = 'busy', from = 'work', to = 'work', hold = 3, tokens = 1},
+]
+";
+
+// A circuit that has no token.
+const NO_TOKEN: &[u8] =
+    b"transition = [{name = 'a'}]\nplace = [{name = 'p', from = 'a', to = 'a', hold = 1}]\n";
+
+// How many firings a plan has for these due dates, how many a log has, and after how many the dates
+// of the net repeat.
+fn asked(alloc: Global, net: &[u8], due: &[u8], log: &[u8]) -> Result<(u32, usize, u64), Refusal>
+    requires due { length due.now ≤ most_file_bytes }
+    requires log { length log.now ≤ most_file_bytes }
+{
+    let held = LiveNet::new(alloc, read_net(alloc, net)?)?;
+    let due = read_due(alloc, held.net(), due)?;
+    let plan = latest_inputs(alloc, held.net(), held.live(), &due)?;
+    let log = read_log(alloc, held.net(), log)?;
+    let form = settle(alloc, held.net(), held.live())?;
+    Ok((plan.numbers(), log.len(), form.period()))
+}
+
+// The number of a second transition of this name.
+fn second(alloc: Global, name: &str) -> Result<u32, Refusal> {
+    let mut line = NetBuilder::new(alloc, "in", Role::Input)?;
+    Ok(line.transition(alloc, name, Role::Internal)?.index)
+}
+
+#[test]
+fn a_program_has_one_refusal(rt: HostRuntime) {
+    let alloc = rt.alloc();
+    let answer = asked(alloc, NET, b"work,1,10\n", b"in,0\nwork,2\n");
+    assert!(rt; matches!(answer, Ok((1, 2, 1))));
+    assert!(rt; says(alloc, asked(alloc, b"", b"", b""), "no transitions"));
+    let line = "token-free circuit of places 0";
+    assert!(rt; says(alloc, asked(alloc, NO_TOKEN, b"", b""), line));
+    let line = "due row 1 unknown transition";
+    assert!(rt; says(alloc, asked(alloc, NET, b"none,1,10\n", b""), line));
+    let line = "late transition 1 firing 1 due 1 least 2";
+    assert!(rt; says(alloc, asked(alloc, NET, b"work,1,1\n", b""), line));
+    let line = "log row 1 is not a firing";
+    assert!(rt; says(alloc, asked(alloc, NET, b"work,1,10\n", b"work\n"), line));
+}
+
+#[test]
+fn a_builder_refuses_by_it(rt: HostRuntime) {
+    let alloc = rt.alloc();
+    assert!(rt; matches!(second(alloc, "work"), Ok(1)));
+    assert!(rt; matches!(second(alloc, "no name"), Err(Refusal::BadName)));
+    let line = "transition 1 has the name of an earlier one";
+    assert!(rt; says(alloc, second(alloc, "in"), line));
+}
