@@ -1,6 +1,6 @@
 -- The rules of nets, kept by lists with one more entry.
-use Rattle.std.proofs.Common.{ℕ, ◌+◌, ◌<◌, ◌≤◌, ◌≡◌, ◌≢◌, List, [], ◌∷◌, ◌++◌, Bool, true, false, length, get_or, zero, suc, sym, subst, arith}
-use Rattle.std.specs.Prelude.{All, AllPairs, Any, IsSomeAnd, IsTrue, if◌then◌else◌, slice_get}
+use Rattle.std.proofs.Common.{ℕ, ◌<◌, ◌≡◌, ◌≢◌, List, [], ◌∷◌, ◌++◌, Bool, true, false, length, get_or, zero, suc, sym, subst, arith}
+use Rattle.std.specs.Prelude.{AllPairs, Any, IsSomeAnd, IsTrue, if◌then◌else◌, slice_get}
 use Rattle.std.proofs.lemmas.List.{get_or_default, length_push}
 use Rattle.std.proofs.lemmas.List.Elements.{All-push}
 use Rattle.std.proofs.lemmas.List.Quantifiers.{all_pairs_push}

@@ -1,5 +1,5 @@
 -- The first rule of nets that lists with one more entry break.
-use Rattle.std.proofs.Common.{ℕ, ◌+◌, ◌<◌, ◌≤◌, ◌≡◌, ◌≢◌, List, [], ◌∷◌, ◌++◌, length, get_or, take, refl, sym, subst, arith, Some}
+use Rattle.std.proofs.Common.{◌<◌, ◌≤◌, ◌≡◌, ◌≢◌, List, [], ◌∷◌, ◌++◌, length, get_or, take, refl, sym, subst, arith, Some}
 use Rattle.std.specs.Prelude.{All, AllPairs, Any, IsSomeAnd, slice_get}
 use Rattle.std.proofs.lemmas.List.{length_push, take_at}
 use Rattle.teg_net.specs.declared.entries.InputList.{InputList}
