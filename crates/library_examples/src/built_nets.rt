@@ -70,8 +70,9 @@ fn what_breaks_a_rule_is_not_added(rt: HostRuntime) -> Result<(), Fail> {
 
 // A place into the machine with these ready dates and so many tokens.
 fn ready_place(alloc: Global, ready: Vec<u64>, tokens: u32) -> Result<Place, Fail> {
+    let name = Name::new(alloc, "belt")?;
     Ok(Place {
-        name: Name::new(alloc, "belt")?,
+        name,
         from: TransitionId::new(0),
         to: TransitionId::new(1),
         hold: 2,

@@ -11,7 +11,6 @@ use teg_jit::latest_inputs;
 use teg_net::Role;
 use teg_reader::read_net;
 use teg_refusals::Refusal;
-use teg_settle::settle;
 
 // A machine works 3 units on each part that comes in.
 const NET: &[u8] = b"transition = [{name = 'in', role = 'input'}, {name = 'work'}]
@@ -25,18 +24,23 @@ place = [
 const NO_TOKEN: &[u8] =
     b"transition = [{name = 'a'}]\nplace = [{name = 'p', from = 'a', to = 'a', hold = 1}]\n";
 
-// How many firings a plan has for these due dates, how many a log has, and after how many the dates
-// of the net repeat.
-fn asked(alloc: Global, net: &[u8], due: &[u8], log: &[u8]) -> Result<(u32, usize, u64), Refusal>
-    requires due { length due.now ≤ most_file_bytes }
-    requires log { length log.now ≤ most_file_bytes }
+// How many firings a plan of the net for these due dates has of each transition.
+fn planned(alloc: Global, net: &[u8], due: &[u8]) -> Result<u32, Refusal>
+    requires { length due.now ≤ most_file_bytes }
 {
     let held = LiveNet::new(alloc, read_net(alloc, net)?)?;
     let due = read_due(alloc, held.net(), due)?;
     let plan = latest_inputs(alloc, held.net(), held.live(), &due)?;
-    let log = read_log(alloc, held.net(), log)?;
-    let form = settle(alloc, held.net(), held.live())?;
-    Ok((plan.numbers(), log.len(), form.period()))
+    Ok(plan.numbers())
+}
+
+// How many firings of the net a log has.
+fn logged(alloc: Global, net: &[u8], log: &[u8]) -> Result<usize, Refusal>
+    requires { length log.now ≤ most_file_bytes }
+{
+    let net = read_net(alloc, net)?;
+    let rows = read_log(alloc, &net, log)?;
+    Ok(rows.len())
 }
 
 // The number of a second transition of this name.
@@ -48,17 +52,22 @@ fn second(alloc: Global, name: &str) -> Result<u32, Refusal> {
 #[test]
 fn a_program_has_one_refusal(rt: HostRuntime) {
     let alloc = rt.alloc();
-    let answer = asked(alloc, NET, b"work,1,10\n", b"in,0\nwork,2\n");
-    assert!(rt; matches!(answer, Ok((1, 2, 1))));
-    assert!(rt; says(alloc, asked(alloc, b"", b"", b""), "no transitions"));
+    assert!(rt; matches!(planned(alloc, NET, b"work,1,10\n"), Ok(1)));
+    assert!(rt; says(alloc, planned(alloc, b"", b""), "no transitions"));
     let line = "token-free circuit of places 0";
-    assert!(rt; says(alloc, asked(alloc, NO_TOKEN, b"", b""), line));
+    assert!(rt; says(alloc, planned(alloc, NO_TOKEN, b""), line));
     let line = "due row 1 unknown transition";
-    assert!(rt; says(alloc, asked(alloc, NET, b"none,1,10\n", b""), line));
+    assert!(rt; says(alloc, planned(alloc, NET, b"none,1,10\n"), line));
     let line = "late transition 1 firing 1 due 1 least 2";
-    assert!(rt; says(alloc, asked(alloc, NET, b"work,1,1\n", b""), line));
-    let line = "log row 1 is not a firing";
-    assert!(rt; says(alloc, asked(alloc, NET, b"work,1,10\n", b"work\n"), line));
+    assert!(rt; says(alloc, planned(alloc, NET, b"work,1,1\n"), line));
+    assert!(rt; matches!(logged(alloc, NET, b"in,0\nwork,2\n"), Ok(2)));
+    assert!(rt;
+        says(
+            alloc,
+            logged(alloc, NET, b"work\n"),
+            "log row 1 is not a firing"
+        )
+    );
 }
 
 #[test]
