@@ -7,7 +7,7 @@ ghost use Rattle.answer_audit.specs.AnswerFindings.{IsFound, IsShownAlone};
 
 use crate::finding::Finding;
 use crate::kinds::Alone;
-use answer_check::{shown_list, shown_no_circuit, shown_slack};
+use answer_check::{refutes_list, shown_list, shown_no_circuit, shown_slack};
 use dating_check::shown_settled;
 use std::alloc::{AllocError, Global};
 use teg_net::{Net, OutOfMemory};
@@ -59,9 +59,12 @@ fn deadlock_finding(alloc: Global, net: &Net, text: &str) -> Result<Finding, Out
 fn list_finding(alloc: Global, net: &Net, text: &str) -> Result<Finding, OutOfMemory>
     ensures { IfOk result (IsFound net.now (IsShownAlone net.now Alone.Listed text.now)) }
 {
-    match shown_list(alloc, net, text)? {
-        Some(_) => Ok(Finding::Shown),
-        None => Ok(Finding::NotShown),
+    if shown_list(alloc, net, text)?.is_some() {
+        Ok(Finding::Shown)
+    } else if refutes_list(alloc, net, text)? {
+        Ok(Finding::Refuted)
+    } else {
+        Ok(Finding::NotShown)
     }
 }
 

@@ -9,7 +9,7 @@ use crate::files::{open_due, open_table, open_text};
 use crate::finding::Finding;
 use crate::question::Beside;
 use answer_check::shown_date;
-use dating_check::{shown_first_late, shown_table};
+use dating_check::{refutes_table, shown_first_late, shown_table};
 use delay_check::shown_kept;
 use delay_laws::Timetable;
 use std::alloc::Global;
@@ -21,9 +21,12 @@ use teg_outside::Shelf;
 fn plan_finding(alloc: Global, net: &Net, due: &Due, text: &str) -> Result<Finding, OutOfMemory>
     ensures { IfOk result (IsFound net.now (IsShownPlanFor net.now text.now due.now)) }
 {
-    match shown_table(alloc, net, due, text)? {
-        Some(_) => Ok(Finding::Shown),
-        None => Ok(Finding::NotShown),
+    if shown_table(alloc, net, due, text)?.is_some() {
+        Ok(Finding::Shown)
+    } else if refutes_table(alloc, net, due, text)? {
+        Ok(Finding::Refuted)
+    } else {
+        Ok(Finding::NotShown)
     }
 }
 

@@ -1,5 +1,5 @@
 -- Lines of dates that are those of the least dating.
-use Rattle.std.proofs.Common.{ℕ, ◌+◌, ◌*◌, ◌/◌, ◌<◌, ◌≤◌, ◌≡◌, List, [], ◌∷◌, length, map, get_or, refl, sym, ap, ◌∙◌, arith}
+use Rattle.std.proofs.Common.{ℕ, ◌+◌, ◌*◌, ◌/◌, ◌<◌, ◌≤◌, ◌≡◌, List, [], ◌∷◌, length, map, refl, sym, ap, ◌∙◌, arith}
 use Rattle.std.proofs.Math.Nat.{mul-div_cancel}
 use Rattle.std.proofs.lemmas.List.{ext_get_or}
 use Rattle.std.proofs.lemmas.List.FromFn.{get_or-map-range_with_len, length-map-range_with_len}
@@ -10,7 +10,8 @@ use Rattle.teg_net.specs.Circuits.{IsLive}
 use Rattle.teg_net.specs.Nets.{NetLists, IsNet}
 use Rattle.teg_model.specs.Datings.{IsLeastDating, listed_releases}
 use Rattle.teg_model.specs.LeastDatings.{LeastDatingsExist}
-use Rattle.teg_model.proofs.OfNet.{net_ends}
+use Rattle.teg_net.specs.Limits.{greatest_firing_number}
+use Rattle.teg_model.proofs.OfNet.{net_ends, only_least}
 use Rattle.dating_certificates.specs.CheckedRows.{AreFirstRows, date_in_rows}
 use Rattle.teg_text.specs.Lines.{written}
 use Rattle.teg_text.specs.ValueWords.{date_word}
@@ -54,3 +55,13 @@ least_told net dates count text ok live exist first whole same =
       least.1,
       sym same ∙ ap written (rows_same net (date_in_rows (length net.transitions) dates) least.0 count (least_date net dates count ok first whole least.0 least.1)),
     )
+
+-- whole rows with the dates of the least dating are its first rows
+pub first_of_least : (net : NetLists) (dates : List Date) (count : ℕ) → IsNet net → count ≤ greatest_firing_number → length dates ≡ count * length net.transitions
+    → (x : ℕ → ℕ → Date) → IsLeastDating net x → ((t k : ℕ) → t < length net.transitions → 1 ≤ k → k ≤ count → date_in_rows (length net.transitions) dates t k ≡ x t k)
+    → AreFirstRows net dates
+first_of_least net dates count ok few whole x least equal = record {
+  rows = count;
+  whole = record { whole = whole; few = few };
+  same = λ y other t k l o m. equal t k l o m ∙ only_least net (listed_releases net) x y least other t k l o;
+}

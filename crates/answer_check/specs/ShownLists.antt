@@ -1,5 +1,5 @@
 -- What the text of a list of dates shows.
-use Rattle.std.specs.Prelude.{ℕ, ◌≤◌, ◌≡◌, ◌∷◌, [], List, codes, length, map}
+use Rattle.std.specs.Prelude.{ℕ, ◌<◌, ◌≤◌, ◌≡◌, ◌∷◌, [], List, codes, length, map}
 use Rattle.std.specs.Fmt.{decimal}
 use Rattle.std.specs.List.{range_with_len}
 use Rattle.teg_model.specs.dioid.declared.dates.Date.{Date}
@@ -33,3 +33,14 @@ TellsLeastDates net text count = (x : ℕ → ℕ → Date) × IsLeastDating net
 pub record IsShownList (net : NetLists) (text : List ℕ) (count : ℕ) : Type 0 where
   pub live : IsLive net
   pub told : TellsLeastDates net text count
+
+-- the whole text is that of these dates up to this number, which are not those of the least dating
+abbrev pub TellsOtherDates : NetLists → List ℕ → ℕ → (ℕ → ℕ → Date) → Type 0
+TellsOtherDates net text count told = (text ≡ written (lines_of_dating net told count))
+    × ((x : ℕ → ℕ → Date) → IsLeastDating net x → ((t k : ℕ) → t < length net.transitions → 1 ≤ k → k ≤ count → told t k ≡ x t k) → ⊥)
+
+-- the net is live, and the text tells dates up to a number that are not those of its least dating; so it is no text that is shown
+pub record IsRefutedList (net : NetLists) (text : List ℕ) : Type 0 where
+  pub live : IsLive net
+  pub other : (count : ℕ) × (told : ℕ → ℕ → Date) × TellsOtherDates net text count told
+  pub not_shown : ((count : ℕ) × IsShownList net text count) → ⊥

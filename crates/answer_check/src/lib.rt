@@ -3,6 +3,7 @@
 //! | Answer | What is read | Call |
 //! |---|---|---|
 //! | `list` | its dates | [`shown_list`] |
+//! | `list`: false | its dates | [`refutes_list`] |
 //! | `date` | the dates of the list of as many firings | [`shown_date`] |
 //! | `cycle`, `slack`: no circuit | numbers are searched for | [`shown_no_circuit`] |
 //! | `slack` | circuits, potentials and numbers are searched for | [`shown_slack`] |
@@ -24,6 +25,7 @@ mod list;
 mod list_reading;
 mod no_circuit;
 mod reach;
+mod refuted_list;
 mod slack;
 mod slack_reading;
 mod slack_search;
@@ -31,4 +33,5 @@ mod slack_search;
 pub use date::{ShownDate, shown_date};
 pub use list::shown_list;
 pub use no_circuit::shown_no_circuit;
+pub use refuted_list::refutes_list;
 pub use slack::{ShownSlack, shown_slack};

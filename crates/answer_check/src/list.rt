@@ -60,7 +60,12 @@ fn head(alloc: Global, net: &Net, count: u32) -> Result<String, AllocError>
 }
 
 // The lines of the dates, row after row.
-fn lines_of(alloc: Global, net: &Net, count: u32, dates: &[Date]) -> Result<String, AllocError>
+pub(crate) fn lines_of(
+    alloc: Global,
+    net: &Net,
+    count: u32,
+    dates: &[Date],
+) -> Result<String, AllocError>
     requires { length dates.now ≡ count * length net.now.transitions }
     ensures { IfOk result (λ text. string_bytes text ≡ written (lines_of_dating net.now
         (date_in_rows (length net.now.transitions) dates.now) count)) }

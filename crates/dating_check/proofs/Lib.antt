@@ -1,2 +1,3 @@
 mod FirstLate
 mod FormLines
+pub mod TablesApart

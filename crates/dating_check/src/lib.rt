@@ -4,6 +4,7 @@
 //! |---|---|---|
 //! | `dates` | its dates and steps | [`shown_settled`] |
 //! | `jit`: all its lines | the dates and steps of the lines | [`shown_table`] |
+//! | `jit`: false | the same | [`refutes_table`] |
 //! | `jit`: late | the walk; least dates are found anew | [`shown_first_late`] |
 //!
 //! Each call asks first whether the net is seen to be live, reads a text without a promise, as those
@@ -19,6 +20,7 @@
 
 mod first_late;
 mod least_rows;
+mod refuted_table;
 mod rows;
 mod settled;
 mod settled_reading;
@@ -27,5 +29,6 @@ mod table_reading;
 mod ways;
 
 pub use first_late::shown_first_late;
+pub use refuted_table::refutes_table;
 pub use settled::{ShownSettled, shown_settled};
 pub use table::shown_table;

@@ -1,5 +1,5 @@
 //! Lists of dates, one date, nets without a circuit, and slack.
-use answer_check::{shown_date, shown_list, shown_no_circuit, shown_slack};
+use answer_check::{refutes_list, shown_date, shown_list, shown_no_circuit, shown_slack};
 use dioid::Date;
 use std::alloc::Global;
 use teg_reader::read_net;
@@ -40,10 +40,12 @@ place = [
 ]
 ";
 
-// How many firings the text of `teg list` shows of this net.
-fn listed(alloc: Global, net: &str, text: &str) -> Option<u32> {
+// How many firings the text of `teg list` shows of this net, and whether it is refuted.
+fn listed(alloc: Global, net: &str, text: &str) -> Option<(Option<u32>, bool)> {
     let net = read_net(alloc, net.as_bytes()).ok()?;
-    shown_list(alloc, &net, text).ok().flatten()
+    let firings = shown_list(alloc, &net, text).ok()?;
+    let refuted = refutes_list(alloc, &net, text).ok()?;
+    Some((firings, refuted))
 }
 
 // The date that the text of `teg date` shows with that of `teg list` of this net.
@@ -70,24 +72,32 @@ fn paced(alloc: Global, net: &str, text: &str) -> Option<(u64, u64)> {
     }
 }
 
-// Nets, texts of lists, and how many firings these show.
-const LISTS: [(&str, &str, Option<u32>); 4] = [
+// Nets, texts of lists, how many firings these show, and whether they are refuted.
+const LISTS: [(&str, &str, Option<u32>, bool); 4] = [
     (
         KANBAN,
         "dates of 3 firings\ntransition m1 m2 m3\n1 0 4 10\n2 4 10 16\n3 8 16 22\n",
         Some(3),
+        false,
     ),
     (
         KANBAN,
         "dates of 2 firings\ntransition m1 m2 m3\n1 0 4 10\n2 4 10 17\n",
         None,
+        true,
     ),
     (
         KANBAN,
         "dates of 2 firings\ntransition m1 m2 m3\n1 0 4 10\n3 4 10 16\n",
         None,
+        false,
     ),
-    (DEAD, "dates of 1 firings\ntransition a b\n1 5 5\n", None),
+    (
+        DEAD,
+        "dates of 1 firings\ntransition a b\n1 5 5\n",
+        None,
+        false,
+    ),
 ];
 
 // The list of two firings of the kanban line.
@@ -102,8 +112,11 @@ const DATES: [(&str, Option<Date>); 3] = [
 
 #[test]
 fn lists_and_dates_are_shown(rt: HostRuntime) {
-    for (net, text, firings) in &LISTS {
-        assert!(rt; listed(rt.alloc(), net, text) == *firings, "{text}");
+    for (net, text, firings, refuted) in &LISTS {
+        assert!(rt;
+            listed(rt.alloc(), net, text) == Some((*firings, *refuted)),
+            "{text}"
+        );
     }
     for (text, date) in &DATES {
         assert!(rt; dated(rt.alloc(), KANBAN, LIST, text) == *date, "{text}");

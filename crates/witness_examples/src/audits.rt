@@ -22,7 +22,7 @@ path material 1 by feed saw 1 by to_drill drill 1 by drill_free drill 2 by to_sh
 ";
 
 // The files of the shelf, by name.
-const FILES: [(&str, &str); 22] = [
+const FILES: [(&str, &str); 28] = [
     (
         "loop",
         "transition = [{ name = \"a\" }, { name = \"b\" }]
@@ -64,6 +64,14 @@ place = [
     ("other counts", "live\ntransitions 2\nplaces 3\n"),
     ("deadlock", "refused: token-free circuit ab ba\n"),
     ("list", "dates of 2 firings\ntransition a b\n1 0 3\n2 5 8\n"),
+    (
+        "other list",
+        "dates of 2 firings\ntransition a b\n1 0 3\n2 5 9\n",
+    ),
+    (
+        "turned list",
+        "dates of 2 firings\ntransition b a\n1 0 3\n2 5 9\n",
+    ),
     ("date", "date b 2 8\n"),
     ("other date", "date b 2 9\n"),
     ("none", "no circuit\n"),
@@ -85,6 +93,19 @@ place = [
         "plan",
         "latest inputs for 1 firings\nlatest a 1 7 by ab\nlatest b 1 10 due\n",
     ),
+    (
+        "other plan",
+        "latest inputs for 1 firings\nlatest a 1 6 by ab\nlatest b 1 10 due\n",
+    ),
+    (
+        "other step",
+        "latest inputs for 1 firings\nlatest a 1 7 by ba\nlatest b 1 10 due\n",
+    ),
+    ("soon", "b,1,2\n"),
+    (
+        "no plan",
+        "latest inputs for 1 firings\nlatest a 1 -1 by ab\nlatest b 1 2 due\n",
+    ),
     ("rows", "ship,1,15\nship,2,20\n"),
     ("late", LATE),
     (
@@ -100,7 +121,7 @@ place = [
 // The words of a call, how it ends, and what it writes.
 type Call<'a> = (&'a [&'a str], AuditStatus, &'a str);
 
-const CALLS: [Call<'static>; 32] = [
+const CALLS: [Call<'static>; 37] = [
     (&["loop", "live"], AuditStatus::Shown, "shown live\n"),
     (
         &["loop", "other counts"],
@@ -127,6 +148,16 @@ const CALLS: [Call<'static>; 32] = [
         &["loop", "list"],
         AuditStatus::Shown,
         "shown dates of 2 firings\n",
+    ),
+    (
+        &["loop", "other list"],
+        AuditStatus::Refuted,
+        "refuted dates of 2 firings\n",
+    ),
+    (
+        &["loop", "turned list"],
+        AuditStatus::NotShown,
+        "not shown dates of 2 firings\n",
     ),
     (
         &["loop", "date", "list"],
@@ -178,6 +209,21 @@ const CALLS: [Call<'static>; 32] = [
         &["loop", "plan", "due"],
         AuditStatus::Shown,
         "shown latest inputs for 1 firings\nshown latest a 1 7 by ab\nshown latest b 1 10 due\n",
+    ),
+    (
+        &["loop", "other plan", "due"],
+        AuditStatus::Refuted,
+        "refuted latest inputs for 1 firings\nrefuted latest a 1 6 by ab\nrefuted latest b 1 10 due\n",
+    ),
+    (
+        &["loop", "other step", "due"],
+        AuditStatus::NotShown,
+        "not shown latest inputs for 1 firings\nnot shown latest a 1 7 by ba\nnot shown latest b 1 10 due\n",
+    ),
+    (
+        &["loop", "no plan", "soon"],
+        AuditStatus::Refuted,
+        "refuted latest inputs for 1 firings\nrefuted latest a 1 -1 by ab\nrefuted latest b 1 2 due\n",
     ),
     (
         &["loop", "plan"],

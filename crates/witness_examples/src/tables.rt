@@ -1,8 +1,7 @@
 //! The table of latest dates.
-use dating_check::shown_table;
+use dating_check::{refutes_table, shown_table};
 use std::alloc::Global;
 use teg_due::read_due;
-use teg_net::Net;
 use teg_reader::read_net;
 
 const SHOP: &str =
@@ -31,27 +30,24 @@ latest ship 2 40 due
 latest ship 3 free
 ";
 
-// The number that the text shows of the shop with these due dates.
-fn shown_of(alloc: Global, shop: &Net, due: &str, text: &str) -> Option<u32> {
+// The number that the text shows of the shop with these due dates, and whether it is refuted.
+fn found(alloc: Global, due: &str, text: &str) -> Option<(Option<u32>, bool)> {
+    let shop = read_net(alloc, SHOP.as_bytes()).ok()?;
     let bytes = due.as_bytes();
     if bytes.len() > 100 {
         return None;
     }
-    let due = read_due(alloc, shop, bytes).ok()?;
-    shown_table(alloc, shop, &due, text).ok().flatten()
+    let due = read_due(alloc, &shop, bytes).ok()?;
+    let number = shown_table(alloc, &shop, &due, text).ok()?;
+    let refuted = refutes_table(alloc, &shop, &due, text).ok()?;
+    Some((number, refuted))
 }
 
-// The same of the shop as its file has it.
-fn shown(alloc: Global, due: &str, text: &str) -> Option<u32> {
-    let shop = read_net(alloc, SHOP.as_bytes()).ok()?;
-    shown_of(alloc, &shop, due, text)
-}
-
-// Due dates, texts, and the number that these show.
-const TABLES: [(&str, &str, Option<u32>); 9] = [
-    ("ship,2,40\ndrill,3,36\n", PLAN, Some(3)),
-    ("ship,2,40\ndrill,3,37\n", PLAN, None),
-    ("ship,2,40\ndrill,3,36\nship,4,90\n", PLAN, None),
+// Due dates, texts, the number that these show, and whether they are refuted.
+const TABLES: [(&str, &str, Option<u32>, bool); 9] = [
+    ("ship,2,40\ndrill,3,36\n", PLAN, Some(3), false),
+    ("ship,2,40\ndrill,3,37\n", PLAN, None, true),
+    ("ship,2,40\ndrill,3,36\nship,4,90\n", PLAN, None, true),
     // what no inputs keep shows nothing, and no table with another step, date or role
     (
         "ship,1,15\n",
@@ -62,6 +58,7 @@ latest drill 1 7 by to_ship
 latest ship 1 15 due
 ",
         Some(1),
+        false,
     ),
     (
         "ship,1,14\n",
@@ -72,6 +69,7 @@ latest drill 1 6 by to_ship
 latest ship 1 14 due
 ",
         None,
+        true,
     ),
     (
         "ship,1,15\n",
@@ -82,6 +80,7 @@ latest drill 1 7 by to_ship
 latest ship 1 15 due
 ",
         None,
+        true,
     ),
     (
         "ship,1,15\n",
@@ -92,6 +91,7 @@ latest drill 1 7 by to_ship
 latest ship 1 15 due
 ",
         None,
+        true,
     ),
     (
         "ship,1,15\n",
@@ -102,6 +102,7 @@ latest drill 1 7 next
 latest ship 1 15 due
 ",
         None,
+        false,
     ),
     (
         "ship,1,15\n",
@@ -112,12 +113,16 @@ latest drill 1 7 by to_ship
 latest ship 1 15 due
 ",
         None,
+        false,
     ),
 ];
 
 #[test]
 fn tables_are_shown(rt: HostRuntime) {
-    for (due, text, number) in &TABLES {
-        assert!(rt; shown(rt.alloc(), due, text) == *number, "{due}");
+    for (due, text, number, refuted) in &TABLES {
+        assert!(rt;
+            found(rt.alloc(), due, text) == Some((*number, *refuted)),
+            "{due}"
+        );
     }
 }
