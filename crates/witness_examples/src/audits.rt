@@ -177,8 +177,8 @@ const CALLS: [Call<'static>; 37] = [
     (&["plain", "none"], AuditStatus::Shown, "shown no circuit\n"),
     (
         &["loop", "none"],
-        AuditStatus::NotShown,
-        "not shown no circuit\n",
+        AuditStatus::Refuted,
+        "refuted no circuit\n",
     ),
     (
         &["loop", "slack"],
