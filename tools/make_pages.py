@@ -246,6 +246,23 @@ def item_of(text, name):
     return found[0] if found else ""
 
 
+def statements_of(text, name, above=()):
+    """The statements of a function in the text of a source file, four spaces to the left. Those of another function of
+    that file stand in the place of a line that calls it, without the line that it answers: a test may lend what it owns
+    to functions of its own."""
+    lines = item_of(text, name).splitlines()
+    begun = next((at for at, line in enumerate(lines) if re.search(r"(^| )\{$", line)), len(lines))
+    others = [it for it in re.findall(r"^(?:pub )?fn (\w+)", text, re.M) if it not in (name, *above)]
+    told = []
+    for at, line in enumerate(lines[begun + 1 : -1], begun + 2):
+        called = [it for it in others if re.search(rf"(?<![\w.:]){it}\(", line)]
+        if called:
+            told += [it for other in called for it in statements_of(text, other, (name, *above))]
+        elif not above or at < len(lines) - 1 or line.endswith((";", "}")):
+            told.append(line.removeprefix("    "))
+    return told
+
+
 def told_calls_of_head(crate):
     """Tells where the head of a crate shows a call that is not the text of its test."""
     section = "\n".join(head_lines(crate)).partition(CALL)[2]
@@ -255,9 +272,9 @@ def told_calls_of_head(crate):
     if not section:
         return []
     path = TOP / f"crates/{shown[1]}/src/{shown[2]}.rt"
-    test = item_of(path.read_text(), shown[3]) if path.is_file() else ""
-    within = "".join(line.removeprefix("    ") for line in test.splitlines(keepends=True))
-    is_there = "#[test]" in test and f"\n{shown[4]}" in within
+    text = path.read_text() if path.is_file() else ""
+    within = "".join(f"{line}\n" for line in statements_of(text, shown[3]))
+    is_there = "#[test]" in item_of(text, shown[3]) and f"\n{shown[4]}" in f"\n{within}"
     return [] if is_there else [f"the head of {crate} shows what is not in the test {shown[3]} of {path.relative_to(TOP)}"]
 
 

@@ -353,6 +353,17 @@ impl Bag {
         self.write(path, FILES[path].replace("pub use", head.replace("From ", "In ")))
         self.assertIn("the head of low does not say which test it shows", printed(make_pages.main, True)[0])
 
+    def test_a_test_lends_what_it_owns_to_functions_of_its_own(self):
+        lent = "fn look(n: &u8)\n    requires { IsFew n }\n{\n    count(n);\n    n\n}\n\n"
+        test = "#[test]\nfn few() {\n    let n = 1;\n    let m = look(&n);\n    end(m);\n}\n"
+        self.write("crates/high/src/calls.rt", lent + test)
+        path = "crates/low/src/lib.rt"
+        head = "//!\n//! ## Call it\n//!\n//! From `high::calls::few`:\n//!\n//! ```rust\n//! let n = 1;\n//! count(n);\n//! end(m);\n//! ```\npub use"
+        self.write(path, FILES[path].replace("pub use", head))
+        self.assertEqual(printed(make_pages.main, False), ("", 0))
+        self.write("crates/high/src/calls.rt", test)
+        self.assertIn("the head of low shows what is not in the test few", printed(make_pages.main, True)[0])
+
     def test_crates_of_ones_own_are_passed_over(self):
         printed(make_pages.main, False)
         self.write("crates.txt", f"{FILES['crates.txt']}{common.OWN}, and more words\nmine: low\n")

@@ -1,5 +1,6 @@
 //! What an example has before it asks its question: a net that is held, rows that are due, and the
-//! transitions and places of these names.
+//! transitions and places of these names; and questions to the net of a file, which are handed in, so
+//! that the net is let go at one place for all of them.
 ghost use Rattle.std.specs.Prelude.{◌<◌, IfOk, length};
 ghost use Rattle.teg_due.specs.RowRules.{IsDueOf};
 
@@ -7,7 +8,7 @@ use std::alloc::Global;
 use std::test::Fail;
 use teg_check::LiveNet;
 use teg_due::{Due, read_due};
-use teg_net::{Net, PlaceId, TransitionId};
+use teg_net::{Net, OutOfMemory, PlaceId, TransitionId};
 use teg_reader::read_net;
 
 /// The net of the file.
@@ -18,6 +19,60 @@ pub fn read(alloc: Global, file: &[u8]) -> Result<Net, Fail> {
 /// The net of the file, held.
 pub fn held(alloc: Global, file: &[u8]) -> Result<LiveNet, Fail> {
     Ok(LiveNet::new(alloc, read(alloc, file)?)?)
+}
+
+/// What the question answers of the net of the file.
+pub fn ask_net<T, F: FnOnce(Global, &Net) -> Result<T, Fail> + Drop>(
+    alloc: Global,
+    file: &[u8],
+    ask: F,
+) -> Result<T, Fail>
+    requires { F.IsAlwaysCallable ask }
+{
+    let net = read(alloc, file)?;
+    ask(alloc, &net)
+}
+
+/// What the question answers of the net of the file, held.
+pub fn ask_held<T, F: FnOnce(Global, &LiveNet) -> Result<T, Fail> + Drop>(
+    alloc: Global,
+    file: &[u8],
+    ask: F,
+) -> Result<T, Fail>
+    requires { F.IsAlwaysCallable ask }
+{
+    let held = held(alloc, file)?;
+    ask(alloc, &held)
+}
+
+// What the reader of an answer's text tells of the net of the file and of this text.
+fn told_of<T, F: FnOnce(Global, &Net, &str) -> Result<T, OutOfMemory> + Drop>(
+    alloc: Global,
+    file: &[u8],
+    text: &str,
+    reader: F,
+) -> Result<T, Fail>
+    requires { F.IsAlwaysCallable reader }
+{
+    let net = read(alloc, file)?;
+    let told = reader(alloc, &net, text);
+    Ok(told?)
+}
+
+/// Whether the reader of an answer's text tells this of the net of the file and of this text.
+pub fn tells<T, F>(
+    alloc: Global,
+    file: &[u8],
+    text: &str,
+    reader: F,
+    wanted: &T,
+) -> Result<bool, Fail>
+where
+    T: PartialEq + Drop,
+    F: FnOnce(Global, &Net, &str) -> Result<T, OutOfMemory> + Drop,
+    requires { F.IsAlwaysCallable reader }
+{
+    Ok(told_of(alloc, file, text, reader)? == *wanted)
 }
 
 /// The rows of a due file of at most 1,000 bytes.

@@ -8,7 +8,7 @@ mod lines;
 mod made;
 mod nets;
 
-pub use asked::{due_rows, held, place_named, read, transition_named};
+pub use asked::{ask_held, ask_net, due_rows, held, place_named, read, tells, transition_named};
 pub use lines::says;
 pub use made::{place, transition, transitions};
 pub use nets::{KANBAN, LOOP, SHOP};

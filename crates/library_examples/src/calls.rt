@@ -1,18 +1,32 @@
-//! Calls that heads of crates show, where no chapter of the page on the library has them.
+//! Calls that heads of crates show, where no chapter of the page on the library has them. What a
+//! test asks of a net that it owns stands in a function to which it lends the net.
+ghost use Rattle.std.specs.Prelude.{◌<◌, IfOk, length};
+
 use example_nets::LOOP;
+use std::alloc::Global;
+use std::process::Abort;
 use std::test::Fail;
 use teg_check::{CheckRefusal, LiveNet};
-use teg_due::{DueRefusal, read_due};
-use teg_net::{Ratio, is_circuit, time_of, tokens_of};
+use teg_due::{Due, DueRefusal, read_due};
+use teg_net::{Net, PlaceId, Ratio, is_circuit, time_of, tokens_of};
 use teg_reader::{ReadRefusal, read_net, write_net};
 use teg_sizing::{Sizing, size};
+
+// The places of the loop, there and back.
+fn both_places(net: &Net) -> Result<(PlaceId, PlaceId), Fail>
+    ensures there { IfOk result (λ found. found.0.index < length net.now.places) }
+    ensures back { IfOk result (λ found. found.1.index < length net.now.places) }
+{
+    let there = net.find_place("ab").ok_or("no such place")?;
+    let back = net.find_place("ba").ok_or("no such place")?;
+    Ok((there, back))
+}
 
 #[test]
 fn a_circuit_has_a_time_and_tokens(rt: HostRuntime) -> Result<(), Fail> {
     let alloc = rt.alloc();
     let mut net = read_net(alloc, LOOP)?;
-    let there = net.find_place("ab").ok_or("no such place")?;
-    let back = net.find_place("ba").ok_or("no such place")?;
+    let (there, back) = both_places(&net)?;
     let circuit = [there, back];
     assert!(rt; is_circuit(&net, &circuit));
     assert!(rt; time_of(&net, &circuit) == 5 && tokens_of(&net, &circuit) == 1);
@@ -21,24 +35,39 @@ fn a_circuit_has_a_time_and_tokens(rt: HostRuntime) -> Result<(), Fail> {
     Ok(())
 }
 
+// The place that leads back is as the file has it.
+fn look_at_back(rt: &impl Abort, net: &Net) -> Result<(), Fail> {
+    let back = net.find_place("ba").ok_or("no such place")?;
+    assert!(rt; net.place(back).hold == 2);
+    Ok(())
+}
+
+// A file that was written is read again.
+fn read_again(rt: &impl Abort, alloc: Global, file: Vec<u8>) -> Result<(), Fail> {
+    let again = read_net(alloc, &file)?;
+    assert!(rt; again.places().len() == 2);
+    Ok(())
+}
+
+// A file with nothing in it is refused.
+fn read_nothing(rt: &impl Abort, alloc: Global) {
+    let empty = read_net(alloc, b"");
+    assert!(rt; matches!(empty, Err(ReadRefusal::NoTransitions)));
+}
+
 #[test]
 fn a_net_is_read_and_written(rt: HostRuntime) -> Result<(), Fail> {
     let alloc = rt.alloc();
     let net = read_net(alloc, LOOP)?;
-    let back = net.find_place("ba").ok_or("no such place")?;
-    assert!(rt; net.place(back).hold == 2);
+    look_at_back(&rt, &net)?;
     let file = write_net(alloc, &net)?;
-    let again = read_net(alloc, &file)?;
-    assert!(rt; again.places().len() == 2);
-    let empty = read_net(alloc, b"");
-    assert!(rt; matches!(empty, Err(ReadRefusal::NoTransitions)));
+    read_again(&rt, alloc, file)?;
+    read_nothing(&rt, alloc);
     Ok(())
 }
 
-#[test]
-fn a_net_is_held_and_changed(rt: HostRuntime) -> Result<(), Fail> {
-    let alloc = rt.alloc();
-    let mut held = LiveNet::new(alloc, read_net(alloc, LOOP)?)?;
+// The place that leads back takes another holding time, and not that it has no token.
+fn change_back(rt: &impl Abort, alloc: Global, held: &mut LiveNet) -> Result<(), Fail> {
     let back = held.net().find_place("ba").ok_or("no such place")?;
     held.set_hold(back, 4);
     let place = held.net().place(back);
@@ -49,17 +78,43 @@ fn a_net_is_held_and_changed(rt: HostRuntime) -> Result<(), Fail> {
 }
 
 #[test]
-fn due_dates_are_read(rt: HostRuntime) -> Result<(), Fail> {
+fn a_net_is_held_and_changed(rt: HostRuntime) -> Result<(), Fail> {
     let alloc = rt.alloc();
-    let net = read_net(alloc, LOOP)?;
-    let due = read_due(alloc, &net, b"transition,number,date\nb,1,10\nb,2,20\n")?;
+    let mut held = LiveNet::new(alloc, read_net(alloc, LOOP)?)?;
+    change_back(&rt, alloc, &mut held)
+}
+
+// The rows are as the file has them.
+fn look_at_rows(rt: &impl Abort, due: Due) {
     assert!(rt;
         due.rows
             .iter()
             .all(|row| row.date == 10 * u64::from(row.number))
     );
+}
+
+// A firing that is due twice is refused.
+fn read_twice(rt: &impl Abort, alloc: Global, net: Net) {
     let twice = read_due(alloc, &net, b"b,1,10\nb,1,20\n");
     assert!(rt; matches!(twice, Err(DueRefusal::RepeatedDue { row: 2 })));
+}
+
+#[test]
+fn due_dates_are_read(rt: HostRuntime) -> Result<(), Fail> {
+    let alloc = rt.alloc();
+    let net = read_net(alloc, LOOP)?;
+    let due = read_due(alloc, &net, b"transition,number,date\nb,1,10\nb,2,20\n")?;
+    look_at_rows(&rt, due);
+    read_twice(&rt, alloc, net);
+    Ok(())
+}
+
+// Two more tokens of the place that leads back are enough for a cycle time of 2.
+fn size_back(rt: &impl Abort, alloc: Global, held: &LiveNet) -> Result<(), Fail> {
+    let back = held.net().find_place("ba").ok_or("no such place")?;
+    let target = Ratio::of(2, 1);
+    let sizing = size(alloc, held.net(), held.live(), back, &target)?;
+    assert!(rt; matches!(sizing, Sizing::Enough { extra: 2, .. }));
     Ok(())
 }
 
@@ -67,9 +122,5 @@ fn due_dates_are_read(rt: HostRuntime) -> Result<(), Fail> {
 fn a_place_is_given_more_tokens(rt: HostRuntime) -> Result<(), Fail> {
     let alloc = rt.alloc();
     let held = LiveNet::new(alloc, read_net(alloc, LOOP)?)?;
-    let back = held.net().find_place("ba").ok_or("no such place")?;
-    let target = Ratio::of(2, 1);
-    let sizing = size(alloc, held.net(), held.live(), back, &target)?;
-    assert!(rt; matches!(sizing, Sizing::Enough { extra: 2, .. }));
-    Ok(())
+    size_back(&rt, alloc, &held)
 }

@@ -1,12 +1,13 @@
 //! Chapters of the page on the library: a net that is read, checked, asked for its pace, changed
-//! and asked again, and an answer that is checked.
-use example_nets::held;
+//! and asked again, and an answer that is checked. What a test asks of a net that it owns stands in
+//! functions to which it lends the net.
 use std::alloc::Global;
+use std::process::Abort;
 use std::test::Fail;
 use teg_certificates::check_cycle;
 use teg_check::LiveNet;
 use teg_cycle::{best_ratio, cycle};
-use teg_net::{PartAnswer, Ratio};
+use teg_net::{CycleAnswer, PartAnswer, Ratio};
 use teg_parts::split;
 use teg_reader::read_net;
 
@@ -28,12 +29,18 @@ fn a_net_is_read_and_checked(rt: HostRuntime) -> Result<(), Fail> {
     Ok(())
 }
 
+// The cycle times of a net that is held, part by part.
+fn cycle_times(alloc: Global, held: &LiveNet) -> Result<CycleAnswer, Fail> {
+    let parts = split(alloc, held.net())?;
+    let answer = cycle(alloc, held.net(), held.live(), &parts)?;
+    Ok(answer)
+}
+
 #[test]
 fn a_net_has_a_pace_and_a_bottleneck(rt: HostRuntime) -> Result<(), Fail> {
     let alloc = rt.alloc();
     let held = LiveNet::new(alloc, read_net(alloc, NET)?)?;
-    let parts = split(alloc, held.net())?;
-    let answer = cycle(alloc, held.net(), held.live(), &parts)?;
+    let answer = cycle_times(alloc, &held)?;
     assert!(rt; best_ratio(&answer) == Some(Ratio::of(3, 1)));
     for part in answer.parts.iter() {
         if let PartAnswer::Best { circuit, .. } = part {
@@ -43,19 +50,34 @@ fn a_net_has_a_pace_and_a_bottleneck(rt: HostRuntime) -> Result<(), Fail> {
     Ok(())
 }
 
-// The pace of the net where the machine takes 5 units for a part.
-fn pace_when_slower(alloc: Global, held: &mut LiveNet) -> Result<Option<Ratio>, Fail> {
+// The machine takes 5 units for a part from now on.
+fn slow_down(held: &mut LiveNet) -> Result<(), Fail> {
     let busy = held.net().find_place("busy").ok_or("no such place")?;
     held.set_hold(busy, 5);
-    let parts = split(alloc, held.net())?;
-    let answer = cycle(alloc, held.net(), held.live(), &parts)?;
-    Ok(best_ratio(&answer))
+    Ok(())
+}
+
+// The pace of the net where it is so slow.
+fn pace_when_slower(alloc: Global, held: &mut LiveNet) -> Result<Option<Ratio>, Fail> {
+    slow_down(held)?;
+    Ok(best_ratio(&cycle_times(alloc, held)?))
 }
 
 #[test]
 fn a_net_is_changed_and_asked_again(rt: HostRuntime) -> Result<(), Fail> {
-    let pace = pace_when_slower(rt.alloc(), &mut held(rt.alloc(), NET)?);
+    let alloc = rt.alloc();
+    let mut held = LiveNet::new(alloc, read_net(alloc, NET)?)?;
+    let pace = pace_when_slower(alloc, &mut held);
     assert!(rt; pace? == Some(Ratio::of(5, 1)));
+    Ok(())
+}
+
+// The answer is a certificate of the net, and no longer where the net is slower.
+fn check_twice(rt: &impl Abort, alloc: Global, held: &mut LiveNet) -> Result<(), Fail> {
+    let answer = cycle_times(alloc, held)?;
+    assert!(rt; check_cycle(held.net(), &answer));
+    slow_down(held)?;
+    assert!(rt; !check_cycle(held.net(), &answer));
     Ok(())
 }
 
@@ -63,11 +85,5 @@ fn a_net_is_changed_and_asked_again(rt: HostRuntime) -> Result<(), Fail> {
 fn an_answer_is_checked(rt: HostRuntime) -> Result<(), Fail> {
     let alloc = rt.alloc();
     let mut held = LiveNet::new(alloc, read_net(alloc, NET)?)?;
-    let parts = split(alloc, held.net())?;
-    let answer = cycle(alloc, held.net(), held.live(), &parts)?;
-    assert!(rt; check_cycle(held.net(), &answer));
-    let busy = held.net().find_place("busy").ok_or("no such place")?;
-    held.set_hold(busy, 5);
-    assert!(rt; !check_cycle(held.net(), &answer));
-    Ok(())
+    check_twice(&rt, alloc, &mut held)
 }

@@ -1,11 +1,18 @@
 //! Chapters of the page on the library: first dates, latest inputs, the settled form, and firings
-//! that are replayed.
+//! that are replayed. What a test asks of a net that it owns stands in functions to which it lends
+//! the net.
+ghost use Rattle.std.specs.Prelude.{◌≡◌, ◌<◌, ◌^◌, [], OnOk, length};
+ghost use Rattle.teg_replay.specs.Games.{IsGameOf};
+
 use dioid::Date;
+use std::alloc::Global;
+use std::process::Abort;
 use std::test::Fail;
 use teg_check::LiveNet;
 use teg_dates::first_dates;
 use teg_due::read_due;
-use teg_jit::{LatestDate, latest_inputs};
+use teg_jit::{LatestDate, Plan, latest_inputs};
+use teg_net::TransitionId;
 use teg_reader::read_net;
 use teg_replay::{FireRefusal, Game};
 use teg_settle::settle;
@@ -19,10 +26,8 @@ place = [
 input = [{transition = 'in', dates = [0], every = 1, gap = 4}]
 ";
 
-#[test]
-fn firings_have_first_dates(rt: HostRuntime) -> Result<(), Fail> {
-    let alloc = rt.alloc();
-    let held = LiveNet::new(alloc, read_net(alloc, NET)?)?;
+// Work on the first part, and on the third.
+fn look_at_dates(rt: &impl Abort, alloc: Global, held: &LiveNet) -> Result<(), Fail> {
     let dates = first_dates(alloc, held.net(), held.live(), 3)?;
     let work = held.net().find("work").ok_or("no such transition")?;
     assert!(rt; dates.date(work, 1) == Date::At(2));
@@ -31,9 +36,14 @@ fn firings_have_first_dates(rt: HostRuntime) -> Result<(), Fail> {
 }
 
 #[test]
-fn dates_go_on_for_ever(rt: HostRuntime) -> Result<(), Fail> {
+fn firings_have_first_dates(rt: HostRuntime) -> Result<(), Fail> {
     let alloc = rt.alloc();
     let held = LiveNet::new(alloc, read_net(alloc, NET)?)?;
+    look_at_dates(&rt, alloc, &held)
+}
+
+// Work on a part in a million.
+fn look_at_form(rt: &impl Abort, alloc: Global, held: &LiveNet) -> Result<(), Fail> {
     let form = settle(alloc, held.net(), held.live())?;
     let work = held.net().find("work").ok_or("no such transition")?;
     assert!(rt; form.period() == 1 && form.step(work) == 4);
@@ -42,11 +52,16 @@ fn dates_go_on_for_ever(rt: HostRuntime) -> Result<(), Fail> {
 }
 
 #[test]
-fn due_dates_have_latest_inputs(rt: HostRuntime) -> Result<(), Fail> {
+fn dates_go_on_for_ever(rt: HostRuntime) -> Result<(), Fail> {
     let alloc = rt.alloc();
     let held = LiveNet::new(alloc, read_net(alloc, NET)?)?;
-    let due = read_due(alloc, held.net(), b"work,1,10\nwork,2,11\n")?;
-    let plan = latest_inputs(alloc, held.net(), held.live(), &due)?;
+    look_at_form(&rt, alloc, &held)
+}
+
+// The first part comes in at 6 at the latest.
+fn look_at_plan(rt: &impl Abort, held: &LiveNet, plan: &Plan) -> Result<(), Fail>
+    requires { plan.now.width ≡ length held.now.transitions }
+{
     let entry = held.net().find("in").ok_or("no such transition")?;
     assert!(rt; plan.numbers() == 2);
     let first = plan.latest(entry, 1);
@@ -54,16 +69,70 @@ fn due_dates_have_latest_inputs(rt: HostRuntime) -> Result<(), Fail> {
     Ok(())
 }
 
+// Work on two parts is due.
+fn plan_parts(rt: &impl Abort, alloc: Global, held: &LiveNet) -> Result<(), Fail> {
+    let due = read_due(alloc, held.net(), b"work,1,10\nwork,2,11\n")?;
+    let plan = latest_inputs(alloc, held.net(), held.live(), &due)?;
+    look_at_plan(rt, held, &plan)
+}
+
+#[test]
+fn due_dates_have_latest_inputs(rt: HostRuntime) -> Result<(), Fail> {
+    let alloc = rt.alloc();
+    let held = LiveNet::new(alloc, read_net(alloc, NET)?)?;
+    plan_parts(&rt, alloc, &held)
+}
+
+// A part comes in.
+fn fire_entry(
+    rt: &impl Abort,
+    alloc: Global,
+    held: &LiveNet,
+    game: &mut Game,
+    entry: TransitionId,
+) -> Result<(), Fail>
+    requires stands { IsGameOf held.now game.old }
+    requires empty { game.old.run ≡ [] }
+    requires entry { entry.index < length held.now.transitions }
+    ensures stands { OnOk result (IsGameOf held.now game.new) }
+    ensures few { OnOk result (length game.new.run < 2 ^ 40) }
+{
+    let firing = game.fire(alloc, held.net(), entry, 0)?;
+    assert!(rt; firing.tokens == 2);
+    Ok(())
+}
+
+// Work on it cannot begin at 1.
+fn fire_early(rt: &impl Abort, alloc: Global, held: &LiveNet, game: &mut Game, work: TransitionId)
+    requires stands { IsGameOf held.now game.old }
+    requires few { length game.old.run < 2 ^ 40 }
+    requires work { work.index < length held.now.transitions }
+{
+    let early = game.fire(alloc, held.net(), work, 1);
+    assert!(rt; matches!(early, Err(FireRefusal::Illegal { .. })));
+}
+
+// The one and then the other.
+fn fire_both(rt: &impl Abort, alloc: Global, held: &LiveNet, game: &mut Game) -> Result<(), Fail>
+    requires stands { IsGameOf held.now game.old }
+    requires empty { game.old.run ≡ [] }
+{
+    let entry = held.net().find("in").ok_or("no such transition")?;
+    let work = held.net().find("work").ok_or("no such transition")?;
+    fire_entry(rt, alloc, held, game, entry)?;
+    fire_early(rt, alloc, held, game, work);
+    Ok(())
+}
+
+// A game of the net.
+fn play(rt: &impl Abort, alloc: Global, held: &LiveNet) -> Result<(), Fail> {
+    let mut game = Game::new(alloc, held.net())?;
+    fire_both(rt, alloc, held, &mut game)
+}
+
 #[test]
 fn firings_are_replayed(rt: HostRuntime) -> Result<(), Fail> {
     let alloc = rt.alloc();
     let held = LiveNet::new(alloc, read_net(alloc, NET)?)?;
-    let mut game = Game::new(alloc, held.net())?;
-    let entry = held.net().find("in").ok_or("no such transition")?;
-    let work = held.net().find("work").ok_or("no such transition")?;
-    let firing = game.fire(alloc, held.net(), entry, 0)?;
-    assert!(rt; firing.tokens == 2);
-    let early = game.fire(alloc, held.net(), work, 1);
-    assert!(rt; matches!(early, Err(FireRefusal::Illegal { .. })));
-    Ok(())
+    play(&rt, alloc, &held)
 }

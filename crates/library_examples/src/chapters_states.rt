@@ -4,7 +4,7 @@ ghost use Rattle.teg_due.specs.RowRules.{IsDueOf};
 
 use dioid::Date;
 use dispatch::Dispatcher;
-use example_nets::{due_rows, held, place_named, read, transition_named};
+use example_nets::{ask_held, ask_net, due_rows, held, place_named, transition_named};
 use pace_pieces::{Piece, pace_by_hold};
 use run_laws::Fired;
 use std::alloc::Global;
@@ -61,10 +61,16 @@ fn dates_from_now(alloc: Global, rest: &LiveNet) -> Result<[Date; 4], Fail> {
     ])
 }
 
+// Whether these are they.
+fn goes_on(alloc: Global, rest: &LiveNet) -> Result<bool, Fail> {
+    let wanted = [Date::At(8), Date::At(9), Date::At(12), Date::At(15)];
+    Ok(dates_from_now(alloc, rest)? == wanted)
+}
+
 #[test]
 fn a_net_goes_on_from_now(rt: HostRuntime) -> Result<(), Fail> {
-    let told = dates_from_now(rt.alloc(), &shop_at_8(rt.alloc())?);
-    assert!(rt; told? == [Date::At(8), Date::At(9), Date::At(12), Date::At(15)]);
+    let goes_on = goes_on(rt.alloc(), &shop_at_8(rt.alloc())?);
+    assert!(rt; goes_on?);
     Ok(())
 }
 
@@ -83,17 +89,22 @@ fn take_down(
     Ok(())
 }
 
-// At 8, the earliest dates of the first four firings of the transition.
-fn dates_at_8(alloc: Global, shop: &Dispatcher, transition: TransitionId) -> Result<[Date; 4], Fail>
+// Whether the earliest dates of the first four firings of the transition are these at 8.
+fn has_dates_at_8(
+    alloc: Global,
+    shop: &Dispatcher,
+    transition: TransitionId,
+    dates: &[Date; 4],
+) -> Result<bool, Fail>
     requires { transition.index < length shop.now.net.transitions }
 {
     let rows = shop.outlook(alloc, 8, 4)?;
-    Ok([
-        rows.date(transition, 1),
-        rows.date(transition, 2),
-        rows.date(transition, 3),
-        rows.date(transition, 4),
-    ])
+    Ok(
+        rows.date(transition, 1) == dates[0]
+            && rows.date(transition, 2) == dates[1]
+            && rows.date(transition, 3) == dates[2]
+            && rows.date(transition, 4) == dates[3],
+    )
 }
 
 // How many due dates are missed at 8.
@@ -111,37 +122,41 @@ fn open(alloc: Global, net: &Net) -> Result<Dispatcher, Fail>
     Ok(Dispatcher::new(alloc, LiveNet::new(alloc, net.copy(alloc)?)?)?)
 }
 
-// The dates of work and how many due dates are missed, as they are told at 8.
-fn told_at_8(
+// Whether the dates of work, and how many due dates are missed, are told so at 8.
+fn is_told_at_8(
     alloc: Global,
     shop: &mut Dispatcher,
     due: &Due,
     entry: TransitionId,
     work: TransitionId,
-) -> Result<([Date; 4], usize), Fail>
+) -> Result<bool, Fail>
     requires work { work.index < length shop.old.net.transitions }
     requires due { IsDueOf shop.old.net due.now.rows.items }
 {
     take_down(alloc, shop, entry, work)?;
-    let dates = dates_at_8(alloc, shop, work)?;
-    Ok((dates, missed_at_8(alloc, shop, due)?))
+    let wanted = [Date::At(2), Date::At(9), Date::At(12), Date::At(15)];
+    Ok(has_dates_at_8(alloc, shop, work, &wanted)? && missed_at_8(alloc, shop, due)? == 2)
 }
 
-// The same of the shop that this net is.
-fn seen_at_8(alloc: Global, net: &Net) -> Result<([Date; 4], usize), Fail> {
+// Whether the shop that this net is tells so, with these due dates.
+fn tells_at_8(alloc: Global, net: &Net, due: &Due) -> Result<bool, Fail>
+    requires { IsDueOf net.now due.now.rows.items }
+{
     let entry = transition_named(net, "in")?;
     let work = transition_named(net, "work")?;
-    let due = due_rows(alloc, net, b"work,1,2\nwork,2,9\nwork,3,11\nwork,4,14\n")?;
     let mut shop = open(alloc, net)?;
-    told_at_8(alloc, &mut shop, &due, entry, work)
+    is_told_at_8(alloc, &mut shop, due, entry, work)
+}
+
+// The same with the due dates as their file has them.
+fn is_seen(alloc: Global, net: &Net) -> Result<bool, Fail> {
+    let due = due_rows(alloc, net, b"work,1,2\nwork,2,9\nwork,3,11\nwork,4,14\n")?;
+    tells_at_8(alloc, net, &due)
 }
 
 #[test]
 fn a_late_part_is_seen(rt: HostRuntime) -> Result<(), Fail> {
-    let seen = seen_at_8(rt.alloc(), &read(rt.alloc(), NET)?);
-    let (dates, missed) = seen?;
-    assert!(rt; dates == [Date::At(2), Date::At(9), Date::At(12), Date::At(15)]);
-    assert!(rt; missed == 2);
+    assert!(rt; ask_net(rt.alloc(), NET, is_seen)?);
     Ok(())
 }
 
@@ -208,8 +223,7 @@ fn is_tried(alloc: Global, held: &LiveNet) -> Result<bool, Fail> {
 
 #[test]
 fn a_change_is_tried(rt: HostRuntime) -> Result<(), Fail> {
-    let is_tried = is_tried(rt.alloc(), &held(rt.alloc(), CARDS)?);
-    assert!(rt; is_tried?);
+    assert!(rt; ask_held(rt.alloc(), CARDS, is_tried)?);
     Ok(())
 }
 
@@ -233,10 +247,13 @@ fn are_two(pieces: &[Piece]) -> bool {
         && second.line.passes == 1
 }
 
+// Whether the pieces are those two.
+fn has_pieces(alloc: Global, held: &LiveNet) -> Result<bool, Fail> {
+    Ok(are_two(&pace_of_work(alloc, held)?))
+}
+
 #[test]
 fn a_pace_has_pieces(rt: HostRuntime) -> Result<(), Fail> {
-    let held = held(rt.alloc(), CARDS)?;
-    let pieces = pace_of_work(rt.alloc(), &held)?;
-    assert!(rt; are_two(&pieces));
+    assert!(rt; ask_held(rt.alloc(), CARDS, has_pieces)?);
     Ok(())
 }

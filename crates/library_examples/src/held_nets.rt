@@ -1,7 +1,7 @@
 //! Nets that are copied, held, changed and asked again, and the checkers of what answers show.
 use dating_certificates::check_rows;
 use dioid::Date;
-use example_nets::{LOOP, held, place_named, read};
+use example_nets::{LOOP, ask_held, ask_net, held, place_named};
 use scheduler_loop::Scheduler;
 use std::alloc::Global;
 use std::test::Fail;
@@ -53,11 +53,16 @@ fn keeps_copy(alloc: Global, held: &mut LiveNet) -> Result<bool, Fail> {
     Ok(takes_tokens(alloc, held)? && tokens(&copy)? == 1)
 }
 
+// Whether the net has its places where it is held no longer.
+fn is_let_go(held: LiveNet) -> bool {
+    held.into_net().place_count() == 2
+}
+
 #[test]
 fn tokens_are_changed_where_the_net_stays_live(rt: HostRuntime) -> Result<(), Fail> {
     let keeps_copy = keeps_copy(rt.alloc(), &mut held(rt.alloc(), LOOP)?);
     assert!(rt; keeps_copy?);
-    assert!(rt; held(rt.alloc(), LOOP)?.into_net().place_count() == 2);
+    assert!(rt; is_let_go(held(rt.alloc(), LOOP)?));
     Ok(())
 }
 
@@ -78,26 +83,8 @@ fn are_checked(alloc: Global, net: &Net) -> Result<bool, Fail> {
 
 #[test]
 fn ranks_a_deadlock_and_rows_are_checked(rt: HostRuntime) -> Result<(), Fail> {
-    let are_checked = are_checked(rt.alloc(), &read(rt.alloc(), LOOP)?);
-    assert!(rt; are_checked?);
+    assert!(rt; ask_net(rt.alloc(), LOOP, are_checked)?);
     Ok(())
-}
-
-// How many more tokens of the place are enough for a cycle time of 2, a circuit that one less is
-// too few for, and potentials that show that so many are enough.
-fn further(alloc: Global, held: &LiveNet) -> Result<Option<(u64, Circuit, Vec<i128>)>, Fail> {
-    let (net, target) = (held.net(), Ratio::of(2, 1));
-    let place = place_named(net, "ba")?;
-    match size(alloc, net, held.live(), place, &target)? {
-        Sizing::Enough {
-            extra,
-            circuit: Some(circuit),
-        } => {
-            let potentials = enough_potentials(alloc, net, place, &target, extra)?;
-            Ok(Some((extra, circuit, potentials)))
-        }
-        _ => Ok(None),
-    }
 }
 
 // Whether what was found shows that 2 more are enough, and one too few.
@@ -109,20 +96,26 @@ fn is_shown(net: &Net, circuit: &Circuit, potentials: &[i128]) -> bool {
         && !check_enough(net, &target, back, 1, potentials)
 }
 
-// Whether 2 more are told to be enough, and shown to be.
+// Whether 2 more are told to be enough for a cycle time of 2, and shown to be: by a circuit that one
+// less is too few for, and by potentials.
 fn is_sized(alloc: Global, held: &LiveNet) -> Result<bool, Fail> {
-    Ok(match further(alloc, held)? {
-        Some((extra, circuit, potentials)) => {
-            extra == 2 && is_shown(held.net(), &circuit, &potentials)
+    let (net, target) = (held.net(), Ratio::of(2, 1));
+    let place = place_named(net, "ba")?;
+    match size(alloc, net, held.live(), place, &target)? {
+        Sizing::Enough {
+            extra,
+            circuit: Some(circuit),
+        } => {
+            let potentials = enough_potentials(alloc, net, place, &target, extra)?;
+            Ok(extra == 2 && is_shown(net, &circuit, &potentials))
         }
-        None => false,
-    })
+        _ => Ok(false),
+    }
 }
 
 #[test]
 fn further_tokens_are_checked(rt: HostRuntime) -> Result<(), Fail> {
-    let is_sized = is_sized(rt.alloc(), &held(rt.alloc(), LOOP)?);
-    assert!(rt; is_sized?);
+    assert!(rt; ask_held(rt.alloc(), LOOP, is_sized)?);
     Ok(())
 }
 

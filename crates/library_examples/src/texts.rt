@@ -1,13 +1,13 @@
 //! The head of a list and a row, and two texts at once.
 use dioid::Date;
-use example_nets::{LOOP, read};
+use example_nets::{LOOP, ask_net};
 use std::alloc::Global;
 use std::test::Fail;
 use teg_net::{Net, OutOfMemory};
 use teg_report::{Answer, list_head, list_row, report_both};
 
 // Whether the head of a list of three firings of the net is told so.
-fn has_head(alloc: Global, net: &Net) -> Result<bool, OutOfMemory> {
+fn has_head(alloc: Global, net: &Net) -> Result<bool, Fail> {
     let head = list_head(alloc, net, 3)?;
     Ok(head.as_slice() == b"dates of 3 firings\ntransition a b\n".as_slice())
 }
@@ -33,8 +33,7 @@ fn has_both(alloc: Global) -> Result<bool, OutOfMemory> {
 
 #[test]
 fn texts_are_told(rt: HostRuntime) -> Result<(), Fail> {
-    let has_head = has_head(rt.alloc(), &read(rt.alloc(), LOOP)?);
-    assert!(rt; has_head?);
+    assert!(rt; ask_net(rt.alloc(), LOOP, has_head)?);
     assert!(rt; has_row(rt.alloc())?);
     assert!(rt; has_both(rt.alloc())?);
     Ok(())
