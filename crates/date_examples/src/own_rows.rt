@@ -6,7 +6,7 @@ ghost use Rattle.date_rows.specs.KeptRows.{AreLeastRows};
 ghost use Rattle.date_rows.specs.teg_model.Datings.{listed_releases, system_of};
 
 use date_rows::{NetInputs, PlaceOrder, Rows, nets_keep_bounds, nets_keep_short_bounds};
-use example_nets::{LOOP, held};
+use example_nets::{LOOP, ask_held};
 use std::alloc::Global;
 use std::test::Fail;
 use teg_check::LiveNet;
@@ -62,7 +62,6 @@ fn told_form(alloc: Global, held: &LiveNet) -> Result<Option<(u64, u64)>, Fail> 
 
 #[test]
 fn rows_show_a_form(rt: HostRuntime) -> Result<(), Fail> {
-    let told = told_form(rt.alloc(), &held(rt.alloc(), LOOP)?);
-    assert!(rt; told? == Some((0, 1)));
+    assert!(rt; ask_held(rt.alloc(), LOOP, told_form)? == Some((0, 1)));
     Ok(())
 }

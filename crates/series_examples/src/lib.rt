@@ -3,7 +3,7 @@
 //! that are made, turned and asked for their eigenvalue; and of nets as matrices of series. The
 //! crate has tests alone: they show what no contract says, that memory is found. It stands on
 //! `dioid`, `dioid_matrix`, `dioid_spectra`, `net_matrices`, `series_form`, `series_ops`,
-//! `teg_calc`, `teg_check`, `teg_net`, `teg_reader` and `teg_settle`.
+//! `teg_calc`, `teg_check`, `teg_settle` and `example_nets`.
 #![tactic(auto)]
 
 #[cfg(test)]

@@ -1,22 +1,12 @@
 //! Lists of dates, one date, nets without a circuit, and slack.
-use answer_check::{shown_date, shown_list, shown_no_circuit, shown_slack};
+use answer_check::{ShownDate, shown_date, shown_list, shown_no_circuit, shown_slack};
 use dioid::Date;
+use example_nets::{KANBAN, read, tells};
 use std::alloc::Global;
-use teg_reader::read_net;
+use std::test::Fail;
+use teg_net::{Net, OutOfMemory, Ratio, TransitionId};
 
-const KANBAN: &str = "transition = [{ name = \"m1\" }, { name = \"m2\" }, { name = \"m3\" }]
-place = [
- { name = \"s1\", from = \"m1\", to = \"m1\", hold = 4, tokens = 1 },
- { name = \"s2\", from = \"m2\", to = \"m2\", hold = 6, tokens = 1 },
- { name = \"s3\", from = \"m3\", to = \"m3\", hold = 5, tokens = 1 },
- { name = \"f12\", from = \"m1\", to = \"m2\", hold = 4 },
- { name = \"f23\", from = \"m2\", to = \"m3\", hold = 6 },
- { name = \"c21\", from = \"m2\", to = \"m1\", tokens = 2 },
- { name = \"c32\", from = \"m3\", to = \"m2\", tokens = 2 },
-]
-";
-
-const LOOSE: &str = "transition = [{ name = \"a\" }, { name = \"b\" }, { name = \"c\" }]
+const LOOSE: &[u8] = b"transition = [{ name = \"a\" }, { name = \"b\" }, { name = \"c\" }]
 place = [
  { name = \"own\", from = \"a\", to = \"a\", hold = 3, tokens = 2 },
  { name = \"there\", from = \"a\", to = \"b\", hold = 1 },
@@ -25,7 +15,7 @@ place = [
 ]
 ";
 
-const PLAIN: &str = "transition = [{ name = \"a\" }, { name = \"b\" }, { name = \"c\" }]
+const PLAIN: &[u8] = b"transition = [{ name = \"a\" }, { name = \"b\" }, { name = \"c\" }]
 place = [
  { name = \"bc\", from = \"b\", to = \"c\", hold = 5, tokens = 1 },
  { name = \"ab\", from = \"a\", to = \"b\", hold = 1 },
@@ -33,45 +23,15 @@ place = [
 ]
 ";
 
-const DEAD: &str = "transition = [{ name = \"a\" }, { name = \"b\" }]
+const DEAD: &[u8] = b"transition = [{ name = \"a\" }, { name = \"b\" }]
 place = [
  { name = \"ab\", from = \"a\", to = \"b\" },
  { name = \"ba\", from = \"b\", to = \"a\" },
 ]
 ";
 
-// How many firings the text of `teg list` shows of this net.
-fn listed(alloc: Global, net: &str, text: &str) -> Option<u32> {
-    let net = read_net(alloc, net.as_bytes()).ok()?;
-    shown_list(alloc, &net, text).ok().flatten()
-}
-
-// The date that the text of `teg date` shows with that of `teg list` of this net.
-fn dated(alloc: Global, net: &str, list: &str, text: &str) -> Option<Date> {
-    let net = read_net(alloc, net.as_bytes()).ok()?;
-    match shown_date(alloc, &net, list, text) {
-        Ok(Some(shown)) => Some(shown.date),
-        _ => None,
-    }
-}
-
-// Whether the text shows that this net has no circuit; none where the net is not read.
-fn has_none(alloc: Global, net: &str, text: &str) -> Option<bool> {
-    let net = read_net(alloc, net.as_bytes()).ok()?;
-    shown_no_circuit(alloc, &net, text).ok()
-}
-
-// The time and the tokens of the ratio that the text of `teg slack` shows of this net.
-fn paced(alloc: Global, net: &str, text: &str) -> Option<(u64, u64)> {
-    let net = read_net(alloc, net.as_bytes()).ok()?;
-    match shown_slack(alloc, &net, text) {
-        Ok(Some(ratio)) => Some((ratio.time(), ratio.tokens())),
-        _ => None,
-    }
-}
-
 // Nets, texts of lists, and how many firings these show.
-const LISTS: [(&str, &str, Option<u32>); 4] = [
+const LISTS: [(&[u8], &str, Option<u32>); 4] = [
     (
         KANBAN,
         "dates of 3 firings\ntransition m1 m2 m3\n1 0 4 10\n2 4 10 16\n3 8 16 22\n",
@@ -93,32 +53,48 @@ const LISTS: [(&str, &str, Option<u32>); 4] = [
 // The list of two firings of the kanban line.
 const LIST: &str = "dates of 2 firings\ntransition m1 m2 m3\n1 0 4 10\n2 4 10 16\n";
 
+// That the second firing of m3 is at 16.
+const SECOND: ShownDate = ShownDate {
+    transition: TransitionId { index: 2 },
+    number: 2,
+    date: Date::At(16),
+};
+
 // Texts of dates, and which date each shows with that list.
-const DATES: [(&str, Option<Date>); 3] = [
-    ("date m3 2 16\n", Some(Date::At(16))),
+const DATES: [(&str, Option<ShownDate>); 3] = [
+    ("date m3 2 16\n", Some(SECOND)),
     ("date m3 2 17\n", None),
     ("date m3 3 22\n", None),
 ];
 
+// How many firings the text shows.
+fn firings(alloc: Global, net: &Net, text: &str) -> Result<Option<u32>, OutOfMemory> {
+    shown_list(alloc, net, text)
+}
+
 #[test]
-fn lists_and_dates_are_shown(rt: HostRuntime) {
-    for (net, text, firings) in &LISTS {
-        assert!(rt; listed(rt.alloc(), net, text) == *firings, "{text}");
+fn lists_and_dates_are_shown(rt: HostRuntime) -> Result<(), Fail> {
+    let alloc = rt.alloc();
+    for (file, text, count) in &LISTS {
+        let is_told = tells(alloc, file, text, firings, count)?;
+        assert!(rt; is_told, "{text}");
     }
     for (text, date) in &DATES {
-        assert!(rt; dated(rt.alloc(), KANBAN, LIST, text) == *date, "{text}");
+        let shown = shown_date(alloc, &read(alloc, KANBAN)?, LIST, text);
+        assert!(rt; shown? == *date, "{text}");
     }
+    Ok(())
 }
 
 // Nets, texts, and whether these show that the net has no circuit.
-const NO_CIRCUITS: [(&str, &str, bool); 3] = [
+const NO_CIRCUITS: [(&[u8], &str, bool); 3] = [
     (PLAIN, "no circuit\n", true),
     (PLAIN, "no circuit\nno circuit\n", false),
     (LOOSE, "no circuit\n", false),
 ];
 
 // Nets, texts of slacks, and the time and the tokens of the ratio that these show.
-const SLACKS: [(&str, &str, Option<(u64, u64)>); 5] = [
+const SLACKS: [(&[u8], &str, Option<(u64, u64)>); 5] = [
     (
         KANBAN,
         "cycle time 6/1
@@ -175,15 +151,35 @@ place out no circuit
     ),
 ];
 
+// The ratio of so much time to so many tokens; none to no token.
+fn ratio_of(shown: Option<(u64, u64)>) -> Option<Ratio> {
+    let (time, tokens) = shown?;
+    if tokens == 0 {
+        return None;
+    }
+    Some(Ratio::of(time, tokens))
+}
+
+// Whether the text shows that the net has no circuit.
+fn no_circuit(alloc: Global, net: &Net, text: &str) -> Result<bool, OutOfMemory> {
+    shown_no_circuit(alloc, net, text)
+}
+
+// The ratio that the text of slacks shows.
+fn ratio(alloc: Global, net: &Net, text: &str) -> Result<Option<Ratio>, OutOfMemory> {
+    shown_slack(alloc, net, text)
+}
+
 #[test]
-fn nets_without_a_circuit_and_slacks_are_shown(rt: HostRuntime) {
-    for (net, text, is_right) in &NO_CIRCUITS {
-        assert!(rt;
-            has_none(rt.alloc(), net, text) == Some(*is_right),
-            "{text}"
-        );
+fn nets_without_a_circuit_and_slacks_are_shown(rt: HostRuntime) -> Result<(), Fail> {
+    let alloc = rt.alloc();
+    for (file, text, is_right) in &NO_CIRCUITS {
+        let is_told = tells(alloc, file, text, no_circuit, is_right)?;
+        assert!(rt; is_told, "{text}");
     }
-    for (net, text, ratio) in &SLACKS {
-        assert!(rt; paced(rt.alloc(), net, text) == *ratio, "{text}");
+    for (file, text, shown) in &SLACKS {
+        let is_told = tells(alloc, file, text, ratio, &ratio_of(*shown))?;
+        assert!(rt; is_told, "{text}");
     }
+    Ok(())
 }

@@ -267,17 +267,35 @@ fn shelf(alloc: Global, failing: &[u64]) -> Result<MemoryShelf, Fail> {
     Ok(MemoryShelf::new(alloc, files, failing))
 }
 
+// The words, owned.
+fn owned(alloc: Global, words: &[&str]) -> Result<Vec<String>, Fail> {
+    let mut owned = Vec::new(alloc);
+    for word in words {
+        owned.push(String::from_str(alloc, word)?)?;
+    }
+    Ok(owned)
+}
+
+// How the call ends, and whether it writes just this text, into a sink of so much room.
+fn ended(
+    alloc: Global,
+    words: &[String],
+    shelf: &mut MemoryShelf,
+    room: usize,
+    text: &str,
+) -> Result<(AuditStatus, bool), Fail> {
+    let mut out = MemorySink::new(alloc, 7, room, Vec::new(alloc))?;
+    let status = audit(alloc, words, shelf, &mut out);
+    Ok((status, out.contents() == text.as_bytes()))
+}
+
 // Whether the call with these reads that fail, into a sink of so much room, ends and writes so.
 fn is_so(alloc: Global, call: &Call<'_>, failing: &[u64], room: usize) -> Result<bool, Fail> {
     let (asked, status, text) = *call;
-    let mut words = Vec::new(alloc);
-    for word in asked {
-        words.push(String::from_str(alloc, word)?)?;
-    }
+    let words = owned(alloc, asked)?;
     let mut shelf = shelf(alloc, failing)?;
-    let mut out = MemorySink::new(alloc, 7, room, Vec::new(alloc))?;
-    let ended = audit(alloc, &words, &mut shelf, &mut out);
-    Ok(ended == status && out.contents() == text.as_bytes())
+    let ended = ended(alloc, &words, &mut shelf, room, text);
+    Ok(ended? == (status, true))
 }
 
 #[test]

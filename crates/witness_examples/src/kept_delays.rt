@@ -1,13 +1,13 @@
 //! Delays that a timetable keeps.
 use delay_check::shown_kept;
 use delay_laws::{Delay, Timetable};
+use example_nets::read;
 use std::alloc::{AllocError, Global};
 use std::test::Fail;
-use teg_net::{Net, OutOfMemory, TransitionId};
-use teg_reader::read_net;
+use teg_net::{Net, TransitionId};
 
-const RAILWAY: &str =
-    "transition = [{ name = \"North\" }, { name = \"Centre>North\" }, { name = \"Centre>South\" }, { name = \"South\" }]
+const RAILWAY: &[u8] =
+    b"transition = [{ name = \"North\" }, { name = \"Centre>North\" }, { name = \"Centre>South\" }, { name = \"South\" }]
 place = [
  { name = \"north_down\", from = \"North\", to = \"Centre>North\", hold = 24, tokens = 1 },
  { name = \"north_up\", from = \"Centre>North\", to = \"North\", hold = 24, tokens = 1 },
@@ -35,32 +35,24 @@ fn table(alloc: Global, by: u64) -> Result<Timetable, AllocError> {
         })?;
     }
     Ok(Timetable {
-        firsts: Vec::from_array(alloc, [0, 3, 0, 15])?,
+        firsts: Vec::from_slice(alloc, &[0, 3, 0, 15])?,
         delays,
     })
 }
 
-// How many places the circuit has that the text shows of the railway with this period and
-// timetable.
-fn shown_of(
+// How many places the circuit has that the text shows of the railway with this period and delay.
+fn shown(
     alloc: Global,
     railway: &Net,
     period: u64,
-    table: &Timetable,
+    by: u64,
     text: &str,
-) -> Result<Option<usize>, OutOfMemory> {
-    Ok(match shown_kept(alloc, railway, period, table, text)? {
+) -> Result<Option<usize>, Fail> {
+    let table = table(alloc, by)?;
+    Ok(match shown_kept(alloc, railway, period, &table, text)? {
         Some(circuit) => Some(circuit.places.len()),
         None => None,
     })
-}
-
-// The same with this period and delay.
-fn shown(alloc: Global, period: u64, by: u64, text: &str) -> Result<Option<usize>, Fail> {
-    let table = table(alloc, by)?;
-    let railway = read_net(alloc, RAILWAY.as_bytes())?;
-    let told = shown_of(alloc, &railway, period, &table, text);
-    Ok(told?)
 }
 
 const RECOVERED: &str =
@@ -80,9 +72,10 @@ const TEXTS: [(u64, u64, &str, Option<usize>); 6] = [
 
 #[test]
 fn kept_delays_are_shown(rt: HostRuntime) -> Result<(), Fail> {
+    let alloc = rt.alloc();
     for (period, by, text, places) in &TEXTS {
-        let told = shown(rt.alloc(), *period, *by, text)?;
-        assert!(rt; told == *places, "{period} {by} {text}");
+        let told = shown(alloc, &read(alloc, RAILWAY)?, *period, *by, text);
+        assert!(rt; told? == *places, "{period} {by} {text}");
     }
     Ok(())
 }

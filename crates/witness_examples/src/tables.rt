@@ -1,20 +1,10 @@
 //! The table of latest dates.
 use dating_check::shown_table;
+use example_nets::{SHOP, due_rows, read};
 use std::alloc::Global;
-use teg_due::read_due;
-use teg_net::Net;
-use teg_reader::read_net;
-
-const SHOP: &str =
-    "transition = [{ name = \"material\", role = \"input\" }, { name = \"saw\" }, { name = \"drill\" }, { name = \"ship\" }]
-place = [
- { name = \"feed\", from = \"material\", to = \"saw\", hold = 2 },
- { name = \"saw_free\", from = \"saw\", to = \"saw\", hold = 4, tokens = 1 },
- { name = \"to_drill\", from = \"saw\", to = \"drill\", hold = 5 },
- { name = \"drill_free\", from = \"drill\", to = \"drill\", hold = 7, tokens = 1 },
- { name = \"to_ship\", from = \"drill\", to = \"ship\", hold = 8 },
-]
-";
+use std::test::Fail;
+use teg_due::Due;
+use teg_net::{Net, OutOfMemory};
 
 const PLAN: &str = "latest inputs for 3 firings
 input material 1 15 by feed
@@ -31,20 +21,33 @@ latest ship 2 40 due
 latest ship 3 free
 ";
 
-// The number that the text shows of the shop with these due dates.
-fn shown_of(alloc: Global, shop: &Net, due: &str, text: &str) -> Option<u32> {
-    let bytes = due.as_bytes();
-    if bytes.len() > 100 {
-        return None;
-    }
-    let due = read_due(alloc, shop, bytes).ok()?;
-    shown_table(alloc, shop, &due, text).ok().flatten()
+// What the reader of an answer's text tells of the shop, of what is due in it, and of this text.
+fn told_of_due<T, F>(alloc: Global, shop: &Net, due: &str, text: &str, reader: F) -> Result<T, Fail>
+where
+    F: FnOnce(Global, &Net, &Due, &str) -> Result<T, OutOfMemory> + Drop,
+    requires { F.IsAlwaysCallable reader }
+{
+    let due = due_rows(alloc, shop, due.as_bytes())?;
+    let told = reader(alloc, shop, &due, text);
+    Ok(told?)
 }
 
-// The same of the shop as its file has it.
-fn shown(alloc: Global, due: &str, text: &str) -> Option<u32> {
-    let shop = read_net(alloc, SHOP.as_bytes()).ok()?;
-    shown_of(alloc, &shop, due, text)
+/// Whether the reader of an answer's text tells this of the shop, of what is due in it, and of this
+/// text.
+pub fn tells_of_due<T, F>(
+    alloc: Global,
+    due: &str,
+    text: &str,
+    reader: F,
+    wanted: &T,
+) -> Result<bool, Fail>
+where
+    T: PartialEq + Drop,
+    F: FnOnce(Global, &Net, &Due, &str) -> Result<T, OutOfMemory> + Drop,
+    requires { F.IsAlwaysCallable reader }
+{
+    let told = told_of_due(alloc, &read(alloc, SHOP)?, due, text, reader);
+    Ok(told? == *wanted)
 }
 
 // Due dates, texts, and the number that these show.
@@ -115,9 +118,16 @@ latest ship 1 15 due
     ),
 ];
 
+// The number that the text shows.
+fn number_of(alloc: Global, net: &Net, due: &Due, text: &str) -> Result<Option<u32>, OutOfMemory> {
+    shown_table(alloc, net, due, text)
+}
+
 #[test]
-fn tables_are_shown(rt: HostRuntime) {
+fn tables_are_shown(rt: HostRuntime) -> Result<(), Fail> {
     for (due, text, number) in &TABLES {
-        assert!(rt; shown(rt.alloc(), due, text) == *number, "{due}");
+        let is_told = tells_of_due(rt.alloc(), due, text, number_of, number)?;
+        assert!(rt; is_told, "{due}");
     }
+    Ok(())
 }

@@ -2,7 +2,7 @@
 use std::alloc::Global;
 use std::test::Fail;
 use teg_outside::{MemoryShelf, MemorySink, Monitor};
-use teg_run::{Status, workbench};
+use teg_run::{Status, serve, workbench};
 
 /// A case: the words, what the files named `net` and `second` hold, how the call ends, and what it
 /// writes.
@@ -16,16 +16,23 @@ fn file_of(alloc: Global, name: &str, bytes: &[u8]) -> Result<(String, Vec<u8>),
     ))
 }
 
-/// A shelf with two files, named `net` and `second`, whose reads with these numbers fail.
-pub fn shelf_of(
+// Two files, named `net` and `second`.
+fn files_of(alloc: Global, net: &[u8], second: &[u8]) -> Result<Vec<(String, Vec<u8>)>, Fail> {
+    let mut files = Vec::new(alloc);
+    files.push(file_of(alloc, "net", net)?)?;
+    files.push(file_of(alloc, "second", second)?)?;
+    Ok(files)
+}
+
+// A shelf with such files, whose reads with these numbers fail.
+fn shelf_of(
     alloc: Global,
     net: &[u8],
     second: &[u8],
     failing: &[u64],
 ) -> Result<MemoryShelf, Fail> {
     let failing = Vec::from_slice(alloc, failing)?;
-    let net = file_of(alloc, "net", net)?;
-    let files = vec![in alloc; net, file_of(alloc, "second", second)?]?;
+    let files = files_of(alloc, net, second)?;
     Ok(MemoryShelf::new(alloc, files, failing))
 }
 
@@ -34,8 +41,8 @@ pub fn sink_of(alloc: Global, room: usize) -> Result<MemorySink, Fail> {
     Ok(MemorySink::new(alloc, 65536, room, Vec::new(alloc))?)
 }
 
-/// The words, owned.
-pub fn owned(alloc: Global, words: &[&str]) -> Result<Vec<String>, Fail> {
+// The words, owned.
+fn owned(alloc: Global, words: &[&str]) -> Result<Vec<String>, Fail> {
     let mut owned = Vec::new(alloc);
     for word in words {
         owned.push(String::from_str(alloc, word)?)?;
@@ -43,28 +50,51 @@ pub fn owned(alloc: Global, words: &[&str]) -> Result<Vec<String>, Fail> {
     Ok(owned)
 }
 
-/// How a call with these words and monitors ends on two files, named `net` and `second`, of which
-/// the reads with these numbers fail.
-pub fn ending(
-    alloc: Global,
-    words: &[&str],
-    files: (&[u8], &[u8]),
-    failing: &[u64],
-    out: &mut MemorySink,
-    monitors: Vec<Box<dyn Monitor>>,
-) -> Result<Status, Fail> {
-    let (net, second) = files;
-    let words = owned(alloc, words)?;
-    let mut shelf = shelf_of(alloc, net, second, failing)?;
-    Ok(workbench(alloc, &words, &mut shelf, out, monitors))
+/// All that a call has: its words, a shelf with two files, named `net` and `second`, and a sink.
+#[derive(Drop)]
+pub struct Bench {
+    words: Vec<String>,
+    shelf: MemoryShelf,
+    out: MemorySink,
+}
+
+impl Bench {
+    /// A bench whose reads with these numbers fail.
+    pub fn new(
+        alloc: Global,
+        words: &[&str],
+        files: (&[u8], &[u8]),
+        failing: &[u64],
+        out: MemorySink,
+    ) -> Result<Bench, Fail> {
+        let (net, second) = files;
+        let words = owned(alloc, words)?;
+        let shelf = shelf_of(alloc, net, second, failing)?;
+        Ok(Bench { words, shelf, out })
+    }
+
+    /// How the call ends with these monitors.
+    pub fn run(&mut self, alloc: Global, monitors: Vec<Box<dyn Monitor>>) -> Status {
+        workbench(alloc, &self.words, &mut self.shelf, &mut self.out, monitors)
+    }
+
+    /// How it ends where these are lent to it.
+    pub fn serve(&mut self, alloc: Global, monitors: &mut [Box<dyn Monitor>]) -> Status {
+        serve(alloc, &self.words, &mut self.shelf, &mut self.out, monitors)
+    }
+
+    /// What it wrote.
+    pub fn written(&self) -> &[u8] {
+        self.out.contents()
+    }
 }
 
 /// Whether a call without monitors, of which this read fails, ends as the case says, and writes
 /// just its text.
 pub fn is_answered(alloc: Global, case: &Case<'_>, failing: u64) -> Result<bool, Fail> {
     let (words, net, second, status, text) = *case;
-    let files = (net.as_bytes(), second.as_bytes());
-    let mut out = sink_of(alloc, 65536)?;
-    let ended = ending(alloc, words, files, &[failing], &mut out, Vec::new(alloc))?;
-    Ok(ended == status && out.contents() == text.as_bytes())
+    let (files, out) = ((net.as_bytes(), second.as_bytes()), sink_of(alloc, 65536)?);
+    let mut bench = Bench::new(alloc, words, files, &[failing], out)?;
+    let ended = bench.run(alloc, Vec::new(alloc));
+    Ok(ended == status && bench.written() == text.as_bytes())
 }

@@ -1,7 +1,7 @@
 //! Reads and writes that fail, each in turn.
 ghost use Rattle.std.specs.Prelude.{◌<◌};
 
-use crate::bench::{Case, ending, is_answered};
+use crate::bench::{Bench, Case, is_answered};
 use crate::nets::{DEAD_LOOP, LOOP};
 use std::alloc::Global;
 use std::test::Fail;
@@ -70,24 +70,26 @@ fn each_read_may_fail(rt: HostRuntime) -> Result<(), Fail> {
     Ok(())
 }
 
+// Whether what was written are the first bytes of the text, as many as there is room for.
+fn is_beginning(written: &[u8], text: &[u8], room: usize) -> bool {
+    written.len() == room.min(text.len()) && text.starts_with(written)
+}
+
 // Whether a call into this sink, which takes so many bytes in all, writes just these first bytes of
 // its text, and ends with WriteFault where they are not the whole.
 fn is_cut(
     alloc: Global,
     whole: &Case<'static>,
-    mut out: MemorySink,
+    out: MemorySink,
     room: usize,
 ) -> Result<bool, Fail> {
     let (words, net, second, status, text) = *whole;
     let files = (net.as_bytes(), second.as_bytes());
-    let ended = ending(alloc, words, files, &[], &mut out, Vec::new(alloc))?;
+    let mut bench = Bench::new(alloc, words, files, &[], out)?;
     let is_whole = text.len() <= room;
     let wanted = if is_whole { status } else { Status::WriteFault };
-    Ok(
-        ended == wanted
-            && out.contents().len() == room.min(text.len())
-            && text.as_bytes().starts_with(out.contents()),
-    )
+    let is_ended = bench.run(alloc, Vec::new(alloc)) == wanted;
+    Ok(is_ended && is_beginning(bench.written(), text.as_bytes(), room))
 }
 
 // Whether calls into sinks of so many bytes a call are cut at the call that fails, each in turn.

@@ -1,6 +1,6 @@
 //! Monitors in any mix: those of the program in any order and number, and one that finds no memory
 //! for its line.
-use crate::bench::{ending, sink_of};
+use crate::bench::{Bench, sink_of};
 use crate::nets::LOOP;
 use std::alloc::Global;
 use std::test::Fail;
@@ -76,10 +76,10 @@ fn is_answered(alloc: Global, mix: &Mix<'_>) -> Result<bool, Fail> {
     let (log, watches, status, text) = *mix;
     let files = (LOOP.as_bytes(), log.as_bytes());
     let words = ["replay", "net", "second"];
-    let mut out = sink_of(alloc, 65536)?;
-    let monitors = monitors_of(alloc, watches)?;
-    let ended = ending(alloc, &words, files, &[], &mut out, monitors)?;
-    Ok(ended == status && out.contents() == text.as_bytes())
+    let out = sink_of(alloc, 65536)?;
+    let mut bench = Bench::new(alloc, &words, files, &[], out)?;
+    let ended = bench.run(alloc, monitors_of(alloc, watches)?);
+    Ok(ended == status && bench.written() == text.as_bytes())
 }
 
 #[test]

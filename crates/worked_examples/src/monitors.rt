@@ -2,14 +2,14 @@
 //! just the firings that a replay accepts; and those that are lent have seen them.
 ghost use Rattle.std.specs.Prelude.{codes};
 
-use crate::bench::{ending, owned, shelf_of, sink_of};
+use crate::bench::{Bench, sink_of};
 use crate::nets::{DEAD_LOOP, LOOP};
 use std::alloc::Global;
 use std::cell::Cell;
 use std::rc::Rc;
 use std::test::Fail;
 use teg_outside::{Firing, FiringCount, Monitor, OutOfMemory};
-use teg_run::{Status, serve};
+use teg_run::Status;
 
 // Adds to the shared count 1 when it is dropped, and 1,000 for each firing that it sees.
 struct Counter {
@@ -80,10 +80,10 @@ fn counted(
     second: &[u8],
     failing: u64,
 ) -> Result<u32, Fail> {
-    let mut out = sink_of(alloc, 65536)?;
+    let out = sink_of(alloc, 65536)?;
+    let mut bench = Bench::new(alloc, words, (net, second), &[failing], out)?;
     let count = Rc::new(alloc, Cell::new(0u32))?;
-    let monitors = counter_of(alloc, &count)?;
-    ending(alloc, words, (net, second), &[failing], &mut out, monitors)?;
+    let _ending = bench.run(alloc, counter_of(alloc, &count)?);
     Ok(count.get())
 }
 
@@ -147,10 +147,10 @@ fn monitors_are_dropped_once_and_see_what_is_accepted(rt: HostRuntime) -> Result
 
 // How a replay whose third firing comes too early ends, with the monitors lent to it.
 fn lent(alloc: Global, monitors: &mut [Box<dyn Monitor>]) -> Result<Status, Fail> {
-    let words = owned(alloc, &["replay", "net", "second"])?;
-    let mut shelf = shelf_of(alloc, LOOP.as_bytes(), b"a,0\nb,3\na,4\n", &[])?;
-    let mut out = sink_of(alloc, 65536)?;
-    Ok(serve(alloc, &words, &mut shelf, &mut out, monitors))
+    let (words, out) = (["replay", "net", "second"], sink_of(alloc, 65536)?);
+    let files = (LOOP.as_bytes(), b"a,0\nb,3\na,4\n".as_slice());
+    let mut bench = Bench::new(alloc, &words, files, &[], out)?;
+    Ok(bench.serve(alloc, monitors))
 }
 
 #[test]
