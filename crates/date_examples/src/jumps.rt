@@ -1,11 +1,18 @@
 //! Dates of late firings of nets whose rates nearly agree, by rows that are made only near the
 //! numbers at which one circuit overtakes another.
+ghost use Rattle.std.specs.Prelude.{◌<◌, ◌≤◌, length};
+ghost use Rattle.teg_check.specs.Ranks.{IsRanking};
+ghost use Rattle.teg_net.specs.Limits.{greatest_firing_number};
+
+use date_rows::Rows;
 use dioid::Date;
 use example_nets::{held, transition_named};
-use run_rows::{date_by_jumps, dates_by_jumps};
+use run_rows::{date_by_jumps, date_past_rows, dates_by_jumps};
 use std::alloc::Global;
 use std::test::Fail;
-use teg_check::LiveNet;
+use teg_check::{Live, LiveNet};
+use teg_net::{Net, TransitionId};
+use teg_settle::{DateOrRows, date_within};
 
 // Two machines, of which the second one is slower by one unit in 1,000,000,000, with room for 1,000
 // parts between them: the first one waits for it from firing 999,000,000,002 on.
@@ -51,5 +58,40 @@ fn late_dates_are_told(rt: HostRuntime) -> Result<(), Fail> {
     assert!(rt; date? == Date::At(999_999_999_000_000_000_000));
     let dates = dates_of_machine(rt.alloc(), &held(rt.alloc(), IN_TWOS)?);
     assert!(rt; dates? == BY_TWOS);
+    Ok(())
+}
+
+// The date of the firing of this number from 10 to 10^18 by rows up to number 2,010, if these tell
+// it, or by jumps from them on, if they jump.
+fn date_past(
+    alloc: Global,
+    net: &Net,
+    live: &Live,
+    transition: TransitionId,
+    number: u64,
+) -> Result<Option<Date>, Fail>
+    requires stands { IsRanking net.now live.now }
+    requires transition { transition.index < length net.now.transitions }
+    requires first { 1 ≤ number }
+    requires last { number ≤ greatest_firing_number }
+{
+    let none = Rows::new(alloc, net);
+    match date_within(alloc, net, live, transition, number, none, 2010)? {
+        DateOrRows::Known(date) => Ok(Some(date)),
+        DateOrRows::Made(rows) => Ok(date_past_rows(alloc, net, live, &rows, transition, number)?),
+    }
+}
+
+#[test]
+fn rows_that_tell_no_form_jump(rt: HostRuntime) -> Result<(), Fail> {
+    let held = held(rt.alloc(), NEARLY_ALIKE)?;
+    let first = transition_named(held.net(), "a")?;
+    for (number, date) in [
+        (2_000, 1_998_999_998_001),
+        (1_000_000_000_000, 999_999_999_000_000_000_000),
+    ] {
+        let told = date_past(rt.alloc(), held.net(), held.live(), first, number)?;
+        assert!(rt; told == Some(Date::At(date)), "{number}");
+    }
     Ok(())
 }
