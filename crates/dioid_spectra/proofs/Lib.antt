@@ -1,3 +1,4 @@
+pub mod CircuitSums
 pub mod FilledTables
 pub mod MatrixNetLaws
 pub mod PowerLaws

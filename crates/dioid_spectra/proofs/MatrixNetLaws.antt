@@ -138,7 +138,7 @@ pub record HasPlace (net : NetLists) (j k : ℕ) : Type 0 where
   pub to : to_of net id ≡ k
 
 module _ (a : Table Date) (low : ℤ) (net : NetLists) (h : IsNetOf a low net) where
-  is_at : (id : PlaceId) → id.index < length net.places → IsPlaceOfEntry a low (place_at net id)
+  pub is_at : (id : PlaceId) → id.index < length net.places → IsPlaceOfEntry a low (place_at net id)
   is_at id l = h.places.each id.index no_place l
 
   place_for : (j k : ℕ) → j < a.columns → k < a.rows → IsNumber (entry_at a k j) → HasPlace net j k
@@ -246,7 +246,7 @@ inner_place net parts ok are one some =
 
 -- ---- tight potentials are eigenvectors
 
-product_later : (b : ℕ) (s : ℤ) (w : ℕ) → (pos b *ℤ (s +ℤ pos w)) ≡ (pos b *ℤ s +ℤ pos (b * w))
+pub product_later : (b : ℕ) (s : ℤ) (w : ℕ) → (pos b *ℤ (s +ℤ pos w)) ≡ (pos b *ℤ s +ℤ pos (b * w))
 product_later zero s w = let e : 0 * w ≡ 0 = omega arith in rw e (omega (arith, ints))
 product_later (suc b) s w =
     let rest = product_later b s w in

@@ -89,3 +89,24 @@ IsWay a j (k ∷ ks) i = (k < a.rows) × IsNumber (entry_at a k j) × IsWay a k 
 -- each row reaches each row
 abbrev pub IsIrreducible : Table Date → Type 0
 IsIrreducible a = (j i : ℕ) → j < a.rows → i < a.rows → (ks : List ℕ) × IsWay a j ks i
+
+-- ---- circuits
+
+-- the number of an entry, 0 where it is none
+abbrev pub number_of : Date → ℤ
+number_of Early = pos 0
+number_of (At x) = x
+number_of Never = pos 0
+
+-- the sum of the entries along a way from row j by these rows
+abbrev pub way_sum : Table Date → ℕ → List ℕ → ℤ
+way_sum a j [] = pos 0
+way_sum a j (k ∷ ks) = number_of (entry_at a k j) +ℤ way_sum a k ks
+
+-- the rows lead around from a row to itself, and the mean of the entries on the way is the value
+pub record IsCriticalCircuit (a : Table Date) (value : EigenValue) (ks : List ℕ) : Type 0 where
+  pub from : ℕ
+  pub from_in : from < a.rows
+  pub some : 1 ≤ length ks
+  pub closed : IsWay a from ks from
+  pub mean : (pos value.steps *ℤ way_sum a from ks) ≡ (pos (length ks) *ℤ value.time)

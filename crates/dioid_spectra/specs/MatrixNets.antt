@@ -6,6 +6,8 @@ use Rattle.dioid.specs.declared.dates.Date.{Date}
 use Rattle.dioid.specs.declared.dates.Date.TheVariants.{Early, At}
 use Rattle.dioid_matrix.specs.Tables.{Table}
 use Rattle.teg_net.specs.declared.entries.Place.{Place}
+use Rattle.teg_net.specs.declared.entries.PlaceId.{PlaceId}
+use Rattle.teg_net.specs.Circuits.{IsCircuit, time_of, tokens_of}
 use Rattle.teg_net.specs.Limits.{greatest_hold, greatest_circuit_time, most_circuit_tokens}
 use Rattle.teg_net.specs.NetFaults.{IsNetFault}
 use Rattle.teg_net.specs.Nets.{NetLists}
@@ -127,3 +129,8 @@ least_with low Date.Never = low
 abbrev pub IsPlaceFor : Table Date → ℤ → ℕ → Option Place → Type 0
 IsPlaceFor a low k None = IsNumber (get_or a.entries k Early) → ⊥
 IsPlaceFor a low k (Some p) = IsPlaceOfEntry a low p × (p.to.index * a.columns + p.from.index ≡ k)
+
+-- a circuit of the net with the ratio
+pub record AttainsRatio (net : NetLists) (r : Fraction) (c : List PlaceId) : Type 0 where
+  pub circuit : IsCircuit net c
+  pub attains : time_of net c * r.tokens ≡ r.time * tokens_of net c

@@ -3,11 +3,12 @@
 //!
 //! Each call that makes a matrix tells each of its entries ([`from_rows`], [`matrix_of`],
 //! [`identity`], [`zero`], [`choice`], [`transpose`], [`power`]). [`eigen`] finds the eigenvalue of
-//! a matrix of dates whose rows reach each other, with an eigenvector (`IsEigenOf`), and
-//! [`is_eigen`] is a checker of them. The crate stands on `dioid_matrix` and `dioid` for matrices;
-//! the eigenvalue is the pace of the net of the matrix, so it stands on `teg_howard`, `teg_parts`,
-//! `teg_check` and `teg_net` for it, and on `pace_laws` for the law that the potentials of a pace
-//! are met. Its examples stand in `series_examples`, in `spectra.rt`.
+//! a matrix of dates whose rows reach each other, with an eigenvector (`IsEigenOf`) and a circuit
+//! that has it (`IsCriticalCircuit`), and [`is_eigen`] is a checker of the first two. The crate
+//! stands on `dioid_matrix` and `dioid` for matrices; the eigenvalue is the pace of the net of the
+//! matrix, so it stands on `teg_howard`, `teg_parts`, `teg_check` and `teg_net` for it, and on
+//! `pace_laws` for the law that the potentials of a pace are met. Its examples stand in
+//! `series_examples`, in `spectra.rt`.
 //!
 //! ## How it works
 //!

@@ -1,11 +1,12 @@
 //! The eigenvalue of a matrix of dates with an eigenvector, by the pace of its net.
-ghost use Rattle.std.specs.Prelude.{◌≡◌, ◌<◌, ℕ, IfErr, IfOk, length, slice_index_or, pos};
+ghost use Rattle.std.specs.Prelude.{◌≡◌, ◌<◌, ℕ, IfErr, IfOk, All, length, map, slice_index_or, pos};
 ghost use Rattle.pace_laws.specs.TightPotentials.{AreTightPotentials};
 ghost use Rattle.teg_net.specs.Certificates.{potential_at};
 ghost use Rattle.teg_net.specs.Circuits.{IsLive};
+ghost use Rattle.teg_net.specs.Parts.{to_of};
 ghost use Rattle.teg_parts.specs.Partitions.{AreParts};
-ghost use Rattle.dioid_spectra.specs.Eigenvectors.{IsEigenOf, IsIrreducible};
-ghost use Rattle.dioid_spectra.specs.MatrixNets.{IsNear, IsRatioOfCircuit, IsWhyNoSpectrum, value_of};
+ghost use Rattle.dioid_spectra.specs.Eigenvectors.{IsCriticalCircuit, IsEigenOf, IsIrreducible};
+ghost use Rattle.dioid_spectra.specs.MatrixNets.{AttainsRatio, IsNear, IsRatioOfCircuit, IsWhyNoSpectrum, value_of};
 
 use crate::eigenvectors::EigenValue;
 use crate::nets::{lowest, net_of};
@@ -15,7 +16,7 @@ use dioid_matrix::Matrix;
 use std::alloc::{AllocError, Global};
 use teg_check::ranks_of;
 use teg_howard::last_round;
-use teg_net::{Net, OutOfMemory, PartAnswer, Potential, Ratio};
+use teg_net::{Circuit, Net, OutOfMemory, PartAnswer, Potential, Ratio};
 use teg_parts::{Parts, split};
 
 /// An eigenvalue of a matrix of dates, with an eigenvector (chapter 3).
@@ -25,21 +26,25 @@ pub struct Spectrum {
     pub value: EigenValue,
     /// A number for each row, in the user's unit times the steps of the value.
     pub vector: Vec<i128>,
+    /// Rows around a circuit of this mean, in order: each has a number in the column of the one
+    /// before it, and the first in that of the last.
+    pub circuit: Vec<usize>,
 }
 
-// The greatest ratio of a net of one part that has a place, and potentials that a place meets at
-// each transition.
+// The greatest ratio of a net of one part that has a place, a circuit with it, and potentials that
+// a place meets at each transition.
 fn tight_potentials(
     alloc: Global,
     net: &Net,
     parts: &Parts,
-) -> Result<(Ratio, Vec<Potential>), OutOfMemory>
+) -> Result<(Ratio, Circuit, Vec<Potential>), OutOfMemory>
     requires live { IsLive net.now }
     requires parts { AreParts net.now parts.now }
     requires one { length parts.now.inner ≡ 1 }
     requires place { 0 < length net.now.places }
     ensures tight { IfOk result (λ w. AreTightPotentials net.now parts.now.part_of 0
-        w.0.time w.0.tokens (potential_at w.1.items)) }
+        w.0.time w.0.tokens (potential_at w.2.items)) }
+    ensures circuit { IfOk result (λ w. AttainsRatio net.now w.0 w.1.places.items) }
     ensures ratio { IfOk result (λ w. IsRatioOfCircuit w.0) }
 {
     net.rules();
@@ -48,10 +53,22 @@ fn tight_potentials(
         PartAnswer::NoCircuit => unreachable!(),
         PartAnswer::Best {
             ratio,
+            circuit,
             potentials,
-            ..
-        } => Ok((ratio, potentials)),
+        } => Ok((ratio, circuit, potentials)),
     }
+}
+
+// The rows into which the places of the circuit lead.
+fn rows_of(alloc: Global, net: &Net, circuit: &Circuit) -> Result<Vec<usize>, AllocError>
+    requires { All (λ p. p.index < length net.now.places) circuit.now.places.items }
+    ensures { IfOk result (λ rows. rows.items ≡ map (to_of net.now) circuit.now.places.items) }
+{
+    let mut rows = Vec::new(alloc);
+    for id in &circuit.places {
+        rows.push(net.place(*id).to.index())?;
+    }
+    Ok(rows)
 }
 
 // The potential of this number, 0 where none is told.
@@ -94,7 +111,8 @@ fn value_of(low: i128, ratio: Ratio) -> EigenValue
 
 /// The eigenvalue of a matrix of dates whose rows all reach each other, with an eigenvector
 /// (chapter 3): the matrix, each entry `steps` times, makes of the vector the vector with the time
-/// added. There is no other eigenvalue: it is the greatest mean of the numbers along a circuit.
+/// added. There is no other eigenvalue: it is the greatest mean of the numbers along a circuit, and
+/// one with this mean is told.
 ///
 /// Refused exactly where the matrix is not square, has an entry `Never`, a number of a magnitude
 /// above 10^18, no number, two numbers that differ by more than 1,000,000,000, more than 400 rows
@@ -103,6 +121,8 @@ fn value_of(low: i128, ratio: Ratio) -> EigenValue
 /// rounds of policy iteration.
 pub fn eigen(alloc: Global, a: &Matrix<Date>) -> Result<Spectrum, NoSpectrum>
     ensures eigen { IfOk result (λ found. IsEigenOf a.now found.value found.vector.items) }
+    ensures critical { IfOk result (λ found. IsCriticalCircuit a.now found.value
+        found.circuit.items) }
     ensures irreducible { IfOk result (λ _. IsIrreducible a.now) }
     ensures refused { IfErr result (IsWhyNoSpectrum a.now) }
 {
@@ -117,10 +137,12 @@ pub fn eigen(alloc: Global, a: &Matrix<Date>) -> Result<Spectrum, NoSpectrum>
     if parts.count() != 1 {
         return Err(NoSpectrum::Reducible);
     }
-    let (ratio, potentials) = tight_potentials(alloc, &net, &parts)?;
+    let (ratio, circuit, potentials) = tight_potentials(alloc, &net, &parts)?;
     let vector = vector_of(alloc, &potentials, a.rows())?;
+    let circuit = rows_of(alloc, &net, &circuit)?;
     Ok(Spectrum {
         value: value_of(low, ratio),
         vector,
+        circuit,
     })
 }

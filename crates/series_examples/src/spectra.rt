@@ -61,6 +61,13 @@ fn two_machines_have_a_pace(rt: HostRuntime) -> Result<(), Fail> {
     Ok(())
 }
 
+#[test]
+fn slowest_rows_are_told(rt: HostRuntime) -> Result<(), Fail> {
+    let found = eigen(rt.alloc(), &machines(rt.alloc(), Date::At(2))?)?;
+    assert!(rt; found.circuit.as_slice() == [1, 0].as_slice());
+    Ok(())
+}
+
 // Two lists: the first has two dates, and these are the second.
 fn two_rows(alloc: Global, second: Vec<Date>) -> Result<Vec<Vec<Date>>, Fail> {
     let mut rows = Vec::new(alloc);

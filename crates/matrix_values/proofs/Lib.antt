@@ -1,0 +1,4 @@
+pub mod MeetTables
+pub mod ReachLaws
+pub mod SameTables
+pub mod TurnedTables

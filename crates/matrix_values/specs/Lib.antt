@@ -1,0 +1,4 @@
+pub mod MatrixMeets
+pub mod MatrixTexts
+pub mod RightResiduals
+pub mod RowReach
