@@ -5,8 +5,8 @@ ghost use Rattle.std.specs.Prelude.{◌≡◌, IfOk};
 use dioid::Date;
 use dioid_laws::products_commute;
 use dioid_matrix::{Matrix, MatrixRefused};
-use dioid_spectra::matrix_of;
-use matrix_values::{RowsApart, matrix_text, meet, right_residual, unreached};
+use dioid_spectra::{matrix_of, transpose};
+use matrix_values::{RowsApart, equals, matrix_text, meet, right_residual, unreached};
 use std::alloc::{AllocError, Global};
 use std::test::Fail;
 
@@ -37,6 +37,21 @@ fn meets_have_the_earlier_dates(rt: HostRuntime) -> Result<(), Fail> {
     let other = [Date::At(5), Date::At(1), Date::Never, Date::Early];
     let told = earlier_of_each(rt.alloc(), other)?;
     assert!(rt; told.as_str() == " 3 1\n 2 epsilon\n");
+    Ok(())
+}
+
+// Whether the machines turned once are the machines, and whether those turned twice are.
+fn turned_once_and_twice(alloc: Global) -> Result<(bool, bool), AllocError> {
+    let machines = machines(alloc)?;
+    let turned = transpose(alloc, &machines)?;
+    let back = transpose(alloc, &turned)?;
+    Ok((equals(&turned, &machines), equals(&back, &machines)))
+}
+
+#[test]
+fn turned_twice_they_are_equal(rt: HostRuntime) -> Result<(), Fail> {
+    let told = turned_once_and_twice(rt.alloc())?;
+    assert!(rt; told == (false, true));
     Ok(())
 }
 
