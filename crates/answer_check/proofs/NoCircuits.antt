@@ -6,6 +6,7 @@ use Rattle.teg_net.specs.Circuits.{no_place}
 use Rattle.teg_net.specs.GreatestRatios.{HasNoCircuit, IsAnyPlace}
 use Rattle.teg_net.specs.Nets.{NetLists, IsNet}
 use Rattle.teg_net.proofs.PathLaws.{IsPathBetween-in_range}
+use Rattle.teg_net.proofs.NetRules.{net_ends}
 use Rattle.teg_certificates.specs.SlackWitnesses.{RisingNumbersShowNoCircuit}
 use Rattle.answer_check.specs.NoCircuits.{RiseAtEachPlace}
 
@@ -15,7 +16,7 @@ rising_none net numbers ok law h ps circuit inside =
     let d : PlaceId = record { index = 0 } in
     let p : PlaceId = get_or ps 0 d in
     let there = IsPathBetween-in_range net ps circuit.closed.0 circuit.closed.0 circuit.closed.1 0 d circuit.not_empty in
-    law net numbers p ok
+    law net numbers p (net_ends net ok)
     (record {
       count = h.count;
       never_falls = λ i e l. let up = h.rises i e l in omega arith;

@@ -1,7 +1,6 @@
 -- Input lists that go on evenly move in turns of whole laps, and the least dating by them jumps.
-use Rattle.std.proofs.Common.{ℕ, zero, suc, pos, ◌+◌, ◌-◌, ◌*◌, ◌/◌, ◌<◌, ◌≤◌, ◌≡◌, ◌+ℤ◌, List, [], ◌∷◌, eqb, true, false, length, Option, Some, None, refl, sym, ap, subst, ◌∙◌, arith, ⊎_elim}
-use Rattle.std.specs.Prelude.{All, find, ◌==◌}
-use Rattle.std.proofs.lemmas.Bool.{cases_Bool}
+use Rattle.std.proofs.Common.{ℕ, zero, suc, pos, ◌+◌, ◌-◌, ◌*◌, ◌/◌, ◌<◌, ◌≤◌, ◌≡◌, ◌+ℤ◌, List, length, Option, Some, None, refl, sym, ap, subst, ◌∙◌, arith, ⊎_elim}
+use Rattle.std.specs.Prelude.{All}
 use Rattle.std.proofs.lemmas.Int.{ints}
 use Rattle.dioid.specs.declared.dates.Date.{Date}
 use Rattle.dioid.specs.declared.dates.Date.TheVariants.{At}
@@ -9,12 +8,12 @@ use Rattle.dioid.specs.Dates.{delayed, move}
 use Rattle.dioid.proofs.Moves.{move_zero, move_move, delayed_is_move}
 use Rattle.teg_net.specs.declared.entries.Again.{Again}
 use Rattle.teg_net.specs.declared.entries.InputList.{InputList}
-use Rattle.teg_net.specs.Nets.{NetLists, IsNet, EndsOrGoesOn}
+use Rattle.teg_net.specs.Nets.{NetLists, EndsOrGoesOn, HasListsByRule}
 use Rattle.teg_net.specs.Inputs.{moved_by, GoOnBy, list_date, date_by_list, list_of_input}
-use Rattle.teg_net.proofs.InputDates.{IsInputDates-list_date}
+use Rattle.teg_net.proofs.InputDates.{IsInputDates-list_date, found_has}
 use Rattle.teg_model.specs.Datings.{as_date, listed_releases}
 use Rattle.jump_laws.specs.Jumps.{MovesTo}
-use Rattle.jump_laws.specs.ListedJumps.{HasListsByRule, HasWholeLaps, GoesOnInTurns, gaps_in, pace_by_list, listed_pace, ListedReleasesMove, ListedDatesJump, JumpsTellTooLong}
+use Rattle.jump_laws.specs.ListedJumps.{HasWholeLaps, GoesOnInTurns, gaps_in, pace_by_list, listed_pace, ListedReleasesMove, ListedDatesJump, JumpsTellTooLong}
 use Rattle.jump_laws.proofs.InNets.{dates_jump}
 use Rattle.jump_laws.proofs.Overtaken.{come_after}
 use Rattle.settled_laws.specs.SettledForms.{step_of_form}
@@ -50,22 +49,6 @@ by_again dates (Some a) u h g after turn left laps k l =
     let back : (j + a.every) - a.every ≡ j = omega arith in
     ap as_date (g (j + a.every) (omega arith) ∙ ap (λ i. moved_by a.gap (u i)) back) ∙ date_moved a.gap (u j))
     (turn / a.every) k l)
-
--- a list that is found is one of them
-found_has : (P : InputList → Type 0) (xs : List InputList) (t : ℕ) (l : InputList) → All P xs → Some l ≡ find (λ x. x.transition.index == t) xs → P l
-found_has P [] t l h e = absurd (cc)
-found_has P (x ∷ xs) t l h e =
-    ⊎_elim
-    (λ (b : eqb x.transition.index t ≡ true).
-    let is : Some l ≡ Some x = rw b at e in
-    let same : l ≡ x = cc in
-    rw same (h 0 x (omega arith)))
-    (λ (b : eqb x.transition.index t ≡ false). found_has P xs t l (λ i d m. h (suc i) d (omega arith)) (rw b at e))
-    (cases_Bool (eqb x.transition.index t))
-
--- the lists of a net keep that rule
-pub lists_by_rule : (net : NetLists) → IsNet net → HasListsByRule net
-lists_by_rule net ok i d l = (ok.each_input i d l).again
 
 by_list : (net : NetLists) → HasListsByRule net → (turn after last : ℕ) → All (GoesOnInTurns turn after) net.inputs → (t : ℕ) (o : Option InputList) → o ≡ list_of_input net t
     → MovesTo (λ k. as_date (date_by_list o k)) after turn last (λ k. pace_by_list turn o)

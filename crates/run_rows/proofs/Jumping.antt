@@ -21,7 +21,8 @@ use Rattle.date_rows.specs.DateTables.{TableDates, date_at}
 use Rattle.jump_laws.specs.Jumps.{MovesUpTo, MovesInTurns, AreInTimeAfter, IsInTimeAfter, IsReleasedAfter}
 use Rattle.jump_laws.specs.ListedJumps.{GoesOnInTurns, listed_pace}
 use Rattle.jump_laws.specs.Runs.{Run, IsRunOf, kept_date, kept_step}
-use Rattle.jump_laws.proofs.InLists.{lists_by_rule, listed_jump}
+use Rattle.teg_net.proofs.NetRules.{lists_by_rule}
+use Rattle.jump_laws.proofs.InLists.{listed_jump}
 use Rattle.jump_laws.proofs.Runs.{read_off}
 use Rattle.run_rows.specs.LeastRuns.{AreRowsPast}
 use Rattle.run_rows.specs.ReadRuns.{IsJumpRun, IsLastTurn, MovesInRows}

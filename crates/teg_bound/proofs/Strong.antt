@@ -11,6 +11,7 @@ use Rattle.teg_net.specs.Parts.{to_of}
 use Rattle.teg_net.specs.GreatestRatios.{IsGreatestRatio, IsAnyPlace, IsCycleTime, ratio_in, ratio_at}
 use Rattle.teg_net.specs.Certificates.{IsCertificate, IsPartCertificate}
 use Rattle.teg_net.specs.Limits.{greatest_circuit_time, most_circuit_tokens}
+use Rattle.teg_net.proofs.NetRules.{net_ends}
 use Rattle.teg_parts.specs.Partitions.{PartLists, AreParts}
 use Rattle.teg_certificates.specs.BestRatios.{named_ratio, best_ratio_of}
 use Rattle.teg_certificates.proofs.Certified.{tell_of_nets}
@@ -81,14 +82,14 @@ named_some net answers (Some k) told e = let r = told.1 in let f : ⊥ = cc in a
 pub some_best : (net : NetLists) (answer : CycleAnswer) → IsNet net → IsCertificate net answer → EachReachesEach net → 0 < length net.places → best_ratio_of answer ≢ None
 some_best net answer rules cert each some none =
     let c = some_circuit net rules each some in
-    let told : IsCycleTime net answer.parts.items answer.best = tell_of_nets net answer rules cert in
+    let told : IsCycleTime net answer.parts.items answer.best = tell_of_nets net answer (net_ends net rules) cert in
     let no : IsCycleTime net answer.parts.items None = subst (IsCycleTime net answer.parts.items) (named_some net answer.parts.items answer.best told none) told in
     no c.0 c.1 (λ i d l. tt)
 
 -- the ratio of the best part is the greatest
 best_greatest : (net : NetLists) (answer : CycleAnswer) (r : Fraction) → IsNet net → IsCertificate net answer → TellsBest answer r → IsGreatestRatio net IsAnyPlace r
 best_greatest net answer r rules cert h =
-    let told : IsCycleTime net answer.parts.items (Some h.part) = subst (IsCycleTime net answer.parts.items) h.named (tell_of_nets net answer rules cert) in
+    let told : IsCycleTime net answer.parts.items (Some h.part) = subst (IsCycleTime net answer.parts.items) h.named (tell_of_nets net answer (net_ends net rules) cert) in
     let both : Some told.0 ≡ Some r = sym told.1 ∙ h.told in
     let is : told.0 ≡ r = cc in
     subst (IsGreatestRatio net IsAnyPlace) is told.2

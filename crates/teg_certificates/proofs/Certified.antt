@@ -7,7 +7,7 @@ use Rattle.teg_net.specs.declared.answers.Potential.{Potential}
 use Rattle.teg_net.specs.declared.answers.PartAnswer.{PartAnswer}
 use Rattle.teg_net.specs.declared.answers.PartAnswer.TheVariants.{NoCircuit, Best}
 use Rattle.teg_net.specs.declared.answers.CycleAnswer.{CycleAnswer}
-use Rattle.teg_net.specs.Nets.{NetLists, IsNet}
+use Rattle.teg_net.specs.Nets.{NetLists, HasEndsInRange}
 use Rattle.teg_net.specs.Ratios.{Fraction}
 use Rattle.teg_net.specs.Circuits.{IsCircuit, time_of, tokens_of}
 use Rattle.teg_net.specs.Parts.{IsPlaceOfPart}
@@ -62,24 +62,24 @@ told_of net part_of part NoCircuit h ps c i = absurd (h ps c i)
 told_of net part_of part (Best ratio circuit potentials) h ps c i = (ratio, refl, h.some, h.greatest ps c i)
 
 -- each circuit lies in a part that the answer tells of
-in_told : (net : NetLists) (answer : CycleAnswer) → IsNet net → IsCertificate net answer → (ps : List PlaceId) → IsCircuit net ps
+in_told : (net : NetLists) (answer : CycleAnswer) → HasEndsInRange net → IsCertificate net answer → (ps : List PlaceId) → IsCircuit net ps
     → (k : ℕ) × (k < length answer.parts.items) × All (IsPlaceOfPart net answer.part_of.items k) ps
-in_told net answer kept h ps c =
-    let w = circuit_in_part net kept answer.part_of.items h.count h.rises ps c in
+in_told net answer ends h ps c =
+    let w = circuit_in_part net ends answer.part_of.items h.count h.rises ps c in
     let p : PlaceId = get_or ps 0 (record { index = 0 }) in
     let first = (w.1 0 (record { index = 0 }) c.not_empty).from_member in
     let b = h.below _ 0 first.in_range in
     let here = first.here in
     (w.0, omega arith, w.1)
 
-by_best : (net : NetLists) (answer : CycleAnswer) → IsNet net → IsCertificate net answer → (best : Option ℕ) → IsFirstGreatest answer.parts.items best → IsCycleTime net answer.parts.items best
-by_best net answer kept h None none = λ ps c i.
-    let w = in_told net answer kept h ps c in
+by_best : (net : NetLists) (answer : CycleAnswer) → HasEndsInRange net → IsCertificate net answer → (best : Option ℕ) → IsFirstGreatest answer.parts.items best → IsCycleTime net answer.parts.items best
+by_best net answer ends h None none = λ ps c i.
+    let w = in_told net answer ends h ps c in
     let t = told_of net answer.part_of.items w.0 (get_or answer.parts.items w.0 NoCircuit) (tell_of_parts net answer h w.0 w.1) ps c w.2 in
     let e = none w.0 in
     let s = t.1 in
     let f : ⊥ = cc in f
-by_best net answer kept h (Some k) best =
+by_best net answer ends h (Some k) best =
     let r : Fraction = best.0 in
     let b = best.1 in
     let l = told_in answer.parts.items k r b.here in
@@ -91,7 +91,7 @@ by_best net answer kept h (Some k) best =
         attained = (g.attained.0, g.attained.1, (λ i d m. tt), g.attained.3);
         token = g.token;
         greatest = λ ps c i.
-            let w = in_told net answer kept h ps c in
+            let w = in_told net answer ends h ps c in
             let t = told_of net answer.part_of.items w.0 (get_or answer.parts.items w.0 NoCircuit) (tell_of_parts net answer h w.0 w.1) ps c w.2 in
             let q : Fraction = t.0 in
             ratio_trans (time_of net ps) (tokens_of net ps) q.time q.tokens r.time r.tokens (let s = t.2 in omega arith) t.3 (b.greatest w.0 q t.1);
@@ -99,4 +99,4 @@ by_best net answer kept h (Some k) best =
     )
 
 pub tell_of_nets : CertificatesTellOfNets
-tell_of_nets net answer kept h = by_best net answer kept h answer.best h.best
+tell_of_nets net answer ends h = by_best net answer ends h answer.best h.best

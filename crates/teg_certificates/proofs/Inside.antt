@@ -2,11 +2,11 @@
 use Rattle.std.proofs.Common.{ℕ, zero, suc, ◌<◌, ◌≤◌, ◌≡◌, List, [], ◌∷◌, length, get_or, ap, arith}
 use Rattle.std.specs.Prelude.{All}
 use Rattle.teg_net.specs.declared.entries.PlaceId.{PlaceId}
-use Rattle.teg_net.specs.Nets.{NetLists, IsNet}
+use Rattle.teg_net.specs.Nets.{NetLists, HasEndsInRange}
 use Rattle.teg_net.specs.Circuits.{no_place, from_of, IsPathBetween, IsCircuit}
 use Rattle.teg_net.specs.Parts.{to_of, IsPlaceOfPart}
 
-module _ (net : NetLists) (kept : IsNet net) (part_of : List ℕ) (count : length part_of ≡ length net.transitions)
+module _ (net : NetLists) (ends : HasEndsInRange net) (part_of : List ℕ) (count : length part_of ≡ length net.transitions)
     (rises : All (λ p. get_or part_of p.from.index 0 ≤ get_or part_of p.to.index 0) net.places) where
   abbrev part : ℕ → ℕ
   part t = get_or part_of t 0
@@ -28,8 +28,8 @@ module _ (net : NetLists) (kept : IsNet net) (part_of : List ℕ) (count : lengt
       let rest = along ps (to_of net p) b h.2 in
       let up = here p h.0 in
       let e : part (from_of net p) ≡ part a = ap part h.1 in
-      let from_in = (kept.each_place p.index no_place h.0).from_in in
-      let to_in = (kept.each_place p.index no_place h.0).to_in in
+      let from_in = (ends p.index no_place h.0).0 in
+      let to_in = (ends p.index no_place h.0).1 in
       record {
         in_range = h.0;
         from_member = record { in_range = omega arith; here = omega arith };

@@ -7,7 +7,7 @@ use Rattle.std.proofs.lemmas.List.Sums.{sum_by-cons}
 use Rattle.teg_net.specs.declared.entries.PlaceId.{PlaceId}
 use Rattle.teg_net.specs.declared.answers.PartAnswer.{PartAnswer}
 use Rattle.teg_net.specs.declared.answers.CycleAnswer.{CycleAnswer}
-use Rattle.teg_net.specs.Nets.{NetLists, IsNet}
+use Rattle.teg_net.specs.Nets.{NetLists, HasEndsInRange}
 use Rattle.teg_net.specs.Ratios.{Fraction}
 use Rattle.teg_net.specs.Circuits.{place_at, IsCircuit, time_of, tokens_of}
 use Rattle.teg_net.specs.Parts.{IsPlaceOfPart}
@@ -28,11 +28,11 @@ named_greatest net answers None r h e = let f : ⊥ = cc in absurd f
 named_greatest net answers (Some k) r h e = let here = h.1 in let is : h.0 ≡ r = cc in subst (IsGreatestRatio net IsAnyPlace) is h.2
 
 -- the ratio of the best part of a certified answer is the greatest of the net
-pub best_greatest : (net : NetLists) (answer : CycleAnswer) → IsNet net → IsCertificate net answer → (r : Fraction) → best_ratio_of answer ≡ Some r → IsGreatestRatio net IsAnyPlace r
-best_greatest net answer kept h r e = named_greatest net answer.parts.items answer.best r (tell_of_nets net answer kept h) e
+pub best_greatest : (net : NetLists) (answer : CycleAnswer) → HasEndsInRange net → IsCertificate net answer → (r : Fraction) → best_ratio_of answer ≡ Some r → IsGreatestRatio net IsAnyPlace r
+best_greatest net answer ends h r e = named_greatest net answer.parts.items answer.best r (tell_of_nets net answer ends h) e
 
 pub critical_shown : CriticalCircuitsTell
-critical_shown net answer kept h r e p ps c = (best_greatest net answer kept h r e, (ps, c.circuit, c.passes, c.attains))
+critical_shown net answer ends h r e p ps c = (best_greatest net answer ends h r e, (ps, c.circuit, c.passes, c.attains))
 
 -- ---- potentials
 
@@ -92,8 +92,8 @@ rise_shown net r p by vs h =
 -- ---- numbers
 
 pub no_circuit_shown : RisingNumbersShowNoCircuit
-no_circuit_shown net numbers p kept h ps c passes =
-    let w = circuit_in_part net kept numbers h.count h.never_falls ps c in
+no_circuit_shown net numbers p ends h ps c passes =
+    let w = circuit_in_part net ends numbers h.count h.never_falls ps c in
     let here = h.here in
     let there = w.1 passes.0 p passes.1 in
     let is : get_or ps passes.0 p ≡ p = passes.2 in

@@ -4,7 +4,7 @@ use Rattle.teg_net.specs.declared.entries.PlaceId.{PlaceId}
 use Rattle.teg_net.specs.declared.answers.PartAnswer.{PartAnswer}
 use Rattle.teg_net.specs.declared.answers.PartAnswer.TheVariants.{NoCircuit, Best}
 use Rattle.teg_net.specs.declared.answers.CycleAnswer.{CycleAnswer}
-use Rattle.teg_net.specs.Nets.{NetLists, IsNet}
+use Rattle.teg_net.specs.Nets.{NetLists, HasEndsInRange}
 use Rattle.teg_net.specs.Circuits.{IsCircuit, from_of, time_of, tokens_of}
 use Rattle.teg_net.specs.Parts.{IsPlaceOfPart, to_of}
 use Rattle.teg_net.specs.ReducedTimes.{reduced_time}
@@ -18,7 +18,7 @@ TellsOfPart net part_of part (Best ratio circuit potentials) = IsGreatestRatio n
 
 -- the best part's ratio is the greatest over all circuits of the net; none is named exactly where the net has no circuit
 abbrev pub CertificatesTellOfNets : Type 0
-CertificatesTellOfNets = (net : NetLists) (answer : CycleAnswer) → IsNet net → IsCertificate net answer → IsCycleTime net answer.parts.items answer.best
+CertificatesTellOfNets = (net : NetLists) (answer : CycleAnswer) → HasEndsInRange net → IsCertificate net answer → IsCycleTime net answer.parts.items answer.best
 
 -- a certified answer tells of each part the greatest ratio over the circuits in it, or that there is none
 abbrev pub CertificatesTellOfParts : Type 0

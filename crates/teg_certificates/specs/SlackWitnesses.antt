@@ -4,7 +4,7 @@ use Rattle.teg_net.specs.declared.entries.PlaceId.{PlaceId}
 use Rattle.teg_net.specs.declared.entries.Place.{Place}
 use Rattle.teg_net.specs.declared.answers.CycleAnswer.{CycleAnswer}
 use Rattle.teg_net.specs.Limits.{greatest_checked_potential}
-use Rattle.teg_net.specs.Nets.{NetLists, IsNet}
+use Rattle.teg_net.specs.Nets.{NetLists, HasEndsInRange}
 use Rattle.teg_net.specs.Ratios.{Fraction, IsRatioWithin}
 use Rattle.teg_net.specs.Circuits.{place_at, from_of, IsCircuit, time_of, tokens_of}
 use Rattle.teg_net.specs.Parts.{to_of}
@@ -61,7 +61,7 @@ pub record RiseAtPlace (net : NetLists) (numbers : List ℕ) (p : PlaceId) : Typ
 -- a circuit that has the ratio of the best part of a certified answer has the greatest ratio of the net, and passes the place
 abbrev pub CriticalCircuitsTell : Type 0
 CriticalCircuitsTell =
-    (net : NetLists) (answer : CycleAnswer) → IsNet net → IsCertificate net answer → (r : Fraction) → best_ratio_of answer ≡ Some r
+    (net : NetLists) (answer : CycleAnswer) → HasEndsInRange net → IsCertificate net answer → (r : Fraction) → best_ratio_of answer ≡ Some r
     → (p : PlaceId) (ps : List PlaceId) → IsCriticalCircuit net r p ps
     → IsGreatestRatio net IsAnyPlace r
     × ((qs : List PlaceId) × IsCircuit net qs × Contains qs p × (time_of net qs * r.tokens ≡ r.time * tokens_of net qs))
@@ -73,4 +73,4 @@ RisePotentialsTell = (net : NetLists) (r : Fraction) (p : PlaceId) (by : ℕ) (v
 -- no circuit passes a place along which such numbers rise
 abbrev pub RisingNumbersShowNoCircuit : Type 0
 RisingNumbersShowNoCircuit =
-    (net : NetLists) (numbers : List ℕ) (p : PlaceId) → IsNet net → RiseAtPlace net numbers p → (ps : List PlaceId) → IsCircuit net ps → Contains ps p → ⊥
+    (net : NetLists) (numbers : List ℕ) (p : PlaceId) → HasEndsInRange net → RiseAtPlace net numbers p → (ps : List PlaceId) → IsCircuit net ps → Contains ps p → ⊥

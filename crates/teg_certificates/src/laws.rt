@@ -28,7 +28,8 @@ pub fn circuits_lie_in_one_part()
 /// Where an answer is a certificate, the ratio of the best part is the greatest over all circuits
 /// of the net, and that of each part the greatest over its circuits; no part is named exactly where
 /// there is no circuit (chapters 2 and 3). Nothing else is asked of the answer, and of the net only
-/// its rules: not that it is live. The circuit told has a token, so that no net has two such ratios.
+/// that its places begin and end at its transitions: not that it is live. The circuit told has a
+/// token, so that no net has two such ratios.
 pub fn certificates_tell()
     ensures nets { CertificatesTellOfNets }
     ensures parts { CertificatesTellOfParts }

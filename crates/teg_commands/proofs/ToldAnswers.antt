@@ -166,7 +166,7 @@ none_inside net ok parts strong k none p inside =
     let to = inside.to_member in
     let back = ((strong.strong.strong (to_of net p) (from_of net p) to.in_range from.in_range).0 (to.here ∙ sym from.here)).0 in
     let round = (pass_back net p inside.in_range).1 back in
-    let lies = circuit_in_part net ok parts.part_of strong.strong.count strong.rises round.0 round.1 in
+    let lies = circuit_in_part net (net_ends net ok) parts.part_of strong.strong.count strong.rises round.0 round.1 in
     let here : IsPlaceOfPart net parts.part_of lies.0 p = subst (IsPlaceOfPart net parts.part_of lies.0) round.2.2 (lies.1 round.2.0 p round.2.1) in
     let same : lies.0 ≡ k = sym here.from_member.here ∙ from.here in
     none round.0 round.1 (subst (λ (m : ℕ). All (IsPlaceOfPart net parts.part_of m) round.0) same lies.1)

@@ -29,8 +29,8 @@ rise_tells net r p by ps vs ratio h =
     )
 
 pub witnesses_tell : WitnessesTellSlacks
-witnesses_tell net answer kept h r e p = record {
-  none = λ numbers rises on. no_circuit_shown net numbers p kept rises on.0 on.1 on.2;
+witnesses_tell net answer ends h r e p = record {
+  none = λ numbers rises on. no_circuit_shown net numbers p ends rises on.0 on.1 on.2;
   critical = λ ps c. (ps, c.circuit, c.passes, c.attains);
-  rise = λ by ps vs shown. rise_tells net r p by ps vs (best_greatest net answer kept h r e) shown;
+  rise = λ by ps vs shown. rise_tells net r p by ps vs (best_greatest net answer ends h r e) shown;
 }

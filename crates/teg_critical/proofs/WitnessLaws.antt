@@ -21,6 +21,7 @@ use Rattle.teg_net.specs.Limits.{greatest_checked_potential}
 use Rattle.teg_net.proofs.PathLaws.{IsPathBetween-append, IsPathBetween-in_range}
 use Rattle.teg_net.specs.Certificates.{IsCertificate}
 use Rattle.teg_net.proofs.LowestTerms.{IsRatioOf-divided}
+use Rattle.teg_net.proofs.NetRules.{net_ends}
 use Rattle.teg_loops.proofs.Straight.{loop_short}
 use Rattle.teg_loops.proofs.Taking.{sum_most}
 use Rattle.teg_loops.proofs.Through.{pass_back}
@@ -231,7 +232,7 @@ can_raise net ok answer h live best b p l gap within =
     record {
       in_range = l;
       rules = ok;
-      greatest = best_greatest net answer ok h best b;
+      greatest = best_greatest net answer (net_ends net ok) h best b;
       time = told.small.time_in;
       tokens = omega (arith, low, most);
       gap = within.is;

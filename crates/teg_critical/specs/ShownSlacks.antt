@@ -2,7 +2,7 @@
 use Rattle.std.specs.Prelude.{ℕ, ℤ, ◌≡◌, List, Some}
 use Rattle.teg_net.specs.declared.entries.PlaceId.{PlaceId}
 use Rattle.teg_net.specs.declared.answers.CycleAnswer.{CycleAnswer}
-use Rattle.teg_net.specs.Nets.{NetLists, IsNet}
+use Rattle.teg_net.specs.Nets.{NetLists, HasEndsInRange}
 use Rattle.teg_net.specs.Ratios.{Fraction}
 use Rattle.teg_net.specs.Certificates.{IsCertificate}
 use Rattle.teg_certificates.specs.BestRatios.{best_ratio_of}
@@ -19,5 +19,5 @@ pub record WitnessesTell (net : NetLists) (r : Fraction) (p : PlaceId) : Type 0 
 -- with the ratio of the best part of a certified answer, what is shown of a place is its slack
 abbrev pub WitnessesTellSlacks : Type 0
 WitnessesTellSlacks =
-    (net : NetLists) (answer : CycleAnswer) → IsNet net → IsCertificate net answer → (r : Fraction) → best_ratio_of answer ≡ Some r
+    (net : NetLists) (answer : CycleAnswer) → HasEndsInRange net → IsCertificate net answer → (r : Fraction) → best_ratio_of answer ≡ Some r
     → (p : PlaceId) → WitnessesTell net r p

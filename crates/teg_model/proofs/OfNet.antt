@@ -14,18 +14,15 @@ use Rattle.teg_net.specs.declared.entries.Role.{Role}
 use Rattle.teg_net.specs.declared.entries.Role.TheVariants.{Internal, Input, Output}
 use Rattle.teg_net.specs.declared.entries.Transition.{Transition}
 use Rattle.teg_net.specs.declared.entries.Place.{Place}
-use Rattle.teg_net.specs.Nets.{NetLists, IsNet, IsInput}
+use Rattle.teg_net.specs.Nets.{NetLists, IsInput}
 use Rattle.teg_net.specs.Circuits.{no_place}
+pub use Rattle.teg_net.proofs.NetRules.{net_ends}
 use Rattle.teg_model.specs.Systems.{System, available, IsFeasibleIn, IsLeastIn}
-use Rattle.teg_model.specs.LiveRanks.{AreRanks, HasEndsInRange}
+use Rattle.teg_model.specs.LiveRanks.{AreRanks}
 use Rattle.teg_model.specs.Datings.{implicit_place, extended_places, IsFeasibleUnder, IsLeastUnder, by_role, by_transition, at_input, system_of}
 use Rattle.teg_model.specs.LeastDatings.{AreSameOn, IsTight}
 use Rattle.teg_model.proofs.LeastOver.{least_over, least_is_feasible, least_is_tight, least_is_least, least_over_is_least, available_rises}
 use Rattle.teg_model.proofs.DateFunctions.{Dating}
-
--- the places of a net end at its transitions
-pub net_ends : (net : NetLists) → IsNet net → HasEndsInRange net
-net_ends net ok i d l = ((ok.each_place i d l).from_in, (ok.each_place i d l).to_in)
 
 -- a fact of each place of the net and of each implicit place
 pub all_extended : (net : NetLists) (P : Place → Type 0) → All P net.places → ((t : ℕ) → P (implicit_place t)) → All P (extended_places net)

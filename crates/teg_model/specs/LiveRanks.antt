@@ -1,7 +1,8 @@
--- Ranks of transitions, which a live net has, and places whose ends are transitions of the net.
-use Rattle.std.specs.Prelude.{ℕ, ◌<◌, ◌≡◌, List, length, All}
+-- Ranks of transitions, which a live net has.
+use Rattle.std.specs.Prelude.{ℕ, ◌<◌, ◌≡◌, List, All}
 use Rattle.teg_net.specs.declared.entries.Place.{Place}
 use Rattle.teg_net.specs.Nets.{NetLists}
+pub use Rattle.teg_net.specs.Nets.{HasEndsInRange}
 
 -- ranks below a bound that rise strictly along each place without tokens
 pub record AreRanks (places : List Place) (bound : ℕ) (rank : ℕ → ℕ) : Type 0 where
@@ -15,7 +16,3 @@ HaveRanks places = (bound : ℕ) × (rank : ℕ → ℕ) × AreRanks places boun
 -- the transitions of the net have ranks
 abbrev pub IsRanked : NetLists → Type 0
 IsRanked net = HaveRanks net.places
-
--- each place begins and ends at a transition of the net
-abbrev pub HasEndsInRange : NetLists → Type 0
-HasEndsInRange net = All (λ p. (p.from.index < length net.transitions) × (p.to.index < length net.transitions)) net.places

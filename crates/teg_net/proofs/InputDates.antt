@@ -11,7 +11,8 @@ use Rattle.std.proofs.Math.Nat.{add-div_right, mul-le-mul_left, div-le_self}
 use Rattle.teg_net.specs.declared.entries.Again.{Again}
 use Rattle.teg_net.specs.declared.entries.InputList.{InputList}
 use Rattle.teg_net.specs.Limits.{greatest_input_date}
-use Rattle.teg_net.specs.Nets.{NetLists, IsNet, IsInputOf, EndsOrGoesOn}
+use Rattle.teg_net.specs.Nets.{NetLists, IsNet, IsInputOf, EndsOrGoesOn, HasListsByRule}
+use Rattle.teg_net.proofs.NetRules.{lists_by_rule}
 use Rattle.teg_net.specs.Inputs.{moved_by, GoOnBy, IsInputDates, IsListDate, AreInputDates, IsInputDate, laps_past, list_date_past, list_date, date_by_list, input_date}
 
 in_list : (dates : List ℕ) (again : Option Again) (k : ℕ) → k ≤ length dates → list_date dates again k ≡ Some (get_or dates (k - 1) 0)
@@ -86,27 +87,34 @@ not_found (x ∷ xs) t h =
     let b : eqb x.transition.index t ≡ false = grind (arith, nat_tests) in
     rw b (not_found xs t (λ i d m. h (suc i) d (omega arith)))
 
--- a list that is found is one of the net
-pub found_rules : (net : NetLists) (xs : List InputList) (t : ℕ) (l : InputList) → All (IsInputOf net) xs → Some l ≡ find (λ x. x.transition.index == t) xs → IsInputOf net l
-found_rules net [] t l h e = absurd (cc)
-found_rules net (x ∷ xs) t l h e =
+-- what is so of each list is so of one that is found
+pub found_has : (P : InputList → Type 0) (xs : List InputList) (t : ℕ) (l : InputList) → All P xs → Some l ≡ find (λ x. x.transition.index == t) xs → P l
+found_has P [] t l h e = absurd (cc)
+found_has P (x ∷ xs) t l h e =
     ⊎_elim
     (λ (b : eqb x.transition.index t ≡ true).
     let is : Some l ≡ Some x = rw b at e in
     let same : l ≡ x = cc in
     rw same (h 0 x (omega arith)))
-    (λ (b : eqb x.transition.index t ≡ false). found_rules net xs t l (λ i d m. h (suc i) d (omega arith)) (rw b at e))
+    (λ (b : eqb x.transition.index t ≡ false). found_has P xs t l (λ i d m. h (suc i) d (omega arith)) (rw b at e))
     (cases_Bool (eqb x.transition.index t))
 
+-- a list that is found is one of the net
+pub found_rules : (net : NetLists) (xs : List InputList) (t : ℕ) (l : InputList) → All (IsInputOf net) xs → Some l ≡ find (λ x. x.transition.index == t) xs → IsInputOf net l
+found_rules net xs t l h e = found_has (IsInputOf net) xs t l h e
+
 -- the dates of a net are those that its lists name
-pub AreInputDates-input_date : (net : NetLists) (t : ℕ) → IsNet net → AreInputDates net t (input_date net t)
-AreInputDates-input_date net t h = record {
+pub dates_by_lists : (net : NetLists) (t : ℕ) → AllPairs (λ l m. l.transition.index ≢ m.transition.index) net.inputs → HasListsByRule net → AreInputDates net t (input_date net t)
+dates_by_lists net t one rules = record {
   by_list = λ i d m e. (
       let l : InputList = get_or net.inputs i d in
-      let is : find (λ x. x.transition.index == t) net.inputs ≡ Some l = found net.inputs t i d h.one_list m e in
-      subst (λ o. IsInputDates l (date_by_list o)) (sym is) (IsInputDates-list_date l (h.each_input i d m).again));
+      let is : find (λ x. x.transition.index == t) net.inputs ≡ Some l = found net.inputs t i d one m e in
+      subst (λ o. IsInputDates l (date_by_list o)) (sym is) (IsInputDates-list_date l (rules i d m)));
   no_list = λ none k. ap (λ o. date_by_list o k) (not_found net.inputs t none);
 }
+
+pub AreInputDates-input_date : (net : NetLists) (t : ℕ) → IsNet net → AreInputDates net t (input_date net t)
+AreInputDates-input_date net t h = dates_by_lists net t h.one_list (lists_by_rule net h)
 
 -- past the list, dates that agree before agree
 past_agree :

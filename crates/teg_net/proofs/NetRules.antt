@@ -6,7 +6,7 @@ use Rattle.teg_net.specs.declared.entries.Place.{Place}
 use Rattle.teg_net.specs.declared.entries.InputList.{InputList}
 use Rattle.teg_net.specs.Limits.{most_transitions, most_places}
 use Rattle.teg_net.specs.Names.{is_name}
-use Rattle.teg_net.specs.Nets.{IsPlaceOf, IsInputOf, IsNet, lists_of, transitions_alone}
+use Rattle.teg_net.specs.Nets.{NetLists, IsPlaceOf, IsInputOf, IsNet, HasEndsInRange, HasListsByRule, HasRisingLists, HasListsOfInputs, lists_of, transitions_alone}
 
 -- what may stand in a net may stand in each net of the same transitions
 module _ (transitions : List Transition) (places others : List Place) (inputs more : List InputList) where
@@ -55,3 +55,21 @@ rules_hold ts ps ls few each apart = record {
   one_list = apart.2;
   each_input = λ i d l. input_along ts [] ps [] ls (get_or ls i d) (each.3 i d l);
 }
+
+-- ---- what a net keeps, where a law asks for no more
+
+-- its places begin and end at its transitions
+pub net_ends : (net : NetLists) → IsNet net → HasEndsInRange net
+net_ends net ok i d l = ((ok.each_place i d l).from_in, (ok.each_place i d l).to_in)
+
+-- its lists end, or go on by the rule
+pub lists_by_rule : (net : NetLists) → IsNet net → HasListsByRule net
+lists_by_rule net ok i d l = (ok.each_input i d l).again
+
+-- the dates of a list never fall
+pub lists_rise : (net : NetLists) → IsNet net → HasRisingLists net
+lists_rise net ok i d l = (ok.each_input i d l).never_falls
+
+-- and each list is that of one input
+pub lists_of_inputs : (net : NetLists) → IsNet net → HasListsOfInputs net
+lists_of_inputs net ok = record { is_input = λ i d l. (ok.each_input i d l).is_input; one_list = ok.one_list }

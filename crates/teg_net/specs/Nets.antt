@@ -34,6 +34,10 @@ pub record IsPlaceOf (net : NetLists) (p : Place) : Type 0 where
   pub ready_all : (length p.ready ≡ 0) ⊎ (length p.ready ≡ p.tokens)
   pub ready_in : All (λ d. d ≤ greatest_input_date) p.ready
 
+-- each place begins and ends at a transition of the net
+abbrev pub HasEndsInRange : NetLists → Type 0
+HasEndsInRange net = All (λ p. (p.from.index < length net.transitions) × (p.to.index < length net.transitions)) net.places
+
 -- the list goes on past its end: each date is that of `every` firings before, plus the gap, and dates do not fall there
 pub record ListGoesOn (dates : List ℕ) (a : Again) : Type 0 where
   pub some : 1 ≤ a.every
@@ -46,6 +50,19 @@ pub record ListGoesOn (dates : List ℕ) (a : Again) : Type 0 where
 abbrev pub EndsOrGoesOn : List ℕ → Option Again → Type 0
 EndsOrGoesOn dates None = ⊤
 EndsOrGoesOn dates (Some a) = ListGoesOn dates a
+
+-- each input list keeps the rule of one that ends or goes on
+abbrev pub HasListsByRule : NetLists → Type 0
+HasListsByRule net = All (λ l. EndsOrGoesOn l.dates l.again) net.inputs
+
+-- the dates of each input list never fall
+abbrev pub HasRisingLists : NetLists → Type 0
+HasRisingLists net = All (λ l. IsNonDecreasing l.dates) net.inputs
+
+-- each input list is of an input, and no two are of the same
+pub record HasListsOfInputs (net : NetLists) : Type 0 where
+  pub is_input : All (λ l. IsInput net l.transition.index) net.inputs
+  pub one_list : AllPairs (λ l m. l.transition.index ≢ m.transition.index) net.inputs
 
 -- a list of an input of the net: its dates keep their limits and never fall
 pub record IsInputOf (net : NetLists) (l : InputList) : Type 0 where

@@ -1,4 +1,4 @@
-use Rattle.jump_laws.proofs.InLists.{lists_by_rule}
+use Rattle.teg_net.proofs.NetRules.{lists_by_rule}
 use Rattle.teg_model.proofs.OfNet.{net_ends}
 use Rattle.law_examples.proofs.turns.dates_move_on.Goals as goal
 

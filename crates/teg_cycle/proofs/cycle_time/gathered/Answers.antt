@@ -1,6 +1,7 @@
 use Rattle.std.proofs.Common.{arith, rules}
 use Rattle.teg_net.specs.declared.answers.CycleAnswer.{CycleAnswer}
 use Rattle.teg_net.specs.GreatestRatios.{IsFirstGreatest}
+use Rattle.teg_net.proofs.NetRules.{net_ends}
 use Rattle.teg_cycle.proofs.Telling.{have_tokens}
 use Rattle.teg_certificates.proofs.Certified.{tell_of_nets}
 use Rattle.teg_cycle.proofs.Gathering.{certified}
@@ -19,4 +20,4 @@ returns c =
     let best : IsFirstGreatest c.args.answers.items c.best_number-best.result = rw c.deref.ensures.value at c.best_number-best.ensures in
     let answer : CycleAnswer = record { part_of = c.args.part_of; parts = c.args.answers; best = c.best_number-best.result } in
     let is = certified net c.args.parts.now answer r.parts r.numbers r.count r.certificates best in
-    record { part_of = search rules; parts = search rules; best = best; net = tell_of_nets net answer r.rules is; certificate = is }
+    record { part_of = search rules; parts = search rules; best = best; net = tell_of_nets net answer (net_ends net r.rules) is; certificate = is }
