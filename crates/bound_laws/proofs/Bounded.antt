@@ -14,9 +14,11 @@ use Rattle.settled_laws.specs.teg_net.declared.entries.PlaceId.{PlaceId}
 use Rattle.settled_laws.specs.teg_net.declared.entries.Place.{Place}
 use Rattle.settled_laws.specs.teg_net.Nets.{NetLists, IsNet, IsPlaceOf}
 use Rattle.settled_laws.specs.teg_net.Circuits.{no_place, place_at, from_of, IsPathBetween, IsCircuit, IsLive, time_of, tokens_of}
+use Rattle.settled_laws.proofs.teg_net_proofs.NetRules.{net_ends}
 use Rattle.settled_laws.proofs.teg_net_proofs.PathLaws.{IsPathBetween-in_range}
 use Rattle.settled_laws.specs.teg_model.Datings.{IsLeastDating, extended_places, implicit_place}
 use Rattle.teg_loops.specs.Loops.{EndsBelow}
+use Rattle.teg_loops.proofs.Ends.{ends_below}
 use Rattle.teg_loops.proofs.Taking.{Keeps, sum_most}
 use Rattle.teg_loops.proofs.Straight.{loop_short}
 use Rattle.bound_laws.proofs.Best.{Setting, IsCriticalIn}
@@ -193,18 +195,12 @@ in_factorial m (suc n) one l = ⊎_elim
     (factorial n, product_turned (suc n) (factorial n) ∙ ap (λ (z : ℕ). factorial n * z) (sym is)))
     (cases_lt m (suc n))
 
-ends_of : (net : NetLists) → IsNet net → EndsBelow net (length net.transitions)
-ends_of net ok = record {
-  from_in = λ id l. let is : IsPlaceOf net (place_at net id) = ok.each_place id.index no_place l in is.from_in;
-  to_in = λ id l. let is : IsPlaceOf net (place_at net id) = ok.each_place id.index no_place l in is.to_in;
-}
-
 pub factorials_are_common : FactorialsAreCommon
 factorials_are_common net hold tokens a b s c ps crit =
     let n : ℕ = length net.transitions in
     let some : 1 ≤ tokens_of net ps = some_of (tokens_of net ps) (s.live ps crit.circuit) in
     let one = sum_most (λ p. (place_at net p).tokens) tokens net (λ id l. s.marks id.index no_place l) ps c c crit.at in
-    let two : length ps * tokens ≤ n * tokens = mul-le-mul_right {m = length ps} {n = n} tokens (loop_short net n ps (ends_of net s.net_rules) crit.circuit) in
+    let two : length ps * tokens ≤ n * tokens = mul-le-mul_right {m = length ps} {n = n} tokens (loop_short net n ps (ends_below net (net_ends net s.net_rules)) crit.circuit) in
     let u = in_factorial (tokens_of net ps) (n * tokens) some (omega arith) in
     (ps, crit, u.0, u.1)
 

@@ -12,7 +12,9 @@ use Rattle.bound_laws.proofs.teg_loops_proofs.Taking.{loop_sum, by_loops, sum_mo
 use Rattle.bound_laws.proofs.teg_loops_proofs.Visits.{Meets, joined_meets, still_meets}
 use Rattle.bound_laws.specs.Critical.{IsCriticalAt}
 use Rattle.slope_laws.specs.teg_loops.Loops.{IsCircuitTowards}
-use Rattle.slope_laws.proofs.WalkPaths.{ends_below, tokens_round}
+use Rattle.bound_laws.proofs.teg_net_proofs.NetRules.{net_ends}
+use Rattle.bound_laws.proofs.teg_loops_proofs.Ends.{ends_below}
+use Rattle.slope_laws.proofs.WalkPaths.{tokens_round}
 
 -- the path meets a transition of a critical circuit
 pub record MeetsCritical (net : NetLists) (a b t : ℕ) (ps : List PlaceId) : Type 0 where
@@ -44,7 +46,7 @@ loses_more b C a P t1 t2 k1 k2 time tokens q e f h l m w =
 
 pub meets_or_loses : (net : NetLists) (a b : ℕ) → IsNet net → (j t : ℕ) → ((ps : List PlaceId) → IsCircuitTowards net t ps → b * time_of net ps ≤ a * tokens_of net ps)
     → t < length net.transitions → (ps : List PlaceId) → IsPathBetween net j ps t → MeetsCritical net a b t ps ⊎ LosesMuch net a b ps
-meets_or_loses net a b ok j t greatest lt ps h = by_loops net (length net.transitions) j t (λ qs. MeetsCritical net a b t qs ⊎ LosesMuch net a b qs) (ends_below net ok) lt
+meets_or_loses net a b ok j t greatest lt ps h = by_loops net (length net.transitions) j t (λ qs. MeetsCritical net a b t qs ⊎ LosesMuch net a b qs) (ends_below net (net_ends net ok)) lt
     (λ qs g l.
     let few : tokens_of net qs ≤ most_tokens net = short (λ p. (place_at net p).tokens) most_place_tokens qs g l (λ id m. (ok.each_place id.index no_place m).tokens_in) in
     let soon : time_of net qs ≤ most_time net = short (λ p. (place_at net p).hold) greatest_hold qs g l (λ id m. (ok.each_place id.index no_place m).hold_in) in

@@ -16,7 +16,8 @@ use Rattle.slope_laws.specs.Slopes.{IsSlope}
 use Rattle.slope_laws.proofs.EndedLists.{dates_of_list}
 use Rattle.slope_laws.proofs.FormSlopes.{forms_have_slopes}
 use Rattle.slope_laws.proofs.Nevers.{nevers_come_from_ended_lists}
-use Rattle.slope_laws.proofs.WalkPaths.{ends_below}
+use Rattle.bound_laws.proofs.teg_net_proofs.NetRules.{net_ends}
+use Rattle.bound_laws.proofs.teg_loops_proofs.Ends.{ends_below}
 use Rattle.bound_laws.proofs.Onward.{start_in}
 use Rattle.bound_laws.proofs.Shortest.{least_divides}
 use Rattle.growth_laws.specs.Growth.{IsEndless}
@@ -110,7 +111,7 @@ module _ (net : NetLists) (a b : ℕ) (s : IsStronglyConnected net a b) where
       let core = s.ratio.attained in
       let at : ℕ = core.1.closed.0 in
       let round : IsPathBetween net at core.0 at = core.1.closed.1 in
-      let at_in = start_in net (length net.transitions) at at core.0 (ends_below net s.net_rules) round core.1.not_empty in
+      let at_in = start_in net (length net.transitions) at at core.0 (ends_below net (net_ends net s.net_rules)) round core.1.not_empty in
       let e : b * time_of net core.0 ≡ time_of net core.0 * b = grind arith in
       let f = core.3 in
       record {

@@ -25,7 +25,9 @@ use Rattle.bound_laws.proofs.Onward.{PutIn, put_in, start_in}
 use Rattle.growth_laws.proofs.number_laws_proofs.Numbers.{some_of}
 use Rattle.growth_laws.proofs.Growth.{cancel, unit, on, near}
 use Rattle.periodic_laws.specs.LinearSystem.{SystemsSettle}
-use Rattle.slope_laws.proofs.WalkPaths.{IsPathOf, walk_path, ends_below}
+use Rattle.bound_laws.proofs.teg_net_proofs.NetRules.{net_ends}
+use Rattle.bound_laws.proofs.teg_loops_proofs.Ends.{ends_below}
+use Rattle.slope_laws.proofs.WalkPaths.{IsPathOf, walk_path}
 use Rattle.teg_settle.specs.Transfers.{AreWalkTimes}
 use Rattle.cyclicity_laws.specs.CriticalParts.{IsStronglyConnected, IsCommonByParts}
 use Rattle.cyclicity_laws.specs.Reached.{TransfersDivideByParts, CyclicityIsByParts}
@@ -122,7 +124,7 @@ module _ (net : NetLists) (a b : ℕ) (s : IsStronglyConnected net a b) (i : ℕ
 
   -- no path exceeds the ratio by more than a short one
   path_most : (qs : List PlaceId) → IsPathBetween net i qs t → b * time_of net qs ≤ a * tokens_of net qs + b * most_time net
-  path_most qs h = by_loops net (length net.transitions) i t (λ ps. b * time_of net ps ≤ a * tokens_of net ps + b * most_time net) (ends_below net ok) lt
+  path_most qs h = by_loops net (length net.transitions) i t (λ ps. b * time_of net ps ≤ a * tokens_of net ps + b * most_time net) (ends_below net (net_ends net ok)) lt
       (λ ps g l.
       let one = sum_most (λ p. (place_at net p).hold) greatest_hold net (λ id m. (ok.each_place id.index no_place m).hold_in) ps i t g in
       let two : length ps * greatest_hold ≤ length net.transitions * greatest_hold = mul-le-mul_right {m = length ps} {n = length net.transitions} greatest_hold (omega (arith, l)) in
@@ -165,7 +167,7 @@ module _ (net : NetLists) (a b : ℕ) (s : IsStronglyConnected net a b) (i : ℕ
       let cs : List PlaceId = core.0 in
       let at : ℕ = core.1.closed.0 in
       let round : IsPathBetween net at cs at = core.1.closed.1 in
-      let at_in = start_in net (length net.transitions) at at cs (ends_below net ok) round core.1.not_empty in
+      let at_in = start_in net (length net.transitions) at at cs (ends_below net (net_ends net ok)) round core.1.not_empty in
       let there : Reaches net i at = s.reaches i at i_in at_in in
       let back : Reaches net at t = s.reaches at t at_in lt in
       let M : ℕ = tokens_of net cs in
@@ -298,7 +300,7 @@ transfers_divide net a b s c c_in f h L one common =
 pub cyclicity_by_parts : SystemsSettle → CyclicityIsByParts
 cyclicity_by_parts settle net a b s some_a L one = (
   λ all c ps critical.
-      let c_in = start_in net (length net.transitions) c c ps (ends_below net s.net_rules) critical.at critical.circuit.not_empty in
+      let c_in = start_in net (length net.transitions) c c ps (ends_below net (net_ends net s.net_rules)) critical.at critical.circuit.not_empty in
       let found = transfers_exist settle net s.net_rules s.live c c_in in
       let part = transfers_are_common net s.live a b some_a c ps c_in critical (λ qs w. bounded qs w.circuit) found.0 found.1 in
       (part.0, part.1, λ d each. dvd_trans d (part.2 d each) (all c found.0 c_in found.1)),

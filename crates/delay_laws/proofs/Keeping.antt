@@ -12,7 +12,7 @@ use Rattle.teg_net.specs.Paths.{IsLowestAt}
 use Rattle.teg_net.proofs.PathLaws.{IsPathBetween-in_range, no_id}
 use Rattle.teg_net.proofs.Turning.{turned, turned_circuit, turned_lowest}
 use Rattle.periodic_laws.specs.teg_model.LiveRanks.{HasEndsInRange}
-use Rattle.teg_loops.specs.Loops.{EndsBelow}
+use Rattle.teg_loops.proofs.Ends.{ends_below}
 use Rattle.delay_laws.specs.DelayOutcomes.{HasNoSpare, HasDelayPast, IsGreatestPast}
 use Rattle.delay_laws.specs.OutcomeLaws.{DelaysDieOut, CircuitsKeepDelays, DelaysDieOutOrAreKept, NoDelaysDieOutAndAreKept, IsPassedOn}
 use Rattle.delay_laws.proofs.Passing.{comes_on, most_past}
@@ -162,10 +162,6 @@ turned_all : (P : PlaceId → Type 0) (ps : List PlaceId) (k : ℕ) → All P ps
 turned_all P ps k all =
     let whole : All P (take k ps ++ drop k ps) = subst (All P) (sym (take-append-drop k ps)) all in
     All-append P (drop k ps) (take k ps) (all_second P (take k ps) (drop k ps) whole) (all_first P (take k ps) (drop k ps) whole)
-
--- the ends of places, as the loops of paths ask for them
-pub ends_below : (net : NetLists) → HasEndsInRange net → EndsBelow net (length net.transitions)
-ends_below net ends = record { from_in = λ id l. (ends id.index _ l).0; to_in = λ id l. (ends id.index _ l).1 }
 
 pub delays_die_out_or_are_kept : DelaysDieOutOrAreKept
 delays_die_out_or_are_kept net ends live period some t work delay after again settled =

@@ -8,25 +8,20 @@ use Rattle.teg_net.specs.Changes.{with_hold}
 use Rattle.teg_net.specs.Circuits.{no_place, place_at, AreInRange, IsCircuit, IsLive, time_of, tokens_of}
 use Rattle.teg_net.specs.Limits.{greatest_hold, most_place_tokens, most_transitions, greatest_circuit_time}
 use Rattle.teg_net.specs.Nets.{NetLists, IsNet, IsPlaceOf}
+use Rattle.teg_net.proofs.NetRules.{net_ends}
 use Rattle.teg_net.proofs.PathLaws.{IsPathBetween-in_range}
-use Rattle.teg_loops.specs.Loops.{EndsBelow}
+use Rattle.teg_loops.proofs.Ends.{ends_below}
 use Rattle.teg_loops.proofs.Straight.{loop_short}
 use Rattle.teg_loops.proofs.Taking.{sum_most}
 use Rattle.pace_pieces.specs.declared.lines.Line.{Line}
 use Rattle.pace_pieces.specs.Pieces.{rest_of, passes_of, IsLineOf}
 use Rattle.pace_pieces.proofs.LineLaws.{hold_here, hold_apart, time_by}
 
-ends_below : (net : NetLists) → IsNet net → EndsBelow net (length net.transitions)
-ends_below net ok = record {
-  from_in = λ id l. (let rules : IsPlaceOf net (place_at net id) = ok.each_place id.index no_place l in rules.from_in);
-  to_in = λ id l. (let rules : IsPlaceOf net (place_at net id) = ok.each_place id.index no_place l in rules.to_in);
-}
-
 -- a circuit has at most as many places as a net has transitions
 pub circuit_short : (net : NetLists) (ps : List PlaceId) → IsNet net → IsCircuit net ps → length ps ≤ most_transitions
 circuit_short net ps ok c =
     let few = ok.few_transitions in
-    let short = loop_short net (length net.transitions) ps (ends_below net ok) c in
+    let short = loop_short net (length net.transitions) ps (ends_below net (net_ends net ok)) c in
     omega (arith, few, short)
 
 pub circuit_in_range : (net : NetLists) (ps : List PlaceId) → IsCircuit net ps → AreInRange net ps

@@ -8,7 +8,9 @@ use Rattle.settled_laws.specs.teg_net.Limits.{greatest_hold, most_place_tokens}
 use Rattle.settled_laws.specs.teg_net.Nets.{NetLists, IsNet}
 use Rattle.settled_laws.specs.teg_net.Circuits.{no_place, place_at, IsPathBetween, IsCircuit, time_of, tokens_of}
 use Rattle.settled_laws.specs.teg_net.Walks.{Walks, step_time, walk_time}
-use Rattle.teg_loops.specs.Loops.{EndsBelow, IsStraight}
+use Rattle.settled_laws.proofs.teg_net_proofs.NetRules.{net_ends}
+use Rattle.teg_loops.specs.Loops.{IsStraight}
+use Rattle.teg_loops.proofs.Ends.{ends_below}
 use Rattle.teg_loops.proofs.Straight.{straight_short, loop_short}
 use Rattle.teg_loops.proofs.Taking.{sum_most}
 use Rattle.slope_laws.proofs.Sums.{le_times}
@@ -40,29 +42,22 @@ walk_path net (Next ∷ steps) a s b k w =
     let here = sum_by-cons (step_time net) Next steps in
     record { places = rest.places; nexts = suc rest.nexts; path = rest.path; time = omega (arith, rest.time, here); number = omega (arith, rest.number) }
 
--- both ends of each place are transitions of the net
-pub ends_below : (net : NetLists) → IsNet net → EndsBelow net (length net.transitions)
-ends_below net ok = record {
-  from_in = λ id l. (ok.each_place id.index no_place l).from_in;
-  to_in = λ id l. (ok.each_place id.index no_place l).to_in;
-}
-
 -- a straight path has few tokens, and takes little time
 pub tokens_straight : (net : NetLists) (ps : List PlaceId) (a b : ℕ) → IsNet net → b < length net.transitions → IsStraight net a ps b → tokens_of net ps ≤ length net.transitions * most_place_tokens
 tokens_straight net ps a b ok l h =
-    let few = straight_short net (length net.transitions) ps a b (ends_below net ok) l h in
+    let few = straight_short net (length net.transitions) ps a b (ends_below net (net_ends net ok)) l h in
     let each = sum_most (λ q. (place_at net q).tokens) most_place_tokens net (λ id m. (ok.each_place id.index no_place m).tokens_in) ps a b h.path in
     omega (arith, each, le_times most_place_tokens (length ps) (length net.transitions) (omega arith))
 
 pub time_straight : (net : NetLists) (ps : List PlaceId) (a b : ℕ) → IsNet net → b < length net.transitions → IsStraight net a ps b → time_of net ps ≤ length net.transitions * greatest_hold
 time_straight net ps a b ok l h =
-    let few = straight_short net (length net.transitions) ps a b (ends_below net ok) l h in
+    let few = straight_short net (length net.transitions) ps a b (ends_below net (net_ends net ok)) l h in
     let each = sum_most (λ q. (place_at net q).hold) greatest_hold net (λ id m. (ok.each_place id.index no_place m).hold_in) ps a b h.path in
     omega (arith, each, le_times greatest_hold (length ps) (length net.transitions) (omega arith))
 
 -- so does a circuit
 pub tokens_round : (net : NetLists) (ps : List PlaceId) → IsNet net → IsCircuit net ps → tokens_of net ps ≤ length net.transitions * most_place_tokens
 tokens_round net ps ok c =
-    let few = loop_short net (length net.transitions) ps (ends_below net ok) c in
+    let few = loop_short net (length net.transitions) ps (ends_below net (net_ends net ok)) c in
     let each = sum_most (λ q. (place_at net q).tokens) most_place_tokens net (λ id m. (ok.each_place id.index no_place m).tokens_in) ps c.closed.0 c.closed.0 c.closed.1 in
     omega (arith, each, le_times most_place_tokens (length ps) (length net.transitions) few)

@@ -15,6 +15,8 @@ use Rattle.teg_net.proofs.Reading.{same_id}
 use Rattle.teg_net.proofs.PathLaws.{IsPathBetween-append}
 use Rattle.teg_loops.specs.Loops.{IsStraight}
 use Rattle.teg_loops.specs.Shortening.{NoCircuitGains}
+use Rattle.teg_net.proofs.NetRules.{net_ends}
+use Rattle.teg_loops.proofs.Ends.{ends_below}
 use Rattle.teg_loops.proofs.Straight.{straight_short}
 use Rattle.teg_loops.proofs.Taking.{sum_most}
 use Rattle.teg_loops.proofs.Splitting.{shorten}
@@ -23,7 +25,6 @@ use Rattle.teg_critical.specs.declared.heights.Raised.{Raised}
 use Rattle.teg_critical.specs.Heights.{most_height, gain_by, cost_by, height_at, CanRaise, CanPass, IsHeight, AreHeights, IsKeptBy, IsLifted, AreFinal, IsTightBy}
 use Rattle.teg_critical.proofs.Rises.{any_places}
 use Rattle.teg_critical.proofs.GapLaws.{time_cons, tokens_cons, best_circuit, through_lacks}
-use Rattle.teg_critical.proofs.Telling.{ends_below}
 
 module _ (net : NetLists) (raised : Raised) where
   abbrev p : PlaceId
@@ -128,7 +129,7 @@ module _ (net : NetLists) (raised : Raised) where
         let straight : IsStraight net is.start qs t = s.1 in
         let extras = extras_low qs straight.leaves_once in
         let g = gains_are qs in
-        let short : length qs < length net.transitions = straight_short net (length net.transitions) qs is.start t (ends_below net can.rules) l straight in
+        let short : length qs < length net.transitions = straight_short net (length net.transitions) qs is.start t (ends_below net (net_ends net can.rules)) l straight in
         let few = can.rules.few_transitions in
         let each : time_of net qs ≤ length qs * greatest_hold = sum_most (λ q. (place_at net q).hold) greatest_hold net (λ id m. (rules_of id m).hold_in) qs is.start t straight.path in
         let long : time_of net qs ≤ 400000000000 = omega (arith, each, short, few) in

@@ -9,7 +9,9 @@ use Rattle.teg_net.specs.Nets.{NetLists, IsNet, IsPlaceOf}
 use Rattle.teg_net.specs.Ratios.{Fraction}
 use Rattle.teg_net.specs.Circuits.{no_place, place_at, from_of, IsPathBetween, time_of, tokens_of}
 use Rattle.teg_net.specs.Parts.{to_of, IsPlaceOfPart}
-use Rattle.teg_loops.specs.Loops.{EndsBelow, IsStraight}
+use Rattle.teg_net.proofs.NetRules.{net_ends}
+use Rattle.teg_loops.specs.Loops.{IsStraight}
+use Rattle.teg_loops.proofs.Ends.{ends_below}
 use Rattle.teg_loops.proofs.Straight.{straight_short}
 use Rattle.teg_loops.proofs.Taking.{sum_most}
 use Rattle.teg_loops.proofs.Splitting.{split}
@@ -26,13 +28,6 @@ use Rattle.teg_critical.specs.LeastLosses.{amount_in, loss_of_path, IsWay, IsLea
 use Rattle.teg_critical.specs.Told.{CanTellSlack, IsSlackOfGap, IsGapWithin}
 use Rattle.teg_critical.proofs.GapLaws.{gaps_tell}
 use Rattle.teg_critical.proofs.Rounds.{HasLoss, has_loss, round_is, is_way}
-
--- both ends of each place are transitions of the net
-pub ends_below : (net : NetLists) → IsNet net → EndsBelow net (length net.transitions)
-ends_below net ok = record {
-  from_in = λ id l. (let rules : IsPlaceOf net (place_at net id) = ok.each_place id.index no_place l in rules.from_in);
-  to_in = λ id l. (let rules : IsPlaceOf net (place_at net id) = ok.each_place id.index no_place l in rules.to_in);
-}
 
 apart_some : (o : Option Loss) (l : Loss) → o ≡ None → o ≡ Some l → ⊥
 apart_some o l e f = cc
@@ -135,7 +130,7 @@ module _ (net : NetLists) (ok : IsNet net) (r : Fraction) (losses : List (Option
     -- a straight path back shows that the gap is not great
     pub gap_low : gap ≤ most_gap
     gap_low =
-        let ends = ends_below net ok in
+        let ends = ends_below net (net_ends net ok) in
         let s = split net best (to_of net p) (from_of net p) best_path in
         let straight : IsStraight net (to_of net p) s.0 (from_of net p) = s.2.path in
         let rules : IsPlaceOf net (place_at net p) = ok.each_place p.index no_place l in

@@ -22,6 +22,7 @@ use Rattle.teg_net.proofs.PathLaws.{IsPathBetween-append, IsPathBetween-in_range
 use Rattle.teg_net.specs.Certificates.{IsCertificate}
 use Rattle.teg_net.proofs.LowestTerms.{IsRatioOf-divided}
 use Rattle.teg_net.proofs.NetRules.{net_ends}
+use Rattle.teg_loops.proofs.Ends.{ends_below}
 use Rattle.teg_loops.proofs.Straight.{loop_short}
 use Rattle.teg_loops.proofs.Taking.{sum_most}
 use Rattle.teg_loops.proofs.Through.{pass_back}
@@ -40,7 +41,6 @@ use Rattle.teg_critical.specs.Hops.{hop_at, IsUsable, AreHops, AreClosed, IsTrac
 use Rattle.teg_critical.specs.Heights.{height_at, CanRaise, AreHeights, AreFinal, ArePotentialsBy, AreTight, LacksGap}
 use Rattle.teg_critical.specs.Told.{IsGapWithin}
 use Rattle.teg_critical.proofs.LossFacts.{IsToldBy, best_told}
-use Rattle.teg_critical.proofs.Telling.{ends_below}
 use Rattle.teg_critical.proofs.HopLaws.{some_hop, reached_along}
 use Rattle.teg_critical.proofs.HeightLaws.{at_low, tight_back, lacks_gap}
 use Rattle.teg_critical.proofs.Rises.{any_places}
@@ -215,7 +215,7 @@ lowest_low time tokens r some terms same =
 
 circuit_tokens : (net : NetLists) → IsNet net → (c : List PlaceId) → IsCircuit net c → tokens_of net c ≤ most_circuit_tokens
 circuit_tokens net ok c h =
-    let short = loop_short net (length net.transitions) c (ends_below net ok) h in
+    let short = loop_short net (length net.transitions) c (ends_below net (net_ends net ok)) h in
     let each = sum_most (λ q. (place_at net q).tokens) most_place_tokens net (λ id m. (let rules : IsPlaceOf net (place_at net id)
     = ok.each_place id.index no_place m in rules.tokens_in)) c h.closed.0 h.closed.0 h.closed.1 in
     let few = ok.few_transitions in

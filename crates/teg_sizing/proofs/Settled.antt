@@ -9,8 +9,10 @@ use Rattle.teg_net.specs.Ratios.{Fraction}
 use Rattle.teg_net.specs.Circuits.{no_place, place_at, from_of, IsPathBetween}
 use Rattle.teg_net.specs.Parts.{to_of}
 use Rattle.teg_net.specs.ReducedTimes.{reduced_time_of_place}
+use Rattle.teg_net.proofs.NetRules.{net_ends}
 use Rattle.teg_net.proofs.PathLaws.{IsPathBetween-append}
 use Rattle.teg_loops.specs.Loops.{HasLoop}
+use Rattle.teg_loops.proofs.Ends.{ends_below}
 use Rattle.teg_loops.proofs.Straight.{loop_or_apart, apart_short}
 use Rattle.teg_loops.proofs.Taking.{rest_leads, rest_shorter}
 use Rattle.teg_sizing.specs.declared.rounds.ValueCell.{ValueCell}
@@ -20,7 +22,6 @@ use Rattle.teg_sizing.specs.Surpluses.{NoneIsAbove}
 use Rattle.teg_sizing.proofs.Values.{at_least_less, value_append, value_one, all_first, all_second}
 use Rattle.teg_sizing.proofs.Going.{complete}
 use Rattle.teg_sizing.proofs.Traces.{IsTraced, traced}
-use Rattle.teg_sizing.proofs.Straightening.{ends_below}
 
 -- a path of fewer places than there are transitions, that avoids the place and has at least the value of ps
 pub record IsShortened (net : NetLists) (r : Fraction) (p : PlaceId) (s t : ℕ) (ps : List PlaceId) : Type 0 where
@@ -50,7 +51,7 @@ module _ (net : NetLists) (r : Fraction) (p : PlaceId) (ok : IsNet net) (none_ab
       let c = value_append net r loop.before loop.after in
       let more = rest.more in
       record { places = rest.places; path = rest.path; avoids = rest.avoids; short = rest.short; more = omega (arith, ints) })
-      (λ apart. record { places = ps; path = path; avoids = avoids; short = apart_short net (length net.transitions) ps s t (ends_below net ok) in' path apart; more = omega (arith, ints) })
+      (λ apart. record { places = ps; path = path; avoids = avoids; short = apart_short net (length net.transitions) ps s t (ends_below net (net_ends net ok)) in' path apart; more = omega (arith, ints) })
       (loop_or_apart net ps s t path)
 
   module _ (first : List ValueCell) (rounds : List (List ValueCell)) (h : AreRounds net r p first rounds) (bare : (t : ℕ) → by_at first t ≡ None)

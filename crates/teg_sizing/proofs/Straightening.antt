@@ -12,8 +12,10 @@ use Rattle.teg_net.specs.Ratios.{Fraction}
 use Rattle.teg_net.specs.Circuits.{no_place, place_at, from_of, IsPathBetween, IsCircuit, time_of, tokens_of}
 use Rattle.teg_net.specs.Parts.{to_of}
 use Rattle.teg_net.specs.ReducedTimes.{reduced_time_of_place}
+use Rattle.teg_net.proofs.NetRules.{net_ends}
 use Rattle.teg_net.proofs.Turning.{turned_circuit}
-use Rattle.teg_loops.specs.Loops.{EndsBelow, HasLoop, IsStraight}
+use Rattle.teg_loops.specs.Loops.{HasLoop, IsStraight}
+use Rattle.teg_loops.proofs.Ends.{ends_below}
 use Rattle.teg_loops.proofs.Straight.{loop_or_apart, apart_straight, loop_short}
 use Rattle.teg_loops.proofs.Taking.{rest_leads, rest_shorter}
 use Rattle.teg_loops.proofs.Through.{IsThrough, through, closes}
@@ -24,12 +26,6 @@ use Rattle.teg_sizing.specs.Surpluses.{NoneIsAbove, StartsFrom, NonePasses, IsBe
 use Rattle.teg_sizing.proofs.Values.{same_some, none_some, at_least_some, weight_within, value_append, value_cons, value_one, told_or_not, all_first, all_second}
 use Rattle.teg_sizing.proofs.Going.{complete, next_round}
 use Rattle.teg_sizing.proofs.Traces.{IsTraced, traced, trace_same}
-
-pub ends_below : (net : NetLists) → IsNet net → EndsBelow net (length net.transitions)
-ends_below net ok = record {
-  from_in = λ id l. (ok.each_place id.index no_place l).from_in;
-  to_in = λ id l. (ok.each_place id.index no_place l).to_in;
-}
 
 module _ (net : NetLists) (r : Fraction) (p : PlaceId) (first : List ValueCell) (rounds : List (List ValueCell)) (ok : IsNet net) (in' : p.index < length net.places)
     (starts : StartsFrom (length net.transitions) (to_of net p) first) (h : AreRounds net r p first rounds) (long : length rounds ≡ length net.transitions + 1) (none_above : NoneIsAbove net r p) where
@@ -102,7 +98,7 @@ module _ (net : NetLists) (r : Fraction) (p : PlaceId) (first : List ValueCell) 
       × (reduced_time_of_path net r qs ≤ℤ (v +ℤ reduced_time_of_place r (place_at net p)))
   back_of qs c passes =
       let t : IsThrough net p qs = through net p qs c passes in
-      let few = loop_short net n (p ∷ t.others) (ends_below net ok) t.circuit in
+      let few = loop_short net n (p ∷ t.others) (ends_below net (net_ends net ok)) t.circuit in
       let avoids : Avoids p t.others = λ i d m. λ same. t.once i d m (ap (from_of net) (sym (one_id (get_or t.others i d) same))) in
       let done = complete net r p first rounds h t.others n (to_of net p) (from_of net p) (pos 0) (omega arith) (omega arith) t.path avoids starts.here in
       let up = at_least_some (value_told end (from_of net p)) (pos 0 +ℤ reduced_time_of_path net r t.others) done in

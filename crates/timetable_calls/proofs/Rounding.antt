@@ -67,13 +67,6 @@ last_or (p ∷ ps) = inr (⊎_elim
     (λ (h : HasLast ps). record { front = p ∷ h.front; last = h.last; is = ap (λ (z : List PlaceId). p ∷ z) h.is })
     (last_or ps))
 
--- both ends of each place of a net are transitions of it
-pub ends_below : (net : NetLists) → IsNet net → EndsBelow net (length net.transitions)
-ends_below net ok = record {
-  from_in = λ p l. (ok.each_place p.index no_place l).from_in;
-  to_in = λ p l. (ok.each_place p.index no_place l).to_in;
-}
-
 -- no departure of a net is late after a few rounds
 pub small_enough : (net : NetLists) (scale period k : ℕ) (firsts : List ℕ) → IsNet net → k ≤ length net.transitions → AreRounded net scale period greatest_input_date greatest_hold k firsts
     → AreUpTo (scale * 10000000000000) firsts

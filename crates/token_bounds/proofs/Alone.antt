@@ -7,10 +7,11 @@ use Rattle.std.proofs.lemmas.List.Elements.{All-tail}
 use Rattle.teg_net.specs.declared.entries.PlaceId.{PlaceId}
 use Rattle.teg_net.specs.Nets.{NetLists, IsNet}
 use Rattle.teg_net.specs.Circuits.{no_place, place_at, from_of, IsCircuit, BeginsLowest, time_of, tokens_of}
+use Rattle.teg_net.proofs.NetRules.{net_ends}
 use Rattle.teg_net.proofs.PathLaws.{IsPathBetween-in_range}
 use Rattle.teg_net.proofs.Reading.{same_id}
 use Rattle.teg_net.proofs.Changing.{HaveSameEnds, circuit_along}
-use Rattle.teg_loops.specs.Loops.{EndsBelow}
+use Rattle.teg_loops.proofs.Ends.{ends_below}
 use Rattle.teg_loops.proofs.Straight.{loop_short}
 use Rattle.teg_loops.proofs.Taking.{sum_most}
 use Rattle.teg_certificates.specs.Sizes.{IsEnough, IsFewest, IsNeverEnough}
@@ -95,7 +96,7 @@ module _ (net changed : NetLists) (p : PlaceId) (in' : p.index < length net.plac
 
   few_tokens : (ps : List PlaceId) → IsCircuit changed ps → tokens_of changed ps < long_time
   few_tokens ps c =
-      let ends : EndsBelow changed (length changed.transitions) = record { from_in = λ q l. (ok.each_place q.index no_place l).from_in; to_in = λ q l. (ok.each_place q.index no_place l).to_in } in
+      let ends = ends_below changed (net_ends changed ok) in
       let short = loop_short changed (length changed.transitions) ps ends c in
       let few = ok.few_transitions in
       let most = sum_most (λ q. (place_at changed q).tokens) 1000 changed (λ q l. (ok.each_place q.index no_place l).tokens_in) ps c.closed.0 c.closed.0 c.closed.1 in

@@ -16,7 +16,7 @@ use Rattle.teg_model.specs.teg_net.Parts.{to_of}
 use Rattle.teg_model.specs.teg_net.ReducedTimes.{reduced_time_of}
 use Rattle.teg_model.specs.teg_net.GreatestRatios.{IsGreatestRatio, IsAnyPlace}
 use Rattle.teg_model.specs.LiveRanks.{HasEndsInRange}
-use Rattle.teg_loops.specs.Loops.{EndsBelow}
+use Rattle.teg_loops.proofs.Ends.{ends_below}
 use Rattle.workable_laws.specs.WorkablePeriods.{LeavesCircuitsTime, LeavesPlaceTime, AreWorkableFirsts, WorkableIsByFirsts}
 use Rattle.workable_laws.specs.WorkablePeriods.{TimetablesFromFirstsAreWorkable, PeriodsAreWorkable, PeriodsFromTheRatioAreWorkable}
 use Rattle.pace_laws.proofs.Slower.{cancel}
@@ -56,10 +56,6 @@ ready_soon net i in' k =
     (λ (l : k - 1 < length p.ready). let own = (bound (λ j. get_or p.ready j 0) (length p.ready)).1 (k - 1) l in omega arith)
     (λ (g : length p.ready ≤ k - 1). let e : ready_date p k ≡ 0 = get_or_past p.ready (k - 1) 0 g in omega arith)
     (cases_lt (k - 1) (length p.ready))
-
--- both ends of each place are transitions of the net
-ends_below : (net : NetLists) → HasEndsInRange net → EndsBelow net (length net.transitions)
-ends_below net ok = record { from_in = λ p l. (ok p.index no_place l).0; to_in = λ p l. (ok p.index no_place l).1 }
 
 module _ (net : NetLists) (period : ℕ) (ok : HasEndsInRange net) (time : LeavesCircuitsTime net period) where
   abbrev n : ℕ

@@ -1,8 +1,9 @@
 use Rattle.change_laws.proofs.Changing.{ready_of_tokens}
-use Rattle.slope_laws.proofs.WalkPaths.{ends_below}
+use Rattle.teg_net.proofs.NetRules.{net_ends}
+use Rattle.slope_laws.proofs.teg_loops_proofs.Ends.{ends_below}
 use Rattle.law_examples.proofs.timetables.period_has_earliest.Goals as goal
 
 pub returns : goal.returns
 returns c =
-    c.earliest_timetables_exist.ensures.exist c.args.net.now c.args.period (ends_below c.args.net.now c.rules.ensures) (ready_of_tokens c.args.net.now c.rules.ensures)
+    c.earliest_timetables_exist.ensures.exist c.args.net.now c.args.period (ends_below c.args.net.now (net_ends c.args.net.now c.rules.ensures)) (ready_of_tokens c.args.net.now c.rules.ensures)
     c.requires

@@ -2,12 +2,14 @@ use Rattle.std.proofs.Common.{ℕ, ◌*◌, ◌≡◌, ◌≤◌, List, length, 
 use Rattle.teg_net.specs.declared.entries.Transition.{Transition}
 use Rattle.teg_net.specs.Limits.{greatest_hold, greatest_input_date}
 use Rattle.timetable_calls.specs.Departures.{AreUpTo, IsRoundUpTo, AreRounded}
-use Rattle.timetable_calls.proofs.Rounding.{ends_below, rounded_first, rounded_more, small_enough, earliest}
+use Rattle.teg_net.proofs.NetRules.{net_ends}
+use Rattle.teg_loops.proofs.Ends.{ends_below}
+use Rattle.timetable_calls.proofs.Rounding.{rounded_first, rounded_more, small_enough, earliest}
 use Rattle.timetable_calls.proofs.rounds.earliest_firsts.Goals as goal
 
 pub loop-number-init : goal.loop-number-init
 loop-number-init c =
-    rounded_first c.args.net.now c.args.scale c.args.period greatest_input_date greatest_hold (ends_below c.args.net.now c.in_ok-firsts.ensures.rules)
+    rounded_first c.args.net.now c.args.scale c.args.period greatest_input_date greatest_hold (ends_below c.args.net.now (net_ends c.args.net.now c.in_ok-firsts.ensures.rules))
     c.in_ok-firsts.firsts.items c.in_ok-firsts.ensures.starts
 
 pub loop-number-preserved : goal.loop-number-preserved
@@ -16,7 +18,7 @@ loop-number-preserved c =
     let after : List ℕ = c.in_ok-firsts-2.firsts.items in
     let own = c.in_ok-firsts-2.ensures in
     let ok = c.in_ok-firsts.ensures.rules in
-    rounded_more net c.args.scale c.args.period greatest_input_date greatest_hold (ends_below net ok) c.loop-number._number c.loop-number.firsts.items after
+    rounded_more net c.args.scale c.args.period greatest_input_date greatest_hold (ends_below net (net_ends net ok)) c.loop-number._number c.loop-number.firsts.items after
     (λ i d l. (ok.each_place i d l).hold_in) c.loop-number.invariant
     (subst (λ (z : List ℕ). IsRoundUpTo net c.args.scale c.args.period z (length net.places) after) c.deref.ensures.value own)
 
@@ -38,5 +40,5 @@ returns c =
     let net = c.args.net.now in
     let all = ap (λ (z : List Transition). length z) c.transitions-number-end.ensures.value in
     let end : c.loop-number._number ≡ length net.transitions = omega (arith, c.loop-number-test.false, c.loop-number.auto._number-end) in
-    earliest net c.args.scale c.args.period greatest_input_date greatest_hold (ends_below net c.in_ok-firsts.ensures.rules) c.requires.time c.loop-number.firsts.items
+    earliest net c.args.scale c.args.period greatest_input_date greatest_hold (ends_below net (net_ends net c.in_ok-firsts.ensures.rules)) c.requires.time c.loop-number.firsts.items
     (subst (λ (k : ℕ). AreRounded net c.args.scale c.args.period greatest_input_date greatest_hold k c.loop-number.firsts.items) end c.loop-number.invariant)
