@@ -46,9 +46,9 @@ earliest_alike net x most run other least e f t l =
     (λ i m. sym (dates_in net x most run other h g t i l m).1)
 
 pub earliest_first : EarliestRunsAreFirst
-earliest_first net x most run other ok live least e legal t k date l o m q =
+earliest_first net x most run other ends live least e legal t k date l o m q =
     let h = earliest_whole net x most run least e in
-    let low : IsAtMostDate (x t k) (At (pos date)) = not_early net x other ok live least legal t k date l o q in
+    let low : IsAtMostDate (x t k) (At (pos date)) = not_early net x other ends live least legal t k date l o q in
     ⊎_elim
     (λ (n : x t k ≡ Never). absurd (rw n at low))
     (λ (n : (first : ℕ) × (x t k ≡ At (pos first))).

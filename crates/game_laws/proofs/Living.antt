@@ -12,7 +12,7 @@ use Rattle.teg_net.specs.declared.entries.Again.{Again}
 use Rattle.teg_net.specs.declared.entries.InputList.{InputList}
 use Rattle.teg_net.specs.declared.entries.PlaceId.{PlaceId}
 use Rattle.teg_net.specs.declared.entries.Place.{Place}
-use Rattle.teg_net.specs.Nets.{NetLists, IsNet, IsInput}
+use Rattle.teg_net.specs.Nets.{NetLists, HasEndsInRange, IsInput}
 use Rattle.teg_net.specs.Inputs.{list_date, date_by_list, input_date}
 use Rattle.teg_net.specs.ReadyDates.{start_date}
 use Rattle.teg_net.specs.Circuits.{place_at, from_of, no_place, IsPathBetween, IsCircuit, IsLive}
@@ -25,7 +25,7 @@ use Rattle.teg_model.proofs.DateFunctions.{Dating}
 use Rattle.teg_model.proofs.GreatestWalks.{least_is_walk}
 use Rattle.teg_model.proofs.LeastOver.{least_over}
 use Rattle.teg_model.proofs.LiveRanks.{live_is_ranked}
-use Rattle.teg_model.proofs.OfNet.{least_of, least_of_system, net_ends, input_or_not}
+use Rattle.teg_model.proofs.OfNet.{least_of, least_of_system, input_or_not}
 use Rattle.run_laws.specs.declared.fired.Fired.{Fired}
 use Rattle.run_laws.specs.Runs.{dates_of_transition, next_number, IsLegalRun}
 use Rattle.game_laws.specs.LiveByTheGame.{NoInputListEnds, FiresEach, TokenFreeCircuitsNeverFire, FiringEachShowsLife, LiveNetsFireOn}
@@ -144,17 +144,15 @@ never_start net a s start =
     (input_or_not net a (listed_releases net a s) Early Early))
     (later_either ready release)
 
-all_come : (net : NetLists) (x : Dating) → IsNet net → IsLive net → NoInputListEnds net → IsLeastDating net x → (t k : ℕ) → t < length net.transitions → 1 ≤ k → x t k ≢ Never
-all_come net x ok live on least t k l o never =
-    let ends = net_ends net ok in
+all_come : (net : NetLists) (x : Dating) → HasEndsInRange net → IsLive net → NoInputListEnds net → IsLeastDating net x → (t k : ℕ) → t < length net.transitions → 1 ≤ k → x t k ≢ Never
+all_come net x ends live on least t k l o never =
     let ranks = live_is_ranked net ends live in
     let w : IsDateOfWalk net (listed_releases net) t k (x t k) = (least_is_walk net (listed_releases net) x ranks.0 ranks.1 ends ranks.2 least t k l o).reached in
     let start : start_of_firing net (listed_releases net) w.from w.number ≡ Never = sym w.starts ∙ delayed_never (walk_time net w.steps) w.start (sym w.is ∙ never) in
     given net w.from w.number on (never_start net w.from w.number start)
 
-fires_each : (net : NetLists) → IsNet net → IsLive net → NoInputListEnds net → (most : ℕ) → (run : List Fired) × IsLegalRun net run × FiresEach net most run
-fires_each net ok live on most =
-    let ends = net_ends net ok in
+fires_each : (net : NetLists) → HasEndsInRange net → IsLive net → NoInputListEnds net → (most : ℕ) → (run : List Fired) × IsLegalRun net run × FiresEach net most run
+fires_each net ends live on most =
     let ranks = live_is_ranked net ends live in
     let u : Dating = listed_releases net in
     let x : Dating = least_over (system_of net u) ranks.0 ranks.1 in
@@ -162,16 +160,16 @@ fires_each net ok live on most =
     let made = earliest_exist net x most ends live least in
     let whole = earliest_whole net x most made.0 least made.1 in (
       made.0,
-      earliest_legal net x most made.0 ok least made.1,
+      earliest_legal net x most made.0 ends least made.1,
       λ t l.
           ⊎_elim
           (λ (e : most ≡ 0). omega (arith, whole.no_more t l, e))
-          (λ (e : most ≢ 0). whole.count t l (all_come net x ok live on least t most l (omega (arith, e))))
+          (λ (e : most ≢ 0). whole.count t l (all_come net x ends live on least t most l (omega (arith, e))))
           (cases_eq most 0),
     )
 
 pub fire_on : LiveNetsFireOn
-fire_on net ok on = (
-  λ live. fires_each net ok live on,
-  λ each. let one = each 1 in shows_life net one.0 (net_ends net ok) one.1 (λ t l. omega (arith, one.2 t l)),
+fire_on net ends on = (
+  λ live. fires_each net ends live on,
+  λ each. let one = each 1 in shows_life net one.0 ends one.1 (λ t l. omega (arith, one.2 t l)),
 )

@@ -2,7 +2,7 @@
 use Rattle.std.specs.Prelude.{ℕ, pos, ◌<◌, ◌≤◌, ◌≡◌, ◌↔◌, List, Some, length}
 use Rattle.teg_model.specs.dioid.declared.dates.Date.{Date}
 use Rattle.teg_model.specs.dioid.declared.dates.Date.TheVariants.{At, Never}
-use Rattle.teg_net.specs.Nets.{NetLists, IsNet}
+use Rattle.teg_net.specs.Nets.{NetLists, HasEndsInRange}
 use Rattle.teg_net.specs.Circuits.{IsLive}
 use Rattle.teg_model.specs.Datings.{IsLeastDating}
 use Rattle.run_laws.specs.declared.fired.Fired.{Fired}
@@ -16,12 +16,12 @@ pub record IsEarliestOfRuns (net : NetLists) (t k date : ℕ) : Type 0 where
 -- a least date of a live net is a number just where that is the earliest date of the firing in a legal run
 abbrev pub LeastDatesAreEarliest : Type 0
 LeastDatesAreEarliest =
-    (net : NetLists) (x : ℕ → ℕ → Date) → IsNet net → IsLive net → IsLeastDating net x
+    (net : NetLists) (x : ℕ → ℕ → Date) → HasEndsInRange net → IsLive net → IsLeastDating net x
     → (t k date : ℕ) → t < length net.transitions → 1 ≤ k → x t k ≡ At (pos date) ↔ IsEarliestOfRuns net t k date
 
 -- and it is never just where no legal run fires the transition so often
 abbrev pub NeverIsInNoRun : Type 0
 NeverIsInNoRun =
-    (net : NetLists) (x : ℕ → ℕ → Date) → IsNet net → IsLive net → IsLeastDating net x
+    (net : NetLists) (x : ℕ → ℕ → Date) → HasEndsInRange net → IsLive net → IsLeastDating net x
     → (t k : ℕ) → t < length net.transitions → 1 ≤ k
     → x t k ≡ Never ↔ ((run : List Fired) → IsLegalRun net run → length (dates_of_transition run t) < k)

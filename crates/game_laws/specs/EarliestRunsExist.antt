@@ -2,9 +2,8 @@
 use Rattle.std.specs.Prelude.{ℕ, pos, ◌<◌, ◌≤◌, ◌≡◌, ◌≢◌, List, length, All, Some}
 use Rattle.teg_model.specs.dioid.declared.dates.Date.{Date}
 use Rattle.teg_model.specs.dioid.declared.dates.Date.TheVariants.{At, Never}
-use Rattle.teg_net.specs.Nets.{NetLists, IsNet}
+use Rattle.teg_net.specs.Nets.{NetLists, HasEndsInRange}
 use Rattle.teg_net.specs.Circuits.{IsLive}
-use Rattle.teg_model.specs.LiveRanks.{HasEndsInRange}
 use Rattle.teg_model.specs.Datings.{IsLeastDating}
 use Rattle.run_laws.specs.declared.fired.Fired.{Fired}
 use Rattle.run_laws.specs.Runs.{dates_of_transition, firing_date, IsLegalRun}
@@ -59,5 +58,5 @@ IsNoLaterUpTo net most run other =
 -- in a live net no legal run has a firing up to the number before an earliest run has it
 abbrev pub EarliestRunsAreFirst : Type 0
 EarliestRunsAreFirst =
-    (net : NetLists) (x : ℕ → ℕ → Date) (most : ℕ) (run other : List Fired) → IsNet net → IsLive net → IsLeastDating net x
+    (net : NetLists) (x : ℕ → ℕ → Date) (most : ℕ) (run other : List Fired) → HasEndsInRange net → IsLive net → IsLeastDating net x
     → IsEarliestRun net x most run → IsLegalRun net other → IsNoLaterUpTo net most run other

@@ -1,9 +1,8 @@
 -- A net is live just where its transitions can fire on and on (chapter 2).
 use Rattle.std.specs.Prelude.{ℕ, ◌<◌, ◌≤◌, ◌≡◌, ◌≢◌, ◌↔◌, List, [], None, length, All}
 use Rattle.teg_net.specs.declared.entries.PlaceId.{PlaceId}
-use Rattle.teg_net.specs.Nets.{NetLists, IsNet}
+use Rattle.teg_net.specs.Nets.{NetLists, HasEndsInRange}
 use Rattle.teg_net.specs.Circuits.{from_of, IsCircuit, tokens_of, IsLive}
-use Rattle.teg_model.specs.LiveRanks.{HasEndsInRange}
 use Rattle.run_laws.specs.declared.fired.Fired.{Fired}
 use Rattle.run_laws.specs.Runs.{dates_of_transition, IsLegalRun}
 
@@ -30,5 +29,5 @@ FiringEachShowsLife =
 -- a net in which no input list ends is live just where, for each number, some legal run has so many firings of each transition
 abbrev pub LiveNetsFireOn : Type 0
 LiveNetsFireOn =
-    (net : NetLists) → IsNet net → NoInputListEnds net
+    (net : NetLists) → HasEndsInRange net → NoInputListEnds net
     → IsLive net ↔ ((most : ℕ) → (run : List Fired) × IsLegalRun net run × FiresEach net most run)

@@ -11,7 +11,7 @@ use Rattle.teg_model.specs.dioid.declared.dates.Date.TheVariants.{Early, At, Nev
 use Rattle.teg_model.specs.dioid.Dates.{IsAtMostDate, delayed}
 use Rattle.teg_model.proofs.dioid_proofs.DateOrder.{at_most_trans, at_most_is, at_most_total, delayed_later}
 use Rattle.teg_net.specs.declared.entries.Place.{Place}
-use Rattle.teg_net.specs.Nets.{NetLists, IsNet, IsInput}
+use Rattle.teg_net.specs.Nets.{NetLists, HasEndsInRange, IsInput}
 use Rattle.teg_net.specs.Inputs.{input_date}
 use Rattle.teg_net.specs.ReadyDates.{ready_date}
 use Rattle.teg_net.specs.Circuits.{no_place}
@@ -193,11 +193,11 @@ after_hold h d date a e l =
     omega (arith, ints, at)
 
 token_in_order : (net : NetLists) (x : Dating) (rank : ℕ → ℕ) (most : ℕ) (fs : List Numbered) (run before : List Fired) (n date : ℕ)
-    → IsNet net → IsFeasibleUnder net (listed_releases net) x → RisesAlong net rank
+    → HasEndsInRange net → IsFeasibleUnder net (listed_releases net) x → RisesAlong net rank
     → IsRunInOrder net x rank most fs run → Placed x fs before n → n < length fs → date_of_firing x (get_or fs n no_number) ≡ At (pos date)
     → (i : ℕ) (d : Place) → i < length net.places → (get_or net.places i d).to.index ≡ (get_or fs n no_number).transition
     → IsThereBy date (token_date before (get_or net.places i d) (get_or fs n no_number).number)
-token_in_order net x rank most fs run before n date ok f rises o h l e i d m to =
+token_in_order net x rank most fs run before n date ends f rises o h l e i d m to =
     let own : Numbered = get_or fs n no_number in
     let k : ℕ = own.number in
     let up : IsFiringUpTo net most own = o.known n no_number l in
@@ -210,7 +210,7 @@ token_in_order net x rank most fs run before n date ok f rises o h l e i d m to 
     let held : IsAtMostDate (delayed p.hold (date_of_firing x g)) (At (pos date)) = rw q at asked in
     let low : IsAtMostDate (date_of_firing x g) (At (pos date)) =
     at_most_trans (date_of_firing x g) (delayed p.hold (date_of_firing x g)) (At (pos date)) (delayed_later p.hold (date_of_firing x g)) held in
-    let up2 : IsFiringUpTo net most g = record { transition_in = (ok.each_place i d m).from_in; first = omega (arith, less); last = omega (arith, up.last) } in
+    let up2 : IsFiringUpTo net most g = record { transition_in = (ends i d m).0; first = omega (arith, less); last = omega (arith, up.last) } in
     let by_number : ComesBeforeByNumber rank g own =
     ⊎_elim
     (λ (s : 0 < p.tokens). let a : g.number < own.number = omega (arith, s, less) in inl a)
@@ -262,7 +262,7 @@ placed_to net x rank most fs run f o (suc n) l =
     (placed_more x fs (take n run) n (get_or run n no_firing) h t (rw t number) e)
 
 pub earliest_legal : EarliestRunsAreLegal
-earliest_legal net x most run ok least e i d l =
+earliest_legal net x most run ends least e i d l =
     let fs : List Numbered = e.firings in
     let o = e.in_order in
     let in' : i < length fs = omega (arith, l, o.count) in
@@ -275,7 +275,7 @@ earliest_legal net x most run ok least e i d l =
     let up : IsFiringUpTo net most own = o.known i no_number in' in
     record {
       transition_in = rw t up.transition_in;
-      tokens = λ q c m to. rw (t, number) (token_in_order net x e.rank most fs run (take i run) i f.date ok least.feasible e.rises o h in' at q c m (to ∙ t));
+      tokens = λ q c m to. rw (t, number) (token_in_order net x e.rank most fs run (take i run) i f.date ends least.feasible e.rises o h in' at q c m (to ∙ t));
       in_order = last_in_order net x e.rank most fs run i f.date o in' at;
       released = λ input.
           let input2 : IsInput net own.transition = rw t at input in
@@ -284,4 +284,4 @@ earliest_legal net x most run ok least e i d l =
     }
 
 pub parts_legal : PartsOfEarliestRunsAreLegal
-parts_legal net x most n run ok least e few = legal_take net run n few (earliest_legal net x most run ok least e)
+parts_legal net x most n run ends least e few = legal_take net run n few (earliest_legal net x most run ends least e)

@@ -12,13 +12,13 @@ use Rattle.teg_model.specs.dioid.declared.dates.Date.TheVariants.{Early, At, Nev
 use Rattle.teg_model.specs.dioid.Dates.{IsAtMostDate, delayed}
 use Rattle.teg_model.proofs.dioid_proofs.DateOrder.{at_most_is, same_by_at_most}
 use Rattle.teg_net.specs.declared.entries.Place.{Place}
-use Rattle.teg_net.specs.Nets.{NetLists, IsNet}
+use Rattle.teg_net.specs.Nets.{NetLists, HasEndsInRange}
 use Rattle.teg_net.specs.Inputs.{input_date}
 use Rattle.teg_net.specs.ReadyDates.{ready_date}
 use Rattle.teg_net.specs.Circuits.{no_place, IsLive}
 use Rattle.teg_model.specs.Datings.{implicit_place, extended_places, available_at, as_date, listed_releases, IsFeasibleUnder, IsLeastDating}
 use Rattle.teg_model.proofs.Delays.{delayed_not}
-use Rattle.teg_model.proofs.OfNet.{all_extended, implicit_is, net_ends, tight_of_least}
+use Rattle.teg_model.proofs.OfNet.{all_extended, implicit_is, tight_of_least}
 use Rattle.teg_model.proofs.LiveRanks.{live_is_ranked}
 use Rattle.teg_model.proofs.DateFunctions.{Dating}
 use Rattle.run_laws.specs.declared.fired.Fired.{Fired}
@@ -122,16 +122,16 @@ there_date : (date : ℕ) (o : Option ℕ) → IsThereBy date o → IsAtMostDate
 there_date date None h = absurd h
 there_date date (Some d) h = omega (arith, ints, h)
 
-from_in : (net : NetLists) (t : ℕ) → IsNet net → t < length net.transitions → All (λ p. p.to.index ≡ t → p.from.index < length net.transitions) (extended_places net)
-from_in net t ok l = all_extended net (λ p. p.to.index ≡ t → p.from.index < length net.transitions) (λ j d m e. (ok.each_place j d m).from_in) (λ u e. rw e l)
+from_in : (net : NetLists) (t : ℕ) → HasEndsInRange net → t < length net.transitions → All (λ p. p.to.index ≡ t → p.from.index < length net.transitions) (extended_places net)
+from_in net t ends l = all_extended net (λ p. p.to.index ≡ t → p.from.index < length net.transitions) (λ j d m e. (ends j d m).0) (λ u e. rw e l)
 
 -- a firing that may come at the date has its least date by then
-pub open_least : (net : NetLists) (x : Dating) (run : List Fired) (t k date : ℕ) → IsNet net → IsLive net → IsLeastDating net x → IsNotEarly net x run
+pub open_least : (net : NetLists) (x : Dating) (run : List Fired) (t k date : ℕ) → HasEndsInRange net → IsLive net → IsLeastDating net x → IsNotEarly net x run
     → t < length net.transitions → 1 ≤ k → IsOpenBy net run t k date → IsAtMostDate (x t k) (At (pos date))
-open_least net x run t k date ok live h early l o all =
-    let ranks = live_is_ranked net (net_ends net ok) live in
+open_least net x run t k date ends live h early l o all =
+    let ranks = live_is_ranked net ends live in
     (tight_of_least net (listed_releases net) x ranks.0 ranks.1 ranks.2 h).tight t k (At (pos date)) l o
-    (λ i d m e. token_least net x run (get_or (extended_places net) i d) k date (from_in net t ok l i d m e) early (all.tokens i d m e))
+    (λ i d m e. token_least net x run (get_or (extended_places net) i d) k date (from_in net t ends l i d m e) early (all.tokens i d m e))
     (λ i. there_date date (input_date net t k) (all.released i))
 
 -- all that a legal firing waits for is there by its date, the firing before it too
@@ -147,7 +147,7 @@ legal_open net run f legal g =
     }
 
 pub not_early : LegalRunsAreNotEarly
-not_early net x run ok live h legal =
+not_early net x run ends live h legal =
     (along net (λ s. IsLegalRun net s × IsNotEarly net x s)
     (legal_begins net, λ t k date l o e. let none = (get_there [] (k - 1) date e).0 in absurd (omega (arith, none)))
     (λ before f p g. (
@@ -157,7 +157,7 @@ not_early net x run ok live h legal =
           (λ (q : firing_date before t k ≡ Some date). p.1 t k date l o q)
           (λ (q : (t ≡ f.transition.index) × (k ≡ next_number before f.transition.index) × (date ≡ f.date)).
           rw (q.0, q.1, q.2)
-          (open_least net x before f.transition.index (next_number before f.transition.index) f.date ok live h p.1 g.transition_in (omega arith) (legal_open net before f p.0 g)))
+          (open_least net x before f.transition.index (next_number before f.transition.index) f.date ends live h p.1 g.transition_in (omega arith) (legal_open net before f p.0 g)))
           (firing_push before f t k date o e),
     ))
     run legal).1
@@ -218,9 +218,9 @@ dated_or : (net : NetLists) (x : Dating) (run : List Fired) (t : ℕ) → t < le
 dated_or net x run t l dated low = from_zero (x t (next_number run t)) (last_listed_date (dates_of_transition run t)) (rw (own_available net x run t l dated (dates_of_transition run t) refl) at low)
 
 pub earliest_least : EarliestIsLeast
-earliest_least net x run t date ok live h dated l e =
+earliest_least net x run t date ends live h dated l e =
     let k : ℕ = next_number run t in
-    let upper = open_least net x run t k date ok live h (dated_early net x run dated) l (omega arith) e.enough in
+    let upper = open_least net x run t k date ends live h (dated_early net x run dated) l (omega arith) e.enough in
     let own = implicit_is net t l in
     let f1 : IsFeasibleUnder net (listed_releases net) x = h.feasible in
     let asked = λ (i : ℕ) (d : Place) (m : i < length (extended_places net)) (q : (get_or (extended_places net) i d).to.index ≡ t). rw q at (f1.places k (omega arith) i d m) in
@@ -230,7 +230,7 @@ earliest_least net x run t date ok live h dated l e =
     (λ (q : x t k ≡ Never). rw q tt)
     (λ (q : (z : ℕ) × (x t k ≡ At (pos z))).
     let first = e.first q.0 (record {
-      tokens = λ i d m u. token_there net x run (get_or (extended_places net) i d) k date q.0 (from_in net t ok l i d m u) dated (e.enough.tokens i d m u) (rw q.1 at (asked i d m u));
+      tokens = λ i d m u. token_there net x run (get_or (extended_places net) i d) k date q.0 (from_in net t ends l i d m u) dated (e.enough.tokens i d m u) (rw q.1 at (asked i d m u));
       released = λ i. release_there date q.0 (input_date net t k) (e.enough.released i) (rw q.1 at (f1.inputs t k (omega arith) i));
     }) in
     rw q.1 (omega (arith, ints, first)))

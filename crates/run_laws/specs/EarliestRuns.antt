@@ -3,7 +3,7 @@ use Rattle.std.specs.Prelude.{ℕ, pos, ◌<◌, ◌≤◌, ◌≡◌, ◌≢◌
 use Rattle.teg_model.specs.dioid.declared.dates.Date.{Date}
 use Rattle.teg_model.specs.dioid.declared.dates.Date.TheVariants.{At, Never}
 use Rattle.teg_model.specs.dioid.Dates.{IsAtMostDate}
-use Rattle.teg_net.specs.Nets.{NetLists, IsNet}
+use Rattle.teg_net.specs.Nets.{NetLists, HasEndsInRange}
 use Rattle.teg_model.specs.Datings.{IsLeastDating}
 use Rattle.run_laws.specs.declared.fired.Fired.{Fired}
 use Rattle.run_laws.specs.Runs.{IsLegalRun}
@@ -62,11 +62,11 @@ pub record IsEarliestRun (net : NetLists) (x : ℕ → ℕ → Date) (most : ℕ
 -- the earliest runs of the least dating are legal
 abbrev pub EarliestRunsAreLegal : Type 0
 EarliestRunsAreLegal =
-    (net : NetLists) (x : ℕ → ℕ → Date) (most : ℕ) (run : List Fired) → IsNet net
+    (net : NetLists) (x : ℕ → ℕ → Date) (most : ℕ) (run : List Fired) → HasEndsInRange net
     → IsLeastDating net x → IsEarliestRun net x most run → IsLegalRun net run
 
 -- the first firings of an earliest run of the least dating are a legal run
 abbrev pub PartsOfEarliestRunsAreLegal : Type 0
 PartsOfEarliestRunsAreLegal =
-    (net : NetLists) (x : ℕ → ℕ → Date) (most n : ℕ) (run : List Fired) → IsNet net
+    (net : NetLists) (x : ℕ → ℕ → Date) (most n : ℕ) (run : List Fired) → HasEndsInRange net
     → IsLeastDating net x → IsEarliestRun net x most run → n ≤ length run → IsLegalRun net (take n run)

@@ -4,7 +4,7 @@ use Rattle.teg_model.specs.dioid.declared.dates.Date.{Date}
 use Rattle.teg_model.specs.dioid.declared.dates.Date.TheVariants.{At}
 use Rattle.teg_model.specs.dioid.Dates.{IsAtMostDate}
 use Rattle.teg_net.specs.declared.entries.PlaceId.{PlaceId}
-use Rattle.teg_net.specs.Nets.{NetLists, IsNet}
+use Rattle.teg_net.specs.Nets.{NetLists, HasEndsInRange}
 use Rattle.teg_net.specs.Circuits.{IsLive}
 use Rattle.teg_model.specs.Datings.{IsLeastDating}
 use Rattle.run_laws.specs.declared.fired.Fired.{Fired}
@@ -23,13 +23,13 @@ IsDatedBy net x run = (t k date : ℕ) → t < length net.transitions → 1 ≤ 
 -- no firing of a legal run comes before its least date
 abbrev pub LegalRunsAreNotEarly : Type 0
 LegalRunsAreNotEarly =
-    (net : NetLists) (x : ℕ → ℕ → Date) (run : List Fired) → IsNet net → IsLive net
+    (net : NetLists) (x : ℕ → ℕ → Date) (run : List Fired) → HasEndsInRange net → IsLive net
     → IsLeastDating net x → IsLegalRun net run → IsNotEarly net x run
 
 -- where all firings so far came at their least dates, the earliest date of the next firing of a transition is its least date
 abbrev pub EarliestIsLeast : Type 0
 EarliestIsLeast =
-    (net : NetLists) (x : ℕ → ℕ → Date) (run : List Fired) (t date : ℕ) → IsNet net → IsLive net
+    (net : NetLists) (x : ℕ → ℕ → Date) (run : List Fired) (t date : ℕ) → HasEndsInRange net → IsLive net
     → IsLeastDating net x → IsDatedBy net x run → t < length net.transitions
     → IsEarliest net run t (next_number run t) date → x t (next_number run t) ≡ At (pos date)
 

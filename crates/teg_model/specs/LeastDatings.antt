@@ -63,7 +63,7 @@ abbrev pub LeastDatesAreWithin : Type 0
 LeastDatesAreWithin = (net : NetLists) → IsNet net → IsLive net → (x : ℕ → ℕ → Date) → IsLeastDating net x
     → (t k : ℕ) → t < length net.transitions → 1 ≤ k → k ≤ greatest_firing_number → IsDateWithin greatest_least_date (x t k)
 
--- no least date of a live net is Early: no firing comes before date 0
+-- no least date is Early: no firing comes before date 0
 abbrev pub LeastDatesAreFromZero : Type 0
-LeastDatesAreFromZero = (net : NetLists) → IsNet net → IsLive net → (x : ℕ → ℕ → Date) → IsLeastDating net x
+LeastDatesAreFromZero = (net : NetLists) (x : ℕ → ℕ → Date) → IsLeastDating net x
     → (t k : ℕ) → t < length net.transitions → 1 ≤ k → IsAtMostDate (At (pos 0)) (x t k)

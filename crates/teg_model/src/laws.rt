@@ -34,8 +34,9 @@ pub fn least_dates_are_walks()
     ensures { LeastDatesAreWalks }
 {}
 
-/// In a live net each least date is a number from 0 on, or `Never`, and up to the greatest firing
-/// number those that are numbers are at most 2 times 10^30 (chapter 2).
+/// Each least date is a number from 0 on, or `Never`; and in a live net that keeps all rules of a
+/// net those that are numbers are at most 2 times 10^30, up to the greatest firing number (chapter
+/// 2).
 pub fn least_dates_are_within()
     ensures first { LeastDatesAreFromZero }
     ensures last { LeastDatesAreWithin }

@@ -3,6 +3,7 @@ use Rattle.std.proofs.Common.{ℕ, zero, suc, [], ◌∷◌, ◌<◌, ◌≡◌,
 use Rattle.std.specs.Prelude.{Result, Ok, Err, IfOk}
 use Rattle.std.proofs.lemmas.List.{take-map, length-map}
 use Rattle.teg_net.specs.Nets.{NetLists, IsNet}
+use Rattle.teg_net.proofs.NetRules.{net_ends}
 use Rattle.teg_outside.specs.declared.monitor.Firing.{Firing}
 use Rattle.run_laws.specs.declared.fired.Fired.{Fired}
 use Rattle.teg_due.specs.declared.rows.LogRow.{LogRow}
@@ -29,9 +30,9 @@ pub stands_to_least : (net : NetLists) (run : List Fired) (f : Fired) (firing : 
     → StandsToLeastDates net run firing
 stands_to_least net run f firing ok legal g told live x h = record {
   not_early = rw (told.transition, told.number, told.date)
-      (open_least net x run f.transition.index (next_number run f.transition.index) f.date ok live h
-      (not_early net x run ok live h legal) g.transition_in (omega arith) (legal_open net run f legal g));
-  earliest = λ dated. rw (told.transition, told.number) (earliest_least net x run f.transition.index firing.earliest ok live h dated g.transition_in told.earliest);
+      (open_least net x run f.transition.index (next_number run f.transition.index) f.date (net_ends net ok) live h
+      (not_early net x run (net_ends net ok) live h legal) g.transition_in (omega arith) (legal_open net run f legal g));
+  earliest = λ dated. rw (told.transition, told.number) (earliest_least net x run f.transition.index firing.earliest (net_ends net ok) live h dated g.transition_in told.earliest);
 }
 
 mapped : (rows : List LogRow) (n : ℕ) (d : LogRow) (e : Fired) → n < length rows → get_or (run_of rows) n e ≡ fired_of (get_or rows n d)
@@ -60,5 +61,5 @@ pub refused_not_earliest : {E : Type 0} (net : NetLists) (rows : List LogRow) (i
     → ((d : LogRow) → get_or rows i d ≡ row) → run ≡ run_of (take i rows) → IsRightFireRefusal net run (fired_of row) why → IfOk result (λ _. IsFailure why)
     → IfOk result (λ replayed. AcceptsEarliestRuns net rows replayed)
 refused_not_earliest net rows i run row why (Ok replayed) ok l is r right failed = λ x most n whole least e few same.
-    absurd (fails_in_run net rows i run row why l is r right failed (rw same (parts_legal net x most n whole ok least e few)))
+    absurd (fails_in_run net rows i run row why l is r right failed (rw same (parts_legal net x most n whole (net_ends net ok) least e few)))
 refused_not_earliest net rows i run row why (Err e) ok l is r right failed = tt

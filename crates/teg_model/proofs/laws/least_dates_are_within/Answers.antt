@@ -7,7 +7,7 @@ use Rattle.teg_model.proofs.Tokens.{not_before_zero}
 use Rattle.teg_model.proofs.laws.least_dates_are_within.Goals as goal
 
 pub returns-clause-first : goal.returns-clause-first
-returns-clause-first c = λ net ok live x h t k l o. not_before_zero net (listed_releases net) x h.feasible t k l o
+returns-clause-first c = λ net x h t k l o. not_before_zero net (listed_releases net) x h.feasible t k l o
 
 pub returns-clause-last : goal.returns-clause-last
 returns-clause-last c = λ net ok live x h t k l o m.
