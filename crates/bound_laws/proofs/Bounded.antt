@@ -12,7 +12,7 @@ use Rattle.settled_laws.specs.dioid.declared.dates.Date.TheVariants.{At}
 use Rattle.settled_laws.specs.dioid.Dates.{delayed}
 use Rattle.settled_laws.specs.teg_net.declared.entries.PlaceId.{PlaceId}
 use Rattle.settled_laws.specs.teg_net.declared.entries.Place.{Place}
-use Rattle.settled_laws.specs.teg_net.Nets.{NetLists, IsNet, IsPlaceOf}
+use Rattle.settled_laws.specs.teg_net.Nets.{NetLists, HasEndsInRange}
 use Rattle.settled_laws.specs.teg_net.Circuits.{no_place, place_at, from_of, IsPathBetween, IsCircuit, IsLive, time_of, tokens_of}
 use Rattle.settled_laws.proofs.teg_net_proofs.NetRules.{net_ends}
 use Rattle.settled_laws.proofs.teg_net_proofs.PathLaws.{IsPathBetween-in_range}
@@ -28,7 +28,7 @@ use Rattle.std.proofs.lemmas.List.Sums.{sum_by-cons}
 use Rattle.settled_laws.proofs.number_laws_proofs.Numbers.{some_of}
 use Rattle.teg_loops.proofs.Taking.{closed_keeps}
 use Rattle.bound_laws.specs.PastTheBound.{DatesGoOnPastTheBound, factorial, FactorialsAreCommon, StepsAreWhole, StillNetsStayAtZero}
-use Rattle.bound_laws.proofs.Unrolled.{unrolled, own_is, own_path, path_in, same_sums, once_in, IsWait, kinds}
+use Rattle.bound_laws.proofs.Unrolled.{unrolled, ends_in, own_is, own_path, path_in, same_sums, once_in, IsWait, kinds}
 use Rattle.bound_laws.proofs.WalkTimes.{AreWalkTimes, times_of, walk_times, Waiting, waiting}
 
 -- each extended place keeps what the net's and the implicit ones keep
@@ -47,12 +47,6 @@ in_unrolled net P own wait id l =
     subst P (sym (get_or-append_right net.places waits (length net.places) id.index no_place refl high
     ∙ get_or-map-range_with_len implicit_place 0 n t t no_place within (omega arith))) (wait t within))
     (cases_lt id.index (length net.places))
-
-ends_in : (net : NetLists) → IsNet net → EndsBelow (unrolled net) (length net.transitions)
-ends_in net ok = record {
-  from_in = λ id l. in_unrolled net (λ p. p.from.index < length net.transitions) (λ i m. let is : IsPlaceOf net (place_at net i) = ok.each_place i.index no_place m in is.from_in) (λ t m. m) id l;
-  to_in = λ id l. in_unrolled net (λ p. p.to.index < length net.transitions) (λ i m. let is : IsPlaceOf net (place_at net i) = ok.each_place i.index no_place m in is.to_in) (λ t m. m) id l;
-}
 
 -- a circuit of the net is one of the net with its implicit places, and has the same sums
 own_circuit : (net : NetLists) (ps : List PlaceId) → IsCircuit net ps → IsCircuit (unrolled net) ps
@@ -119,16 +113,16 @@ long_enough n tokens len m total one lm far few =
 
 setting : (net : NetLists) (hold tokens a b : ℕ) (x : ℕ → ℕ → Date) (s : IsStrong net hold tokens a b) (least : IsLeastDating net x)
     → Setting (unrolled net) (length net.transitions) ((length net.transitions - 1) * tokens) (length net.transitions * tokens)
-    ((length net.transitions - 1) * hold) a b (times_of net s.net_rules s.live s.no_input s.ready_at_zero x least)
+    ((length net.transitions - 1) * hold) a b (times_of net (net_ends net s.net_rules) s.live s.no_input s.ready_at_zero x least)
 setting net hold tokens a b x s least =
     let n : ℕ = length net.transitions in
     let e : NetLists = unrolled net in
-    let ends : EndsBelow e n = ends_in net s.net_rules in
+    let ends : EndsBelow e n = ends_in net (net_ends net s.net_rules) in
     let marks : (id : PlaceId) → id.index < length e.places → (place_at e id).tokens ≤ tokens =
     λ id l. in_unrolled net (λ p. p.tokens ≤ tokens) (λ i m. s.marks i.index no_place m) (λ t m. s.one) id l in
     let holds : (id : PlaceId) → id.index < length e.places → (place_at e id).hold ≤ hold =
     λ id l. in_unrolled net (λ p. p.hold ≤ hold) (λ i m. s.holds i.index no_place m) (λ t m. omega arith) id l in
-    let times : AreWalkTimes net x (times_of net s.net_rules s.live s.no_input s.ready_at_zero x least) = walk_times net s.net_rules s.live s.no_input s.ready_at_zero x least in
+    let times : AreWalkTimes net x (times_of net (net_ends net s.net_rules) s.live s.no_input s.ready_at_zero x least) = walk_times net (net_ends net s.net_rules) s.live s.no_input s.ready_at_zero x least in
     let core : IsCriticalIn e a b s.center s.core = critical_in net a b s.center s.core s.attained in
     record {
       ends = ends;
@@ -167,8 +161,8 @@ moved_on y S = ap At (omega (arith, ints))
 pub dates_go_on : DatesGoOnPastTheBound
 dates_go_on net hold tokens a b s x least L S common step t zero lt far = absurd (omega arith)
 dates_go_on net hold tokens a b s x least L S common step t (suc k) lt far =
-    let y : ℕ → ℕ → ℕ = times_of net s.net_rules s.live s.no_input s.ready_at_zero x least in
-    let times : AreWalkTimes net x y = walk_times net s.net_rules s.live s.no_input s.ready_at_zero x least in
+    let y : ℕ → ℕ → ℕ = times_of net (net_ends net s.net_rules) s.live s.no_input s.ready_at_zero x least in
+    let times : AreWalkTimes net x y = walk_times net (net_ends net s.net_rules) s.live s.no_input s.ready_at_zero x least in
     let n : ℕ = length net.transitions in
     let on : y t (k + L) ≡ y t k + S = goes_on (unrolled net) n ((n - 1) * tokens) (n * tokens) ((n - 1) * hold) a b y
     (setting net hold tokens a b x s least) s.tokens_some L S (common_in net a b L s.time_some common) step t k lt (omega arith) in
@@ -219,11 +213,11 @@ steps_are_whole net hold tokens a b L s common =
 
 -- ---- nets whose circuits take no time
 
-still_hold : (net : NetLists) → IsNet net → IsLive net → ((s t : ℕ) → s < length net.transitions → t < length net.transitions → (ps : List PlaceId) × IsPathBetween net s ps t)
+still_hold : (net : NetLists) → HasEndsInRange net → IsLive net → ((s t : ℕ) → s < length net.transitions → t < length net.transitions → (ps : List PlaceId) × IsPathBetween net s ps t)
     → ((ps : List PlaceId) → IsCircuit net ps → time_of net ps ≡ 0) → (id : PlaceId) → id.index < length net.places → (place_at net id).hold ≡ 0
-still_hold net ok live reaches none id l =
-    let is : IsPlaceOf net (place_at net id) = ok.each_place id.index no_place l in
-    let back = reaches (place_at net id).to.index (place_at net id).from.index is.to_in is.from_in in
+still_hold net ends live reaches none id l =
+    let is = ends id.index no_place l in
+    let back = reaches (place_at net id).to.index (place_at net id).from.index is.1 is.0 in
     let each : (ps : List PlaceId) → IsCircuit net ps → Keeps net 0 1 ps =
     λ ps c. let some : 1 ≤ tokens_of net ps = some_of (tokens_of net ps) (live ps c) in let zero_time = none ps c in record { some = some; ratio = omega arith } in
     let round : Keeps net 0 1 (id ∷ back.0) = closed_keeps net 0 1 each (id ∷ back.0) (from_of net id) (l, refl, back.1) (omega arith) in
@@ -232,14 +226,14 @@ still_hold net ok live reaches none id l =
     omega arith
 
 pub still_nets_stay_at_zero_by : StillNetsStayAtZero
-still_nets_stay_at_zero_by net ok live no_input reaches none at_zero x least t zero lt one = absurd (omega arith)
-still_nets_stay_at_zero_by net ok live no_input reaches none at_zero x least t (suc k) lt one =
-    let times : AreWalkTimes net x (times_of net ok live no_input at_zero x least) = walk_times net ok live no_input at_zero x least in
+still_nets_stay_at_zero_by net ends live no_input reaches none at_zero x least t zero lt one = absurd (omega arith)
+still_nets_stay_at_zero_by net ends live no_input reaches none at_zero x least t (suc k) lt one =
+    let times : AreWalkTimes net x (times_of net ends live no_input at_zero x least) = walk_times net ends live no_input at_zero x least in
     let reached = times.reached t k lt in
     let holds : (id : PlaceId) → id.index < length (extended_places net) → (place_at (unrolled net) id).hold ≤ 0 =
-    λ id l. in_unrolled net (λ p. p.hold ≤ 0) (λ i m. let z = still_hold net ok live reaches none i m in omega arith) (λ u m. omega arith) id l in
+    λ id l. in_unrolled net (λ p. p.hold ≤ 0) (λ i m. let z = still_hold net ends live reaches none i m in omega arith) (λ u m. omega arith) id l in
     let most = sum_most (λ p. (place_at (unrolled net) p).hold) 0 (unrolled net) holds reached.1 reached.0 t reached.3 in
-    let zero_time : times_of net ok live no_input at_zero x least t k ≡ 0 =
-    (let time : time_of (unrolled net) reached.1 ≡ times_of net ok live no_input at_zero x least t k = reached.5 in omega arith) in
+    let zero_time : times_of net ends live no_input at_zero x least t k ≡ 0 =
+    (let time : time_of (unrolled net) reached.1 ≡ times_of net ends live no_input at_zero x least t k = reached.5 in omega arith) in
     let two : k + 1 ≡ suc k = omega arith in
     ap (x t) (sym two) ∙ times.is t k lt ∙ ap (λ (z : ℕ). At (pos z)) zero_time

@@ -8,14 +8,14 @@ use Rattle.settled_laws.specs.dioid.declared.dates.Date.TheVariants.{Early, At, 
 use Rattle.settled_laws.specs.dioid.Dates.{IsAtMostDate, delayed, later_of}
 use Rattle.settled_laws.specs.teg_net.declared.entries.PlaceId.{PlaceId}
 use Rattle.settled_laws.specs.teg_net.declared.entries.Place.{Place}
-use Rattle.settled_laws.specs.teg_net.Nets.{NetLists, IsNet, IsInput}
+use Rattle.settled_laws.specs.teg_net.Nets.{NetLists, HasEndsInRange, IsInput}
 use Rattle.settled_laws.specs.teg_net.Circuits.{place_at, IsPathBetween, IsLive, time_of, tokens_of}
 use Rattle.settled_laws.specs.teg_net.Walks.{walk_time}
 use Rattle.settled_laws.proofs.teg_net_proofs.PathLaws.{IsPathBetween-append}
 use Rattle.settled_laws.specs.teg_model.Datings.{IsLeastDating, listed_releases, at_input, implicit_place}
 use Rattle.settled_laws.specs.teg_model.Starts.{start_of_firing}
 use Rattle.settled_laws.specs.teg_model.WalkDates.{IsDateOfWalk, IsGreatestOfWalks}
-use Rattle.settled_laws.proofs.teg_model_proofs.OfNet.{implicit_is, input_or_not, net_ends}
+use Rattle.settled_laws.proofs.teg_model_proofs.OfNet.{implicit_is, input_or_not}
 use Rattle.settled_laws.proofs.teg_model_proofs.GreatestWalks.{least_is_walk}
 use Rattle.settled_laws.proofs.teg_model_proofs.LiveRanks.{live_ranks}
 use Rattle.settled_laws.specs.teg_net.ReadyDates.{ready_date, start_date}
@@ -64,7 +64,7 @@ waiting net t l =
       time = (let e : (place_at (unrolled net) id).hold ≡ 0 = ap (λ (q : Place). q.hold) same in let c = sum_by-cons (λ q. (place_at (unrolled net) q).hold) id [] in omega arith);
     }
 
-module _ (net : NetLists) (ok : IsNet net) (live : IsLive net) (no_input : (t : ℕ) → IsInput net t → ⊥) (at_zero : AllReadyAtZero net) (x : ℕ → ℕ → Date) (least : IsLeastDating net x) where
+module _ (net : NetLists) (ends : HasEndsInRange net) (live : IsLive net) (no_input : (t : ℕ) → IsInput net t → ⊥) (at_zero : AllReadyAtZero net) (x : ℕ → ℕ → Date) (least : IsLeastDating net x) where
   ready_zero : (a s : ℕ) → start_date net a s ≡ 0
   ready_zero a s =
       ⊎_elim
@@ -84,7 +84,6 @@ module _ (net : NetLists) (ok : IsNet net) (live : IsLive net) (no_input : (t : 
 
   walks : (t k : ℕ) → t < length net.transitions → IsGreatestOfWalks net (listed_releases net) t (k + 1) (x t (k + 1))
   walks t k l =
-      let ends = net_ends net ok in
       let ranks = live_ranks net ends live in
       least_is_walk net (listed_releases net) x (suc (suc (length net.transitions))) ranks.0 ends ranks.1 least t (k + 1) l (omega arith)
 
@@ -104,7 +103,7 @@ module _ (net : NetLists) (ok : IsNet net) (live : IsLive net) (no_input : (t : 
       × IsPathBetween (unrolled net) j ps t × (tokens_of (unrolled net) ps ≡ k) × (time_of (unrolled net) ps ≡ times_of t k)
   reached_by t k l =
       let w : IsDateOfWalk net (listed_releases net) t (k + 1) (x t (k + 1)) = (walks t k l).reached in
-      let path : Pathed net w.from t w.number (k + 1) w.steps = pathed net ok w.steps w.from w.number t (k + 1) w.from_in w.walk in
+      let path : Pathed net w.from t w.number (k + 1) w.steps = pathed net ends w.steps w.from w.number t (k + 1) w.from_in w.walk in
       let wait : Waiting net w.from = waiting net w.from w.from_in in
       let before : List PlaceId = rounds (w.number - 1) (wait.id ∷ []) in
       let f : PlaceId → ℕ = λ p. (place_at (unrolled net) p).tokens in

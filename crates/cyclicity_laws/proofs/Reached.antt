@@ -29,7 +29,6 @@ use Rattle.growth_laws.proofs.PathSteps.{path_steps, path_walks, path_time}
 use Rattle.slope_laws.specs.teg_loops.Loops.{HasLoop, IsCircuitTowards}
 use Rattle.slope_laws.proofs.WalkPaths.{IsPathOf, walk_path}
 use Rattle.teg_settle.specs.Transfers.{AreWalkTimes}
-use Rattle.growth_laws.proofs.teg_model_proofs.OfNet.{net_ends}
 use Rattle.growth_laws.proofs.teg_model_proofs.LiveRanks.{live_is_ranked}
 use Rattle.growth_laws.proofs.teg_model_proofs.SystemWalks.{least_in_is_walk}
 use Rattle.periodic_laws.specs.LinearSystem.{SystemsSettle}
@@ -313,8 +312,7 @@ released_periodic c t = record {
 }
 
 pub transfers_exist : SystemsSettle → TransfersExist
-transfers_exist law net ok live c c_in =
-    let ends = net_ends net ok in
+transfers_exist law net ends live c c_in =
     let ranked = live_is_ranked net ends live in
     let found = law net ends live (initial_by Absent) (released_alone c) (λ t l. released_periodic c t) in (
       found.2,

@@ -301,7 +301,7 @@ pub cyclicity_by_parts : SystemsSettle → CyclicityIsByParts
 cyclicity_by_parts settle net a b s some_a L one = (
   λ all c ps critical.
       let c_in = start_in net (length net.transitions) c c ps (ends_below net (net_ends net s.net_rules)) critical.at critical.circuit.not_empty in
-      let found = transfers_exist settle net s.net_rules s.live c c_in in
+      let found = transfers_exist settle net (net_ends net s.net_rules) s.live c c_in in
       let part = transfers_are_common net s.live a b some_a c ps c_in critical (λ qs w. bounded qs w.circuit) found.0 found.1 in
       (part.0, part.1, λ d each. dvd_trans d (part.2 d each) (all c found.0 c_in found.1)),
   λ common c f c_in h. transfers_divide net a b s c c_in f h L one (λ some. common),

@@ -4,7 +4,7 @@ use Rattle.std.specs.Int.{◌∣◌}
 use Rattle.bound_laws.specs.dioid.declared.dates.Date.{Date}
 use Rattle.bound_laws.specs.teg_net.declared.entries.PlaceId.{PlaceId}
 use Rattle.bound_laws.specs.teg_net.Limits.{most_place_tokens}
-use Rattle.bound_laws.specs.teg_net.Nets.{NetLists, IsNet}
+use Rattle.bound_laws.specs.teg_net.Nets.{NetLists, IsNet, HasEndsInRange}
 use Rattle.bound_laws.specs.teg_net.Circuits.{IsLive, time_of, tokens_of}
 use Rattle.bound_laws.specs.teg_model.Datings.{IsLeastDating}
 use Rattle.bound_laws.specs.settled_laws.SettledForms.{SettledForm}
@@ -37,7 +37,7 @@ CyclicityIsByParts =
 
 -- the greatest times of walks from each transition of a live net have a shortest settled form
 abbrev pub TransfersExist : Type 0
-TransfersExist = (net : NetLists) → IsNet net → IsLive net → (c : ℕ) → c < length net.transitions → (f : SettledForm) × IsTransferOf net c f
+TransfersExist = (net : NetLists) → HasEndsInRange net → IsLive net → (c : ℕ) → c < length net.transitions → (f : SettledForm) × IsTransferOf net c f
 
 -- a number that is common whatever the rates: each circuit has so many tokens at most, and `every` has the limit of the tokens of a place
 abbrev pub common_number : NetLists → ℕ

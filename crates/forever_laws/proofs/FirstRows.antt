@@ -1,10 +1,12 @@
 -- Inputs at 0 meet endless due dates, or some row is the first that has a late number.
-use Rattle.std.proofs.Common.{ℕ, zero, suc, ◌+◌, ◌*◌, ◌<◌, ◌≡◌, List, [], ◌∷◌, Some, length, get_or, take, refl, arith, ⊎_elim, ◌⊎◌, inl, inr}
+use Rattle.std.proofs.Common.{ℕ, zero, suc, ◌+◌, ◌*◌, ◌<◌, ◌≤◌, ◌≡◌, List, [], ◌∷◌, Some, length, get_or, take, refl, arith, ⊎_elim, ◌⊎◌, inl, inr}
 use Rattle.std.specs.Prelude.{All, slice_get}
 use Rattle.std.proofs.lemmas.List.Elements.{All-cons}
 use Rattle.teg_settle.specs.dioid.declared.dates.Date.{Date}
-use Rattle.teg_net.specs.Limits.{most_place_tokens, greatest_hold, greatest_input_date}
-use Rattle.teg_net.specs.Nets.{NetLists, IsNet}
+use Rattle.teg_net.specs.declared.entries.Place.{Place}
+use Rattle.teg_net.specs.Limits.{greatest_input_date}
+use Rattle.teg_net.specs.Nets.{NetLists, HasEndsInRange}
+use Rattle.teg_net.proofs.Bounds.{some_most}
 use Rattle.teg_net.specs.Circuits.{IsLive}
 use Rattle.teg_settle.specs.teg_model.Datings.{IsLeastUnder}
 use Rattle.due_laws.specs.MeetingDueDates.{inputs_at_zero}
@@ -26,21 +28,26 @@ pub record HasLate (x : ℕ → ℕ → Date) (r : EndlessRow) : Type 0 where
   pub date : ℕ
   pub least : IsLeastLate x r number due date
 
--- or none: it is enough to look up to the bound
-pub late_or_none : (net : NetLists) (ok : IsNet net) (live : IsLive net) (x : ℕ → ℕ → Date) (least : IsLeastUnder net inputs_at_zero x)
+-- or none: it is enough to look up to a bound, by the longest hold and the most tokens of a place
+pub late_or_none : (net : NetLists) (ends : HasEndsInRange net) (live : IsLive net) (x : ℕ → ℕ → Date) (least : IsLeastUnder net inputs_at_zero x)
     (r : EndlessRow) → IsEndlessRow net r → NoneLate x r ⊎ HasLate x r
-late_or_none net ok live x least r row =
+late_or_none net ends live x least r row =
     let n : ℕ = length net.transitions in
     let t : ℕ = r.transition.index in
-    let z : ℕ → ℕ = least_number net ok live x least t in
-    let bound : ℕ = flat_bound (n * most_place_tokens) most_place_tokens r.every (length r.dates) + steep_bound (n * most_place_tokens)
-    (n * most_place_tokens) (n * r.every * greatest_hold) r.every greatest_input_date in
+    let z : ℕ → ℕ = least_number net ends live x least t in
+    let longest = some_most (λ (p : Place). p.hold) net.places in
+    let fullest = some_most (λ (p : Place). p.tokens) net.places in
+    let hold : ℕ = longest.0 in
+    let most : ℕ = fullest.0 + 1 in
+    let marks : All (λ p. p.tokens ≤ most) net.places = λ i d l. (let few : (get_or net.places i d).tokens ≤ fullest.0 = fullest.1 i d l in omega arith) in
+    let bound : ℕ = flat_bound (n * most) most r.every (length r.dates) + steep_bound (n * most)
+    (n * most) (n * r.every * hold) r.every greatest_input_date in
     ⊎_elim
     (λ none. inl (λ k due date h.
     let soon : LateWithin z (due_number r) bound =
-    late_soon (unrolled net) n (n * most_place_tokens) (n * most_place_tokens)
-    (n * r.every * greatest_hold) most_place_tokens r.every greatest_input_date r.gap (length r.dates) (least_number net ok live x least) (due_number r)
-    (setting net ok live x least r row) t k row.in_range h.from_one (late_to net ok live x least r k due date h) in
+    late_soon (unrolled net) n (n * most) (n * most)
+    (n * r.every * hold) most r.every greatest_input_date r.gap (length r.dates) (least_number net ends live x least) (due_number r)
+    (setting net ends live x least r row hold most (omega arith) longest.1 marks) t k row.in_range h.from_one (late_to net ends live x least r k due date h) in
     let kept = none soon.number soon.some soon.within in
     let late = soon.late in
     absurd (omega arith)))
@@ -48,7 +55,7 @@ late_or_none net ok live x least r row =
       number = f.number;
       due = due_number r f.number;
       date = z f.number;
-      least = record { late = late_from net ok live x least r row f.number f.some f.late; first = λ j d y l. f.first j l.from_one (late_to net ok live x least r j d y l) };
+      least = record { late = late_from net ends live x least r row f.number f.some f.late; first = λ j d y l. f.first j l.from_one (late_to net ends live x least r j d y l) };
     }))
     (least_to z (due_number r) bound)
 
@@ -83,10 +90,10 @@ first_row x (r ∷ rows) each = ⊎_elim
     (each 0 r (omega arith))
 
 pub meet_or_first : EndlessMeetOrLate
-meet_or_first net ok live rows each x least = ⊎_elim
-    (λ none. inl ((meets_where net ok live rows each x least).1 none))
+meet_or_first net ends live rows each x least = ⊎_elim
+    (λ none. inl ((meets_where net ends live rows each x least).1 none))
     (λ (f : HasFirst x rows). inr (f.row, f.number, f.due, f.date, f.first))
-    (first_row x rows (λ i d l. late_or_none net ok live x least (get_or rows i d) (each.each i d l)))
+    (first_row x rows (λ i d l. late_or_none net ends live x least (get_or rows i d) (each.each i d l)))
 
 -- a row that stands at a number of the list
 pub row_at : (rows : List EndlessRow) (i : ℕ) (r : EndlessRow) → slice_get rows i ≡ Some r → (i < length rows) × ((o : EndlessRow) → get_or rows i o ≡ r)
@@ -95,7 +102,7 @@ row_at (x ∷ xs) zero r e = (omega arith, λ o. cc)
 row_at (x ∷ xs) (suc i) r e = let old = row_at xs i r e in (omega (arith, old.0), old.1)
 
 pub late_excludes : EndlessLateExcludesMeet
-late_excludes net ok live rows each x least r k due date first meets =
+late_excludes net ends live rows each x least r k due date first meets =
     let at = row_at rows first.index r first.is_row in
-    let none : NoneLate x r = rw (at.1 r) at ((meets_where net ok live rows each x least).0 meets first.index r at.0) in
+    let none : NoneLate x r = rw (at.1 r) at ((meets_where net ends live rows each x least).0 meets first.index r at.0) in
     none k due date first.least_late.late

@@ -13,7 +13,7 @@ use Rattle.teg_settle.proofs.series_laws_proofs.FormValues.{value_in, value_repe
 use Rattle.teg_settle.proofs.series_laws_proofs.Canonical.{canonical_is, canonical_values, canonical_short, one_canonical}
 use Rattle.teg_settle.specs.series_form.NumberBounds.{IsSmallDate, HasSmallNumbers, IsSeries}
 use Rattle.teg_settle.specs.series_form.SeriesLimits.{greatest_value}
-use Rattle.teg_net.specs.Nets.{NetLists, IsNet}
+use Rattle.teg_net.specs.Nets.{NetLists, IsNet, HasEndsInRange}
 use Rattle.teg_net.specs.Circuits.{IsLive}
 use Rattle.teg_net.specs.Limits.{greatest_input_date}
 use Rattle.teg_net.specs.Walks.{walk_time}
@@ -112,9 +112,9 @@ due_series_fit net r row d is =
 
 -- ---- walk times
 
-zero_dating : (net : NetLists) → IsNet net → IsLive net → (x : ℕ → ℕ → Date) × IsLeastUnder net inputs_at_zero x
-zero_dating net ok live =
-    let ranked = live_is_ranked net (net_ends net ok) live in
+zero_dating : (net : NetLists) → HasEndsInRange net → IsLive net → (x : ℕ → ℕ → Date) × IsLeastUnder net inputs_at_zero x
+zero_dating net ends live =
+    let ranked = live_is_ranked net ends live in
     let x = least_over (system_of net inputs_at_zero) ranked.0 ranked.1 in
     (x, least_of_system net inputs_at_zero x (least_of net inputs_at_zero ranked.0 ranked.1 ranked.2))
 
@@ -124,20 +124,21 @@ time_low net ok live input t k d from to one few h =
     ⊎_elim
     (λ none. rw none.0 tt)
     (λ found.
-    let (x, least) = zero_dating net ok live in
-    let most = walk_most net ok live x least t k input 1 found.0 to one from (omega arith) found.1 in
-    let low = date_within net ok live x least t k (least_number net ok live x least t k) to one (date_is net ok live x least t k to one) in
+    let ends = net_ends net ok in
+    let (x, least) = zero_dating net ends live in
+    let most = walk_most net ends live x least t k input 1 found.0 to one from (omega arith) found.1 in
+    let low = date_within net ok live x least t k (least_number net ends live x least t k) to one (date_is net ends live x least t k to one) in
     let time : walk_time net found.0 ≤ greatest_value = omega arith in
     rw found.2 (omega (arith, ints), omega (arith, ints)))
     h.reached
 
 pub walk_series_fit : WalkSeriesFit
 walk_series_fit net ok live input from f transfer short t to h is =
-    let list = transfers_are_series net ok input f transfer t to in
+    let list = transfers_are_series net input f transfer t to in
     let sizes = transfer.2.stands.sizes in
     let long : length (row_of f t) ≡ settled_length f = (let rows = sizes.rows_are in sizes.full t [] (omega arith)) in
     series_of (row_of f t) f.period (step_of_form f t) h list.some list.fits (omega arith) list.rising is.canonical
     (λ k. is_one k)
     (λ k l. time_low net ok live input t (k + 1) (value_at h k) (input_in net input from) to (omega arith) (omega arith) (is.times k)) where
       is_one : (k : ℕ) → value_at h k ≡ value_at (form_with (row_of f t) f.period (step_of_form f t)) k
-      is_one k = one_time net input t (k + 1) (value_at h k) (value_at (form_with (row_of f t) f.period (step_of_form f t)) k) (is.times k) ((transfers_are_series net ok input f transfer t to).each k)
+      is_one k = one_time net input t (k + 1) (value_at h k) (value_at (form_with (row_of f t) f.period (step_of_form f t)) k) (is.times k) ((transfers_are_series net input f transfer t to).each k)

@@ -8,7 +8,7 @@ use Rattle.teg_settle.specs.dioid.declared.dates.Date.{Date}
 use Rattle.teg_settle.specs.dioid.declared.dates.Date.TheVariants.{Early, At, Never}
 use Rattle.teg_settle.specs.dioid.Dates.{IsAtMostDate, delayed, later_of}
 use Rattle.teg_settle.proofs.dioid_proofs.DateOrder.{at_most_is, at_most_trans, delayed_rises, later_either, never_last}
-use Rattle.teg_net.specs.Nets.{NetLists, IsNet, IsInput}
+use Rattle.teg_net.specs.Nets.{NetLists, HasEndsInRange, IsInput}
 use Rattle.teg_net.specs.Circuits.{IsLive}
 use Rattle.teg_net.specs.Walks.{Walks, walk_time}
 use Rattle.teg_net.specs.ReadyDates.{start_date}
@@ -17,7 +17,7 @@ use Rattle.teg_settle.specs.teg_model.Starts.{start_of_firing}
 use Rattle.teg_settle.specs.teg_model.WalkDates.{IsDateOfWalk}
 use Rattle.teg_settle.proofs.teg_model_proofs.LeastOver.{least_over}
 use Rattle.teg_settle.proofs.teg_model_proofs.LiveRanks.{live_is_ranked, live_ranks}
-use Rattle.teg_settle.proofs.teg_model_proofs.OfNet.{net_ends, input_or_not, least_of, least_of_system}
+use Rattle.teg_settle.proofs.teg_model_proofs.OfNet.{input_or_not, least_of, least_of_system}
 use Rattle.teg_settle.proofs.teg_model_proofs.GreatestWalks.{least_is_walk, not_before_ready}
 use Rattle.teg_settle.proofs.teg_model_proofs.Tokens.{not_before_zero}
 use Rattle.teg_settle.proofs.teg_model_proofs.WalkSteps.{walk_below}
@@ -46,11 +46,10 @@ due_after net due a s t k d date steps l w h =
     (at_most_is (delayed time back) (At (pos d)) (earlier_delayed time (At (pos d))))
 
 -- no walk under these inputs makes a due firing late
-meets_by_walks : (net : NetLists) → IsNet net → IsLive net → (due : Dues) (v x y : Dating) → IsLeastUnder net inputs_at_zero x
+meets_by_walks : (net : NetLists) → HasEndsInRange net → IsLive net → (due : Dues) (v x y : Dating) → IsLeastUnder net inputs_at_zero x
     → KeepsDues net due x → ((t k : ℕ) → IsInput net t → 1 ≤ k → IsLatestDate net due t k (v t k))
     → IsLeastUnder net v y → KeepsDues net due y
-meets_by_walks net ok live due v x y zero keeps l least t k d in' o h =
-    let ends = net_ends net ok in
+meets_by_walks net ends live due v x y zero keeps l least t k d in' o h =
     let ranks = live_ranks net ends live in
     let w : IsDateOfWalk net v t k (y t k) = (least_is_walk net v y (suc (suc (length net.transitions))) ranks.0 ends ranks.1 least t k in' o).reached in
     let time : ℕ = walk_time net w.steps in
@@ -76,8 +75,7 @@ meets_by_walks net ok live due v x y zero keeps l least t k d in' o h =
       later_delayed h a b c l m = ⊎_elim (λ e. rw e l) (λ e. rw e m) (later_either a b)
 
 pub latest_at_inputs : LatestAtInputsAreLatest
-latest_at_inputs net ok live due zero v l =
-    let ends = net_ends net ok in
+latest_at_inputs net ends live due zero v l =
     let ranked = live_is_ranked net ends live in
     let x : Dating = zero.0 in
     let f = zero.1.feasible in
@@ -93,7 +91,7 @@ latest_at_inputs net ok live due zero v l =
             (λ (e : v t (k + 1) ≢ Never). (l t k i o).least (v t (k + 1)) (due_next net due t k (v t (k + 1)) ((l t (k + 1) i (omega arith)).attained e)))
             (never_or_not (v t (k + 1)));
       };
-      meet = (least, is_least, meets_by_walks net ok live due v x least zero.1 zero.2 l is_least);
+      meet = (least, is_least, meets_by_walks net ends live due v x least zero.1 zero.2 l is_least);
       latest = λ w u meets t k i o.
           at_most_trans (w t k) (meets.0 t k) (v t k) (meets.1.feasible.inputs t k o i)
           (kept_below net due w (meets.0) ends meets.1.feasible meets.2 t k (v t k) (input_in net t i) o (l t k i o));
@@ -106,7 +104,7 @@ number_from (At (negsuc m)) l n = absurd (omega (arith, ints, l))
 number_from Never l n = absurd (n refl)
 
 pub latest_from_zero : LatestDatesFromZero
-latest_from_zero net ok due zero t k d in' o l n =
+latest_from_zero net ends due zero t k d in' o l n =
     let x : Dating = zero.0 in
     let f = zero.1.feasible in
-    number_from d (at_most_trans (At (pos 0)) (x t k) d (not_before_zero net inputs_at_zero x f t k in' o) (kept_below net due inputs_at_zero x (net_ends net ok) f zero.2 t k d in' o l)) n
+    number_from d (at_most_trans (At (pos 0)) (x t k) d (not_before_zero net inputs_at_zero x f t k in' o) (kept_below net due inputs_at_zero x ends f zero.2 t k d in' o l)) n

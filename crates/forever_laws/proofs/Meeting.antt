@@ -58,7 +58,7 @@ pub due_of_row : (net : NetLists) (rows : List EndlessRow) → IsEndlessOf net r
 due_of_row net rows ok i k o l = ap (λ r. due_by r k) (row_found rows i o ok.once l)
 
 pub meets_where : ZeroMeetsWhereNoneLate
-meets_where net ok live rows each x least = (
+meets_where net ends live rows each x least = (
   λ meets i o l k due date late.
       let r : EndlessRow = get_or rows i o in
       let row : IsEndlessRow net r = each.each i o l in
@@ -75,13 +75,13 @@ meets_where net ok live rows each x least = (
         let row : IsEndlessRow net h.row = rw h.is at (each.each h.index h.row h.within) in
         let own : NoneLate x h.row = rw h.is at (none h.index h.row h.within) in
         let is : d ≡ due_number h.row k = due_only h.row k d h.due in
-        let comes : x h.row.transition.index k ≡ At (pos (least_number net ok live x least h.row.transition.index k)) = date_is net ok live x least h.row.transition.index k row.in_range one in
-        let most : least_number net ok live x least h.row.transition.index k ≤ d =
+        let comes : x h.row.transition.index k ≡ At (pos (least_number net ends live x least h.row.transition.index k)) = date_is net ends live x least h.row.transition.index k row.in_range one in
+        let most : least_number net ends live x least h.row.transition.index k ≤ d =
         ⊎_elim
-        (λ (late : due_number h.row k < least_number net ok live x least h.row.transition.index k).
-        absurd (own k (due_number h.row k) (least_number net ok live x least h.row.transition.index k) (late_from net ok live x least h.row row k one late)))
-        (λ (kept : least_number net ok live x least h.row.transition.index k ≤ due_number h.row k). omega arith)
-        (cases_lt (due_number h.row k) (least_number net ok live x least h.row.transition.index k)) in
+        (λ (late : due_number h.row k < least_number net ends live x least h.row.transition.index k).
+        absurd (own k (due_number h.row k) (least_number net ends live x least h.row.transition.index k) (late_from net ends live x least h.row row k one late)))
+        (λ (kept : least_number net ends live x least h.row.transition.index k ≤ due_number h.row k). omega arith)
+        (cases_lt (due_number h.row k) (least_number net ends live x least h.row.transition.index k)) in
         subst (λ u. IsAtMostDate (x u k) (At (pos d))) h.names (subst (λ z. IsAtMostDate z (At (pos d))) (sym comes) (omega (arith, ints))),
   ),
 )

@@ -23,6 +23,7 @@ use Rattle.teg_settle.specs.series_ops.Gains.{LeftFits, MeetFits, gain_of}
 use Rattle.teg_settle.specs.periodic_laws.Equations.{gains}
 use Rattle.teg_settle.specs.teg_model.DateBounds.{IsDateWithin}
 use Rattle.teg_net.specs.Nets.{NetLists, IsNet}
+use Rattle.teg_net.proofs.NetRules.{net_ends}
 use Rattle.teg_net.specs.Walks.{walk_time}
 use Rattle.due_laws.specs.MeetingDueDates.{InputsMeet, inputs_at_zero}
 use Rattle.endless_due.specs.declared.row.EndlessRow.{EndlessRow}
@@ -64,7 +65,7 @@ module _ (net : NetLists) (ok : IsNet net) (rows : List EndlessRow) (each : IsEn
       let low : number ≤ greatest_value = due_low net g.row row (k + j + 1) (omega (arith, few, size)) in
       let dated : value_at d (k + j) ≡ At (pos number) = due.dates (k + j) ∙ due_date_is g.row (k + j) in
       let is : IsLeftAt (value_at f) (value_at d) k (residual_at f d k) = left_is f d isf due.canonical.form k in
-      let late : IsAtMostDate (At (pos 0)) (residual_at f d k) = left_late net ok rows each zeros t in' walks dues columns k i l in
+      let late : IsAtMostDate (At (pos 0)) (residual_at f d k) = left_late net (net_ends net ok) rows each zeros t in' walks dues columns k i l in
       ⊎_elim
       (λ none. subst (λ (a : Date). IsDateWithin greatest_value (left_by a f d k)) (sym none.0) tt)
       (λ one.

@@ -11,7 +11,7 @@ use Rattle.teg_settle.proofs.series_laws_proofs.Canonical.{one_canonical, canoni
 use Rattle.teg_settle.proofs.series_laws_proofs.FormValues.{value_repeats}
 use Rattle.teg_settle.specs.series_ops.declared.gains.Gain.{Gain}
 use Rattle.teg_settle.specs.series_ops.Gains.{gain_of, gain_zero}
-use Rattle.teg_net.specs.Nets.{NetLists, IsNet}
+use Rattle.teg_net.specs.Nets.{NetLists}
 use Rattle.teg_settle.proofs.teg_model_proofs.DateFunctions.{Dating}
 use Rattle.teg_settle.specs.settled_laws.SettledForms.{SettledForm, row_of, step_of_form, StandsFor}
 use Rattle.teg_settle.specs.WalkTimes.{WalkTimesSettle}
@@ -117,12 +117,12 @@ due_gain : Option EndlessRow → Gain
 due_gain None = gain_zero
 due_gain (Some r) = gain_of (list_form (listed_dates r) r.every (pos r.gap))
 
-walk_series_is : (net : NetLists) → IsNet net → (input : ℕ) (f : SettledForm) → IsTransferOf net input f → (r : EndlessRow)
+walk_series_is : (net : NetLists) (input : ℕ) (f : SettledForm) → IsTransferOf net input f → (r : EndlessRow)
     → r.transition.index < length net.transitions → IsWalkSeries net input r.transition.index (walk_gain f (Some r)).series
 unfolding walk_gain
-walk_series_is net ok input f h r l =
+walk_series_is net input f h r l =
     let t : ℕ = r.transition.index in
-    let is = list_is (row_of f t) f.period (step_of_form f t) (λ k d. IsGreatestWalkTime net input t (k + 1) d) (transfers_are_series net ok input f h t l) in
+    let is = list_is (row_of f t) f.period (step_of_form f t) (λ k d. IsGreatestWalkTime net input t (k + 1) d) (transfers_are_series net input f h t l) in
     record { canonical = is.0; times = is.1 }
 
 due_series_is : (net : NetLists) (r : EndlessRow) → IsEndlessRow net r → IsDueSeries r (due_gain (Some r)).series
@@ -132,15 +132,15 @@ due_series_is net r row =
     record { canonical = is.0; dates = is.1 }
 
 pub columns : WalkTimesSettle → ColumnsExist
-columns settle net ok live rows each input is_input =
-    let form = settle net ok live input is_input in
+columns settle net ends live rows each input is_input =
+    let form = settle net ends live input is_input in
     let f : SettledForm = form.0 in
     let row : (i : ℕ) (r : EndlessRow) → slice_get rows i ≡ Some r → IsEndlessRow net r = λ i r e. (let at = row_at rows i r e in rw (at.1 r) at (each.each i r at.0)) in (
       λ i. walk_gain f (slice_get rows i),
       λ i. due_gain (slice_get rows i),
       record {
         walk_series = λ i r e. subst (λ (o : Option EndlessRow). IsWalkSeries net input r.transition.index (walk_gain f o).series)
-            (sym e) (walk_series_is net ok input f form.1 r (row i r e).in_range);
+            (sym e) (walk_series_is net input f form.1 r (row i r e).in_range);
         due_series = λ i r e. subst (λ (o : Option EndlessRow). IsDueSeries r (due_gain o).series) (sym e) (due_series_is net r (row i r e));
       },
     )

@@ -7,24 +7,24 @@ use Rattle.std.proofs.Math.Nat.{mul-le-mul_left}
 use Rattle.teg_settle.specs.dioid.declared.dates.Date.{Date}
 use Rattle.teg_net.specs.declared.entries.PlaceId.{PlaceId}
 use Rattle.teg_net.specs.declared.entries.Place.{Place}
-use Rattle.teg_net.specs.Nets.{NetLists, IsNet}
+use Rattle.teg_net.specs.Nets.{NetLists, HasEndsInRange}
 use Rattle.teg_net.specs.Circuits.{place_at, IsPathBetween, IsLive, time_of, tokens_of}
 use Rattle.teg_settle.specs.teg_model.Datings.{IsLeastUnder, implicit_place, system_of}
 use Rattle.teg_settle.proofs.teg_model_proofs.LeastOver.{least_over}
 use Rattle.teg_settle.proofs.teg_model_proofs.LiveRanks.{live_is_ranked}
-use Rattle.teg_settle.proofs.teg_model_proofs.OfNet.{net_ends, which_place, least_of, least_of_system}
+use Rattle.teg_settle.proofs.teg_model_proofs.OfNet.{which_place, least_of, least_of_system}
 use Rattle.teg_settle.specs.teg_loops.ClosedPieces.{HasRound}
 use Rattle.teg_settle.proofs.teg_loops_proofs.Again.{round_in}
 use Rattle.teg_settle.proofs.teg_loops_proofs.Taking.{Keeps, closed_keeps}
 use Rattle.due_laws.specs.MeetingDueDates.{inputs_at_zero}
-use Rattle.bound_laws.proofs.Unrolled.{unrolled}
+use Rattle.bound_laws.proofs.Unrolled.{unrolled, ends_in}
 use Rattle.endless_due.specs.declared.row.EndlessRow.{EndlessRow}
 use Rattle.endless_due.specs.EndlessRows.{IsEndlessRow}
 use Rattle.forever_laws.specs.PacedRows.{KeepsPace, paced_bound, PacedLateIsSoon, NoRowsAreMet}
 use Rattle.forever_laws.proofs.GoingOn.{due_number, due_again}
 use Rattle.forever_laws.proofs.Late.{ReachedFrom, IsLateBefore, taken_out}
 use Rattle.forever_laws.proofs.Zeros.{least_number, reached}
-use Rattle.forever_laws.proofs.Soon.{ends_in, live_in, few_in_round, many_places, late_from, late_to}
+use Rattle.forever_laws.proofs.Soon.{live_in, few_in_round, many_places, late_from, late_to}
 
 -- ---- without its waits
 
@@ -77,10 +77,10 @@ within_turns every gap q time tokens some few h =
     (λ (not : time ≤ gap * q). not)
     (cases_lt (gap * q) time)
 
-module _ (net : NetLists) (ok : IsNet net) (live : IsLive net) (x : ℕ → ℕ → Date) (least : IsLeastUnder net inputs_at_zero x)
+module _ (net : NetLists) (ends : HasEndsInRange net) (live : IsLive net) (x : ℕ → ℕ → Date) (least : IsLeastUnder net inputs_at_zero x)
     (r : EndlessRow) (row : IsEndlessRow net r) (pace : KeepsPace net r) (most : ℕ) (some : 1 ≤ most) (few : All (λ p. p.tokens ≤ most) net.places) where
   abbrev z : ℕ → ℕ → ℕ
-  z = least_number net ok live x least
+  z = least_number net ends live x least
 
   -- a closed path of the net with its implicit places
   flat : (round way : List PlaceId) (s q : ℕ) → IsPathBetween (unrolled net) s round s → IsPathBetween (unrolled net) s way r.transition.index → tokens_of (unrolled net) round ≡ q * r.every
@@ -102,11 +102,11 @@ module _ (net : NetLists) (ok : IsNet net) (live : IsLive net) (x : ℕ → ℕ 
       let n : ℕ = length net.transitions in
       let t : ℕ = r.transition.index in
       let every : ℕ = r.every in
-      let w : ReachedFrom e n most z t k = reached net ok live x least most some few t k row.in_range (omega arith) in
+      let w : ReachedFrom e n most z t k = reached net ends live x least most some few t k row.in_range (omega arith) in
       let number = w.number_is in
       let early = w.early in
       let many : n * every ≤ length w.walk = many_places net most every some few w.walk w.from t w.leads (omega arith) in
-      let h : HasRound e w.from t every (n * every) w.walk = round_in e n every w.walk w.from t (ends_in net ok) row.in_range w.leads row.goes_on.some many in
+      let h : HasRound e w.from t every (n * every) w.walk = round_in e n every w.walk w.from t (ends_in net ends) row.in_range w.leads row.goes_on.some many in
       let own : Keeps e 0 0 h.round = closed_keeps e 0 0 (λ ps c. record { some = live_in net live ps c; ratio = omega arith }) h.round h.at h.closed h.some in
       let soon = h.early in
       let low : tokens_of e h.round ≤ every * (n * most) = few_in_round net most every some few h.round h.at h.at h.closed (omega arith) in
@@ -125,16 +125,15 @@ module _ (net : NetLists) (ok : IsNet net) (live : IsLive net) (x : ℕ → ℕ 
       (cases_lt (paced_bound net most r) k)
 
 pub paced_late_is_soon : PacedLateIsSoon
-paced_late_is_soon net ok live x least r row pace most some few none k due date late =
-    let here = late_to net ok live x least r k due date late in
-    let soon = soon_late net ok live x least r row pace most some few (suc k) k (omega arith) late.from_one here in
-    none soon.0 (due_number r soon.0) (least_number net ok live x least r.transition.index soon.0) soon.2 (late_from net ok live x least r row soon.0 soon.1 soon.3)
+paced_late_is_soon net ends live x least r row pace most some few none k due date late =
+    let here = late_to net ends live x least r k due date late in
+    let soon = soon_late net ends live x least r row pace most some few (suc k) k (omega arith) late.from_one here in
+    none soon.0 (due_number r soon.0) (least_number net ends live x least r.transition.index soon.0) soon.2 (late_from net ends live x least r row soon.0 soon.1 soon.3)
 
 -- ---- no rows
 
 pub no_rows_are_met : NoRowsAreMet
-no_rows_are_met net ok live =
-    let ends = net_ends net ok in
+no_rows_are_met net ends live =
     let ranked = live_is_ranked net ends live in
     let least = least_of net inputs_at_zero ranked.0 ranked.1 ranked.2 in
     let x : ℕ → ℕ → Date = least_over (system_of net inputs_at_zero) ranked.0 ranked.1 in

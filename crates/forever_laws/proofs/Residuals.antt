@@ -21,10 +21,9 @@ use Rattle.teg_settle.proofs.series_laws_proofs.StarParts.{from_left}
 use Rattle.teg_settle.proofs.series_laws_proofs.Sums.{form_least_is, form_least_values}
 use Rattle.teg_settle.specs.series_ops.declared.gains.Gain.{Gain}
 use Rattle.teg_net.specs.declared.walks.Step.{Step}
-use Rattle.teg_net.specs.Nets.{NetLists, IsNet}
+use Rattle.teg_net.specs.Nets.{NetLists, HasEndsInRange}
 use Rattle.teg_net.specs.Walks.{Walks, walk_time}
 use Rattle.teg_settle.specs.teg_model.Datings.{as_date}
-use Rattle.teg_settle.proofs.teg_model_proofs.OfNet.{net_ends}
 use Rattle.teg_settle.proofs.teg_model_proofs.Tokens.{not_before_zero}
 use Rattle.teg_settle.proofs.teg_model_proofs.WalkSteps.{walk_below}
 use Rattle.teg_settle.proofs.teg_model_proofs.DateFunctions.{Dating}
@@ -145,7 +144,7 @@ left_of_numbers time due = ap At (omega (arith, ints))
 left_from_zero : (time due : ℕ) → time ≤ due → IsAtMostDate (At (pos 0)) (date_left (At (pos time)) (At (pos due)))
 left_from_zero time due l = omega (arith, ints)
 
-module _ (net : NetLists) (ok : IsNet net) (rows : List EndlessRow) (each : IsEndlessOf net rows) (zeros : InputsMeet net (due_on rows) inputs_at_zero) (t : ℕ) (in' : t < length net.transitions)
+module _ (net : NetLists) (ends : HasEndsInRange net) (rows : List EndlessRow) (each : IsEndlessOf net rows) (zeros : InputsMeet net (due_on rows) inputs_at_zero) (t : ℕ) (in' : t < length net.transitions)
     (walks dues : ℕ → Gain) (columns : AreSeriesColumns net t rows walks dues) (k : ℕ) where
   -- the residual at an offset: never, or a date to a due firing, from 0 on
   one_left : (i j : ℕ) → i < length rows → (let d : Date =
@@ -170,10 +169,10 @@ module _ (net : NetLists) (ok : IsNet net) (rows : List EndlessRow) (each : IsEn
       let is_due : due_on rows g.row.transition.index (k + j + 1) ≡ Some due = due_at_row net rows each i l g (k + j + 1) in
       let x : Dating = zeros.0 in
       let feasible = zeros.1.feasible in
-      let end = walk_ends_in net (net_ends net ok) steps t (k + 1) g.row.transition.index (k + j + 1) in' (omega arith) walk in
+      let end = walk_ends_in net ends steps t (k + 1) g.row.transition.index (k + j + 1) in' (omega arith) walk in
       let first : IsAtMostDate (At (pos 0)) (x t (k + 1)) = not_before_zero net inputs_at_zero x feasible t (k + 1) in' (omega arith) in
       let along : IsAtMostDate (delayed n (x t (k + 1))) (x g.row.transition.index (k + j + 1)) =
-      walk_below net x (net_ends net ok) (feasible_keeps net inputs_at_zero x feasible) steps t (k + 1) g.row.transition.index
+      walk_below net x ends (feasible_keeps net inputs_at_zero x feasible) steps t (k + 1) g.row.transition.index
       (k + j + 1) in' (omega arith) walk in
       let kept : IsAtMostDate (x g.row.transition.index (k + j + 1)) (At (pos due)) = zeros.2 g.row.transition.index (k + j + 1) due end.0 end.1 is_due in
       let late : IsAtMostDate (delayed n (At (pos 0))) (At (pos due)) =
@@ -249,15 +248,15 @@ module _ (net : NetLists) (ok : IsNet net) (rows : List EndlessRow) (each : IsEn
       }
 
 pub residuals_are_latest : ResidualsAreLatestDates
-residuals_are_latest net ok live rows each some zeros t in' walks dues columns k = latest_is net ok rows each zeros t in' walks dues columns k some
+residuals_are_latest net ends live rows each some zeros t in' walks dues columns k = latest_is net ends rows each zeros t in' walks dues columns k some
 
 pub free_or_numbers : ResidualsAreFreeOrNumbers
-free_or_numbers net ok live rows each some zeros t in' walks dues columns =
+free_or_numbers net ends live rows each some zeros t in' walks dues columns =
     let s : ℕ → Date = value_at (residual_over (length rows) walks dues).series in
-    let latest : (k : ℕ) → IsLatestDate net (due_on rows) t (k + 1) (s k) = λ k. latest_is net ok rows each zeros t in' walks dues columns k some in
+    let latest : (k : ℕ) → IsLatestDate net (due_on rows) t (k + 1) (s k) = λ k. latest_is net ends rows each zeros t in' walks dues columns k some in
     let never_by : (j k : ℕ) → s j ≡ Never → s k ≡ Never =
     λ j k e. (free_without_walks net (due_on rows) t (k + 1) (s k) (latest k)).1
     (free_at_each net rows each t (j + 1) (k + 1) (omega arith) (omega arith) ((free_without_walks net (due_on rows) t (j + 1) (s j) (latest j)).0 e)) in (
       λ e. (λ k. never_by 0 k e, λ k one. free_at_each net rows each t (0 + 1) k (omega arith) one ((free_without_walks net (due_on rows) t (0 + 1) (s 0) (latest 0)).0 e)),
-      λ ne k. latest_from_zero net ok (due_on rows) zeros t (k + 1) (s k) in' (omega arith) (latest k) (λ e. ne (never_by k 0 e)),
+      λ ne k. latest_from_zero net ends (due_on rows) zeros t (k + 1) (s k) in' (omega arith) (latest k) (λ e. ne (never_by k 0 e)),
     )

@@ -64,7 +64,7 @@ walks_climb net input t k d e h m =
     h.reached
 
 pub transfers_are_series : TransfersAreSeries
-transfers_are_series net ok input f h t l =
+transfers_are_series net input f h t l =
     let x : ℕ → ℕ → Date = h.0 in
     let times : AreWalkTimes net input x = h.1 in
     let stands : StandsFor (length net.transitions) f x = h.2.stands in

@@ -9,16 +9,15 @@ use Rattle.teg_settle.specs.dioid.declared.dates.Date.{Date}
 use Rattle.teg_settle.specs.dioid.declared.dates.Date.TheVariants.{At}
 use Rattle.teg_net.specs.declared.entries.PlaceId.{PlaceId}
 use Rattle.teg_net.specs.Limits.{most_place_tokens, greatest_hold, greatest_input_date}
-use Rattle.teg_net.specs.Nets.{NetLists, IsNet}
+use Rattle.teg_net.specs.Nets.{NetLists, IsNet, HasEndsInRange}
 use Rattle.teg_net.specs.Circuits.{no_place, place_at, IsPathBetween, IsCircuit, IsLive, time_of, tokens_of}
 use Rattle.teg_settle.specs.teg_model.Datings.{IsLeastUnder, extended_places}
 use Rattle.teg_settle.proofs.teg_model_proofs.OfNet.{net_ends, all_extended_in}
 use Rattle.teg_settle.proofs.teg_model_proofs.LiveRanks.{live_ranks}
 use Rattle.teg_settle.proofs.teg_model_proofs.Within.{AreWithin, least_within}
 use Rattle.due_laws.specs.MeetingDueDates.{inputs_at_zero}
-use Rattle.bound_laws.proofs.Unrolled.{unrolled, same_sums, IsWait, kinds}
+use Rattle.bound_laws.proofs.Unrolled.{unrolled, ends_in, same_sums, IsWait, kinds}
 use Rattle.bound_laws.proofs.WalkTimes.{number_of}
-use Rattle.teg_settle.specs.teg_loops.Loops.{EndsBelow}
 use Rattle.teg_settle.proofs.teg_loops_proofs.Taking.{sum_most}
 use Rattle.endless_due.specs.declared.row.EndlessRow.{EndlessRow}
 use Rattle.endless_due.specs.EndlessRows.{IsEndlessRow}
@@ -30,21 +29,18 @@ use Rattle.forever_laws.proofs.Zeros.{least_number, date_is, path_most, reached}
 
 -- ---- the setting of a net
 
-pub ends_in : (net : NetLists) → IsNet net → EndsBelow (unrolled net) (length net.transitions)
-ends_in net ok = record {
-  from_in = λ id l. all_extended_in net (λ p. p.from.index < length net.transitions) (λ i d m. (ok.each_place i d m).from_in) (λ t m. m) id.index no_place l;
-  to_in = λ id l. all_extended_in net (λ p. p.to.index < length net.transitions) (λ i d m. (ok.each_place i d m).to_in) (λ t m. m) id.index no_place l;
-}
-
 marks_in : (net : NetLists) (most : ℕ) → 1 ≤ most → All (λ p. p.tokens ≤ most) net.places → (id : PlaceId) → id.index < length (extended_places net) → (place_at (unrolled net) id).tokens ≤ most
 marks_in net most some all id l = all_extended_in net (λ p. p.tokens ≤ most) all (λ t m. some) id.index no_place l
 
--- the limit of every net
+holds_in : (net : NetLists) (hold : ℕ) → All (λ p. p.hold ≤ hold) net.places → (id : PlaceId) → id.index < length (extended_places net) → (place_at (unrolled net) id).hold ≤ hold
+holds_in net hold all id l = all_extended_in net (λ p. p.hold ≤ hold) all (λ t m. omega arith) id.index no_place l
+
+-- the limits of every net
 marks_low : (net : NetLists) → IsNet net → All (λ p. p.tokens ≤ most_place_tokens) net.places
 marks_low net ok i d l = (ok.each_place i d l).tokens_in
 
-holds_in : (net : NetLists) → IsNet net → (id : PlaceId) → id.index < length (extended_places net) → (place_at (unrolled net) id).hold ≤ greatest_hold
-holds_in net ok id l = all_extended_in net (λ p. p.hold ≤ greatest_hold) (λ i d m. (ok.each_place i d m).hold_in) (λ t m. omega arith) id.index no_place l
+holds_low : (net : NetLists) → IsNet net → All (λ p. p.hold ≤ greatest_hold) net.places
+holds_low net ok i d l = (ok.each_place i d l).hold_in
 
 -- with its implicit places the net is still live
 pub live_in : (net : NetLists) → IsLive net → (ps : List PlaceId) → IsCircuit (unrolled net) ps → 1 ≤ tokens_of (unrolled net) ps
@@ -84,26 +80,29 @@ many_places net most every some all ps s t h far =
     (λ (more : n * every ≤ length ps). more)
     (cases_lt (length ps) (n * every))
 
-little_time : (net : NetLists) → IsNet net → (ps : List PlaceId) (s t m : ℕ) → IsPathBetween (unrolled net) s ps t → length ps ≤ m → time_of (unrolled net) ps ≤ m * greatest_hold
-little_time net ok ps s t m h l =
-    let one = sum_most (λ p. (place_at (unrolled net) p).hold) greatest_hold (unrolled net) (holds_in net ok) ps s t h in
+little_time : (net : NetLists) (hold : ℕ) → All (λ p. p.hold ≤ hold) net.places → (ps : List PlaceId) (s t m : ℕ) → IsPathBetween (unrolled net) s ps t → length ps ≤ m → time_of (unrolled net) ps ≤ m * hold
+little_time net hold all ps s t m h l =
+    let one = sum_most (λ p. (place_at (unrolled net) p).hold) hold (unrolled net) (holds_in net hold all) ps s t h in
+    let more : length ps * hold ≤ m * hold = mul-le-mul_right {m = length ps} {n = m} hold l in
     omega arith
 
-pub setting : (net : NetLists) (ok : IsNet net) (live : IsLive net) (x : ℕ → ℕ → Date) (least : IsLeastUnder net inputs_at_zero x) (r : EndlessRow) → IsEndlessRow net r
-    → LateSetting (unrolled net) (length net.transitions) (length net.transitions * most_place_tokens) (length net.transitions * most_place_tokens) (length net.transitions * r.every * greatest_hold)
-    most_place_tokens r.every greatest_input_date r.gap (length r.dates) (least_number net ok live x least) (due_number r)
-setting net ok live x least r row =
+-- where no place has a longer hold, or more tokens
+pub setting : (net : NetLists) (ends : HasEndsInRange net) (live : IsLive net) (x : ℕ → ℕ → Date) (least : IsLeastUnder net inputs_at_zero x) (r : EndlessRow) → IsEndlessRow net r
+    → (hold most : ℕ) → 1 ≤ most → All (λ p. p.hold ≤ hold) net.places → All (λ p. p.tokens ≤ most) net.places
+    → LateSetting (unrolled net) (length net.transitions) (length net.transitions * most) (length net.transitions * most) (length net.transitions * r.every * hold)
+    most r.every greatest_input_date r.gap (length r.dates) (least_number net ends live x least) (due_number r)
+setting net ends live x least r row hold most some holds marks =
     let n : ℕ = length net.transitions in
     record {
-      ends = ends_in net ok;
+      ends = ends_in net ends;
       live = live_in net live;
-      short_tokens = λ ps s t h l. few_tokens net most_place_tokens (omega arith) (marks_low net ok) ps s t n h (omega arith);
-      piece_tokens = λ ps s t h l. few_in_round net most_place_tokens r.every (omega arith) (marks_low net ok) ps s t h l;
-      piece_time = λ ps s t h l. little_time net ok ps s t (n * r.every) h l;
-      long = λ ps s t h far. many_places net most_place_tokens r.every (omega arith) (marks_low net ok) ps s t h far;
+      short_tokens = λ ps s t h l. few_tokens net most some marks ps s t n h (omega arith);
+      piece_tokens = λ ps s t h l. few_in_round net most r.every some marks ps s t h l;
+      piece_time = λ ps s t h l. little_time net hold holds ps s t (n * r.every) h l;
+      long = λ ps s t h far. many_places net most r.every some marks ps s t h far;
       every_some = row.goes_on.some;
-      reached = reached net ok live x least most_place_tokens (omega arith) (marks_low net ok);
-      first = λ j t ps lj lt h. (let most = path_most net ok live x least t j 1 ps lt lj (omega arith) h in omega arith);
+      reached = reached net ends live x least most some marks;
+      first = λ j t ps lj lt h. (let up = path_most net ends live x least t j 1 ps lt lj (omega arith) h in omega arith);
       again = due_again net r row;
       slow = due_slow net r row;
     }
@@ -152,29 +151,29 @@ least_to z d (suc m) = ⊎_elim
       more none kept i one l = ⊎_elim (λ (less : i < suc m). none i one (omega arith)) (λ (high : suc m ≤ i). let is : i ≡ suc m = omega arith in rw is kept) (cases_lt i (suc m))
 
 -- late numbers by numbers
-pub late_from : (net : NetLists) (ok : IsNet net) (live : IsLive net) (x : ℕ → ℕ → Date) (least : IsLeastUnder net inputs_at_zero x) (r : EndlessRow) → IsEndlessRow net r
-    → (k : ℕ) → 1 ≤ k → due_number r k < least_number net ok live x least r.transition.index k → IsLateAt x r k (due_number r k) (least_number net ok live x least r.transition.index k)
-late_from net ok live x least r row k one late = record { from_one = one; is_due = due_is r k; comes = date_is net ok live x least r.transition.index k row.in_range one; late = late }
+pub late_from : (net : NetLists) (ends : HasEndsInRange net) (live : IsLive net) (x : ℕ → ℕ → Date) (least : IsLeastUnder net inputs_at_zero x) (r : EndlessRow) → IsEndlessRow net r
+    → (k : ℕ) → 1 ≤ k → due_number r k < least_number net ends live x least r.transition.index k → IsLateAt x r k (due_number r k) (least_number net ends live x least r.transition.index k)
+late_from net ends live x least r row k one late = record { from_one = one; is_due = due_is r k; comes = date_is net ends live x least r.transition.index k row.in_range one; late = late }
 
-pub late_to : (net : NetLists) (ok : IsNet net) (live : IsLive net) (x : ℕ → ℕ → Date) (least : IsLeastUnder net inputs_at_zero x) (r : EndlessRow)
-    → (k due date : ℕ) → IsLateAt x r k due date → due_number r k < least_number net ok live x least r.transition.index k
-late_to net ok live x least r k due date h =
+pub late_to : (net : NetLists) (ends : HasEndsInRange net) (live : IsLive net) (x : ℕ → ℕ → Date) (least : IsLeastUnder net inputs_at_zero x) (r : EndlessRow)
+    → (k due date : ℕ) → IsLateAt x r k due date → due_number r k < least_number net ends live x least r.transition.index k
+late_to net ends live x least r k due date h =
     let one = due_only r k due h.is_due in
     let two : date ≡ number_of (x r.transition.index k) = ap number_of (sym h.comes) in
     let late = h.late in
     omega arith
 
 pub have_least : LateNumbersHaveLeast
-have_least net ok live x least r row k due date h =
-    let z : ℕ → ℕ = least_number net ok live x least r.transition.index in
-    let late = late_to net ok live x least r k due date h in
+have_least net ends live x least r row k due date h =
+    let z : ℕ → ℕ = least_number net ends live x least r.transition.index in
+    let late = late_to net ends live x least r k due date h in
     ⊎_elim
     (λ none. let not = none k h.from_one (omega arith) in absurd (omega arith))
     (λ (f : IsLeastIn z (due_number r)). (
       f.number,
       due_number r f.number,
       z f.number,
-      record { late = late_from net ok live x least r row f.number f.some f.late; first = λ j d y l. f.first j l.from_one (late_to net ok live x least r j d y l) },
+      record { late = late_from net ends live x least r row f.number f.some f.late; first = λ j d y l. f.first j l.from_one (late_to net ends live x least r j d y l) },
     ))
     (least_to z (due_number r) k)
 
@@ -201,13 +200,14 @@ pub late_is_soon : LateIsSoon
 late_is_soon net ok live x least r row k due date h =
     let t : ℕ = r.transition.index in
     let n : ℕ = length net.transitions in
-    let late = late_to net ok live x least r k due date h.late in
+    let ends = net_ends net ok in
+    let late = late_to net ends live x least r k due date h.late in
     let soon = late_soon (unrolled net) n (n * most_place_tokens) (n * most_place_tokens)
-    (n * r.every * greatest_hold) most_place_tokens r.every greatest_input_date r.gap (length r.dates) (least_number net ok live x least) (due_number r)
-    (setting net ok live x least r row) t k row.in_range h.late.from_one late in
+    (n * r.every * greatest_hold) most_place_tokens r.every greatest_input_date r.gap (length r.dates) (least_number net ends live x least) (due_number r)
+    (setting net ends live x least r row greatest_hold most_place_tokens (omega arith) (holds_low net ok) (marks_low net ok)) t k row.in_range h.late.from_one late in
     let within = soon.within in
     let low = bound_low n r.every (length r.dates) ok.few_transitions row.goes_on.every_in row.few in
-    let first = h.first soon.number (due_number r soon.number) (least_number net ok live x least t soon.number) (late_from net ok live x least r row soon.number soon.some soon.late) in
+    let first = h.first soon.number (due_number r soon.number) (least_number net ends live x least t soon.number) (late_from net ends live x least r row soon.number soon.some soon.late) in
     let few : k < late_number_bound = omega arith in
     let small = date_low net ok live x least t k date row.in_range h.late.from_one few h.late.comes in
     let less = h.late.late in

@@ -7,7 +7,7 @@ use Rattle.teg_settle.specs.dioid.declared.dates.Date.{Date}
 use Rattle.teg_settle.specs.dioid.declared.dates.Date.TheVariants.{At}
 use Rattle.teg_settle.specs.dioid.Dates.{IsAtMostDate, move}
 use Rattle.teg_settle.proofs.dioid_proofs.Moves.{at_inj}
-use Rattle.teg_net.specs.Nets.{NetLists, IsNet}
+use Rattle.teg_net.specs.Nets.{NetLists, HasEndsInRange}
 use Rattle.teg_net.specs.Circuits.{IsLive}
 use Rattle.teg_settle.specs.teg_model.Datings.{IsLeastUnder}
 use Rattle.teg_settle.proofs.teg_model_proofs.Tokens.{dates_climb}
@@ -27,16 +27,16 @@ use Rattle.forever_laws.proofs.Soon.{late_from, late_to}
 moved : (z rise : ℕ) → number_of (move (pos rise) (At (pos z))) ≡ z + rise
 moved z rise = refl
 
-module _ (net : NetLists) (ok : IsNet net) (live : IsLive net) (x : ℕ → ℕ → Date) (least : IsLeastUnder net inputs_at_zero x)
+module _ (net : NetLists) (ends : HasEndsInRange net) (live : IsLive net) (x : ℕ → ℕ → Date) (least : IsLeastUnder net inputs_at_zero x)
     (r : EndlessRow) (row : IsEndlessRow net r) (past turn rise fall : ℕ) (s : IsCommonPeriodOf x r past turn rise fall) where
   abbrev z : ℕ → ℕ
-  z k = least_number net ok live x least r.transition.index k
+  z k = least_number net ends live x least r.transition.index k
 
   goes_on : GoOn z (due_number r) past turn rise fall
   goes_on = record {
     some = s.some;
     dates = λ k l. (
-        let here : x r.transition.index k ≡ At (pos (z k)) = date_is net ok live x least r.transition.index k row.in_range (omega arith) in
+        let here : x r.transition.index k ≡ At (pos (z k)) = date_is net ends live x least r.transition.index k row.in_range (omega arith) in
         ap number_of (s.dates_rise k l ∙ ap (move (pos rise)) here) ∙ moved (z k) rise
         );
     dues = λ k l. (
@@ -49,21 +49,21 @@ module _ (net : NetLists) (ok : IsNet net) (live : IsLive net) (x : ℕ → ℕ 
   kept : NoneLateTo x r (past + turn) → (k : ℕ) → 1 ≤ k → k ≤ past + turn → z k ≤ due_number r k
   kept none k one l =
       ⊎_elim
-      (λ (late : due_number r k < z k). absurd (none k (due_number r k) (z k) l (late_from net ok live x least r row k one late)))
+      (λ (late : due_number r k < z k). absurd (none k (due_number r k) (z k) l (late_from net ends live x least r row k one late)))
       (λ (not : z k ≤ due_number r k). not)
       (cases_lt (due_number r k) (z k))
 
   pub none_at_all : NoneLateTo x r (past + turn) → rise ≤ fall → NoneLate x r
   none_at_all none slow k due date late =
       let never = never_late z (due_number r) past turn rise fall goes_on (kept none) slow k late.from_one in
-      let here = late_to net ok live x least r k due date late in
+      let here = late_to net ends live x least r k due date late in
       absurd (omega arith)
 
   fewest : (gain base : ℕ) → IsSoonest x r past (past + turn) gain base (due_number r base) (z base) → IsFewest z (due_number r) past turn gain base
   fewest gain base h = record {
     above = h.above;
     within = h.within;
-    fewest = λ k l m. h.soonest k (due_number r k) (z k) l m (due_is r k) (date_is net ok live x least r.transition.index k row.in_range (omega arith));
+    fewest = λ k l m. h.soonest k (due_number r k) (z k) l m (due_is r k) (date_is net ends live x least r.transition.index k row.in_range (omega arith));
   }
 
   least_of : (gain base : ℕ) → NoneLateTo x r (past + turn) → 0 < gain → rise ≡ fall + gain → IsSoonest x r past (past + turn) gain base (due_number r base) (z base)
@@ -75,10 +75,10 @@ module _ (net : NetLists) (ok : IsNet net) (live : IsLive net) (x : ℕ → ℕ 
       let dates : z (base + turns * turn) ≡ z base + turns * rise = on_by z past turn rise goes_on.dates turns base above in
       let dues : due_number r (base + turns * turn) ≡ due_number r base + turns * fall = on_by (due_number r) past turn fall goes_on.dues turns base above in
       let late : IsLateAt x r (base + turns * turn) (due_number r (base + turns * turn)) (z (base + turns * turn)) =
-      late_from net ok live x least r row (base + turns * turn) (omega arith) first.late in
+      late_from net ends live x least r row (base + turns * turn) (omega arith) first.late in
       record {
         late = subst (λ n. IsLateAt x r (base + turns * turn) n (z base + turns * rise)) dues (subst (IsLateAt x r (base + turns * turn) (due_number r (base + turns * turn))) dates late);
-        first = λ j d y l. first.first j l.from_one (late_to net ok live x least r j d y l);
+        first = λ j d y l. first.first j l.from_one (late_to net ends live x least r j d y l);
       }
 
   pub least_late : (gain base due date : ℕ) → NoneLateTo x r (past + turn) → 0 < gain → rise ≡ fall + gain → IsSoonest x r past (past + turn) gain base due date
@@ -94,23 +94,23 @@ module _ (net : NetLists) (ok : IsNet net) (live : IsLive net) (x : ℕ → ℕ 
       (least_of gain base none some e own))
 
 pub turns_tell : TurnsTellLate
-turns_tell net ok live x least r row past turn rise fall s none = (
-  none_at_all net ok live x least r row past turn rise fall s none,
-  λ gain base due date some e h. least_late net ok live x least r row past turn rise fall s gain base due date none some e h,
+turns_tell net ends live x least r row past turn rise fall s none = (
+  none_at_all net ends live x least r row past turn rise fall s none,
+  λ gain base due date some e h. least_late net ends live x least r row past turn rise fall s gain base due date none some e h,
 )
 
 -- ---- steps
 
-rises_on : (net : NetLists) (ok : IsNet net) (live : IsLive net) (x : ℕ → ℕ → Date) (least : IsLeastUnder net inputs_at_zero x) (t k m : ℕ) → t < length net.transitions → 1 ≤ k
-    → least_number net ok live x least t k ≤ least_number net ok live x least t (k + m)
-rises_on net ok live x least t k zero l one = let e : k + 0 ≡ k = omega arith in rw e (omega arith)
-rises_on net ok live x least t k (suc m) l one =
+rises_on : (net : NetLists) (ends : HasEndsInRange net) (live : IsLive net) (x : ℕ → ℕ → Date) (least : IsLeastUnder net inputs_at_zero x) (t k m : ℕ) → t < length net.transitions → 1 ≤ k
+    → least_number net ends live x least t k ≤ least_number net ends live x least t (k + m)
+rises_on net ends live x least t k zero l one = let e : k + 0 ≡ k = omega arith in rw e (omega arith)
+rises_on net ends live x least t k (suc m) l one =
     let e : k + suc m ≡ k + m + 1 = omega arith in
-    let old = rises_on net ok live x least t k m l one in
-    let here = date_is net ok live x least t (k + m) l (omega arith) in
-    let there = date_is net ok live x least t (k + m + 1) l (omega arith) in
-    let next = at_most_numbers (least_number net ok live x least t (k + m)) (least_number net ok live x least t (k + m + 1))
-    (subst (λ d. IsAtMostDate (At (pos (least_number net ok live x least t (k + m)))) d) there
+    let old = rises_on net ends live x least t k m l one in
+    let here = date_is net ends live x least t (k + m) l (omega arith) in
+    let there = date_is net ends live x least t (k + m + 1) l (omega arith) in
+    let next = at_most_numbers (least_number net ends live x least t (k + m)) (least_number net ends live x least t (k + m + 1))
+    (subst (λ d. IsAtMostDate (At (pos (least_number net ends live x least t (k + m)))) d) there
     (subst (λ d. IsAtMostDate d (x t (k + m + 1))) here (dates_climb net inputs_at_zero x least.feasible t (k + m) l (omega arith)))) in
     rw e (omega arith)
 
@@ -118,12 +118,12 @@ step_between : (a b : ℕ) (s : ℤ) → a ≤ b → At (pos b) ≡ move s (At (
 step_between a b s l e = let same : pos b ≡ pos a +ℤ s = at_inj (pos b) (pos a +ℤ s) e in omega (arith, ints)
 
 pub steps_from_zero : StepsAreFromZero
-steps_from_zero net ok live x least f stands t l =
-    let z : ℕ → ℕ = least_number net ok live x least t in
+steps_from_zero net ends live x least f stands t l =
+    let z : ℕ → ℕ = least_number net ends live x least t in
     let k : ℕ = f.after + 1 in
-    let here = date_is net ok live x least t k l (omega arith) in
-    let there = date_is net ok live x least t (k + f.period) l (omega arith) in
+    let here = date_is net ends live x least t k l (omega arith) in
+    let there = date_is net ends live x least t (k + f.period) l (omega arith) in
     let again = stands.repeats.again t k l (omega arith) in (
       z (k + f.period) - z k,
-      step_between (z k) (z (k + f.period)) (step_of_form f t) (rises_on net ok live x least t k f.period l (omega arith)) (sym there ∙ (again ∙ ap (move (step_of_form f t)) here)),
+      step_between (z k) (z (k + f.period)) (step_of_form f t) (rises_on net ends live x least t k f.period l (omega arith)) (sym there ∙ (again ∙ ap (move (step_of_form f t)) here)),
     )

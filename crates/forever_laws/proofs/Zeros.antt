@@ -10,7 +10,7 @@ use Rattle.teg_settle.specs.dioid.Dates.{IsAtMostDate, delayed, later_of}
 use Rattle.teg_settle.proofs.dioid_proofs.DateOrder.{later_is_left}
 use Rattle.teg_net.specs.declared.entries.PlaceId.{PlaceId}
 use Rattle.teg_net.specs.declared.entries.Place.{Place}
-use Rattle.teg_net.specs.Nets.{NetLists, IsNet, IsInput}
+use Rattle.teg_net.specs.Nets.{NetLists, HasEndsInRange, IsInput}
 use Rattle.teg_net.specs.Circuits.{place_at, IsPathBetween, IsLive, time_of, tokens_of}
 use Rattle.teg_net.specs.Walks.{Walks, walk_time}
 use Rattle.teg_net.specs.ReadyDates.{ready_date, start_date}
@@ -19,7 +19,7 @@ use Rattle.teg_net.proofs.PathLaws.{IsPathBetween-append}
 use Rattle.teg_settle.specs.teg_model.Datings.{IsLeastUnder, at_input}
 use Rattle.teg_settle.specs.teg_model.Starts.{start_of_firing}
 use Rattle.teg_settle.specs.teg_model.WalkDates.{IsDateOfWalk, IsGreatestOfWalks}
-use Rattle.teg_settle.proofs.teg_model_proofs.OfNet.{input_or_not, net_ends}
+use Rattle.teg_settle.proofs.teg_model_proofs.OfNet.{input_or_not}
 use Rattle.teg_settle.proofs.teg_model_proofs.GreatestWalks.{least_is_walk}
 use Rattle.teg_settle.proofs.teg_model_proofs.LiveRanks.{live_ranks}
 use Rattle.due_laws.specs.MeetingDueDates.{inputs_at_zero}
@@ -44,10 +44,9 @@ at_later s h = ap At (omega (arith, ints))
 pub at_most_numbers : (h k : ℕ) → IsAtMostDate (At (pos h)) (At (pos k)) → h ≤ k
 at_most_numbers h k l = omega (arith, ints, l)
 
-module _ (net : NetLists) (ok : IsNet net) (live : IsLive net) (x : ℕ → ℕ → Date) (least : IsLeastUnder net inputs_at_zero x) where
+module _ (net : NetLists) (ends : HasEndsInRange net) (live : IsLive net) (x : ℕ → ℕ → Date) (least : IsLeastUnder net inputs_at_zero x) where
   walks : (t k : ℕ) → t < length net.transitions → 1 ≤ k → IsGreatestOfWalks net inputs_at_zero t k (x t k)
   walks t k l o =
-      let ends = net_ends net ok in
       let ranks = live_ranks net ends live in
       least_is_walk net inputs_at_zero x (suc (suc (length net.transitions))) ranks.0 ends ranks.1 least t k l o
 
@@ -108,7 +107,7 @@ module _ (net : NetLists) (ok : IsNet net) (live : IsLive net) (x : ℕ → ℕ 
       → ReachedFrom (unrolled net) (length net.transitions) most least_number t k
   reached most some all t k l o =
       let w : IsDateOfWalk net inputs_at_zero t k (x t k) = (walks t k l o).reached in
-      let path : Pathed net w.from t w.number k w.steps = pathed net ok w.steps w.from w.number t k w.from_in w.walk in
+      let path : Pathed net w.from t w.number k w.steps = pathed net ends w.steps w.from w.number t k w.from_in w.walk in
       let e : least_number t k ≡ start_date net w.from w.number + walk_time net w.steps = ap number_of (walk_is t k w) in
       let time = path.time in
       let number = path.number in

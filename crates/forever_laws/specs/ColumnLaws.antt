@@ -2,7 +2,7 @@
 use Rattle.std.specs.Prelude.{ℕ, ◌<◌, ◌≡◌, List, length}
 use Rattle.teg_settle.specs.dioid_matrix.Residuals.{RowFits}
 use Rattle.teg_settle.specs.series_ops.declared.gains.Gain.{Gain}
-use Rattle.teg_net.specs.Nets.{NetLists, IsNet, IsInput}
+use Rattle.teg_net.specs.Nets.{NetLists, HasEndsInRange, IsInput}
 use Rattle.teg_net.specs.Circuits.{IsLive}
 use Rattle.teg_settle.specs.settled_laws.SettledForms.{SettledForm, settled_length}
 use Rattle.teg_settle.specs.Transfers.{IsTransferOf, TransferSettlesPast}
@@ -13,7 +13,7 @@ use Rattle.forever_laws.specs.SeriesColumns.{AreSeriesColumns, gain_residuals}
 
 -- in a live net each input has columns
 abbrev pub ColumnsExist : Type 0
-ColumnsExist = (net : NetLists) → IsNet net → IsLive net → (rows : List EndlessRow) → IsEndlessOf net rows → (input : ℕ) → IsInput net input
+ColumnsExist = (net : NetLists) → HasEndsInRange net → IsLive net → (rows : List EndlessRow) → IsEndlessOf net rows → (input : ℕ) → IsInput net input
     → (walks : ℕ → Gain) × (dues : ℕ → Gain) × AreSeriesColumns net input rows walks dues
 
 -- two columns are one, row by row

@@ -5,7 +5,7 @@ use Rattle.teg_settle.specs.dioid.declared.dates.Date.TheVariants.{At, Never}
 use Rattle.teg_settle.specs.series_laws.SeriesForms.{Form, value_at}
 use Rattle.teg_settle.specs.series_form.NumberBounds.{IsSeries}
 use Rattle.teg_settle.specs.series_ops.declared.gains.Gain.{Gain}
-use Rattle.teg_net.specs.Nets.{NetLists, IsNet, IsInput, without_inputs}
+use Rattle.teg_net.specs.Nets.{NetLists, IsNet, HasEndsInRange, IsInput, without_inputs}
 use Rattle.teg_net.specs.Circuits.{IsLive}
 use Rattle.teg_settle.specs.teg_model.Datings.{IsLeastUnder, IsLeastDating}
 use Rattle.teg_settle.specs.settled_laws.SettledForms.{SettledForm, StandsFor, row_of, step_of_form, settled_length}
@@ -34,13 +34,13 @@ ZeroInputsAreNoLists = (net : NetLists) (x : ℕ → ℕ → Date) → IsLeastDa
 
 -- inputs at 0 meet the due dates exactly where no number of any row is late
 abbrev pub ZeroMeetsWhereNoneLate : Type 0
-ZeroMeetsWhereNoneLate = (net : NetLists) → IsNet net → IsLive net → (rows : List EndlessRow) → IsEndlessOf net rows
+ZeroMeetsWhereNoneLate = (net : NetLists) → HasEndsInRange net → IsLive net → (rows : List EndlessRow) → IsEndlessOf net rows
     → (x : ℕ → ℕ → Date) → IsLeastUnder net inputs_at_zero x → InputsMeet net (due_on rows) inputs_at_zero ↔ All (NoneLate x) rows
 
 -- where nothing is late up to a turn past the number from which the dates of the transition and its due dates repeat, nothing is where the
 -- due dates rise no less in a turn, and otherwise the least late number is that which is late after the fewest turns
 abbrev pub TurnsTellLate : Type 0
-TurnsTellLate = (net : NetLists) → IsNet net → IsLive net → (x : ℕ → ℕ → Date) → IsLeastUnder net inputs_at_zero x
+TurnsTellLate = (net : NetLists) → HasEndsInRange net → IsLive net → (x : ℕ → ℕ → Date) → IsLeastUnder net inputs_at_zero x
     → (r : EndlessRow) → IsEndlessRow net r
     → (past turn rise fall : ℕ) → IsCommonPeriodOf x r past turn rise fall → NoneLateTo x r (past + turn)
     → (rise ≤ fall → NoneLate x r)
@@ -49,13 +49,13 @@ TurnsTellLate = (net : NetLists) → IsNet net → IsLive net → (x : ℕ → �
 
 -- a row with a late number has a least one
 abbrev pub LateNumbersHaveLeast : Type 0
-LateNumbersHaveLeast = (net : NetLists) → IsNet net → IsLive net → (x : ℕ → ℕ → Date) → IsLeastUnder net inputs_at_zero x
+LateNumbersHaveLeast = (net : NetLists) → HasEndsInRange net → IsLive net → (x : ℕ → ℕ → Date) → IsLeastUnder net inputs_at_zero x
     → (r : EndlessRow) → IsEndlessRow net r → (k due least : ℕ) → IsLateAt x r k due least
     → (j d z : ℕ) × IsLeastLate x r j d z
 
 -- the step of a transition is a number from 0 on
 abbrev pub StepsAreFromZero : Type 0
-StepsAreFromZero = (net : NetLists) → IsNet net → IsLive net → (x : ℕ → ℕ → Date) → IsLeastUnder net inputs_at_zero x
+StepsAreFromZero = (net : NetLists) → HasEndsInRange net → IsLive net → (x : ℕ → ℕ → Date) → IsLeastUnder net inputs_at_zero x
     → (f : SettledForm) → StandsFor (length net.transitions) f x → (t : ℕ) → t < length net.transitions → (step : ℕ) × (step_of_form f t ≡ pos step)
 
 -- a least late number is below 10^23
@@ -74,24 +74,24 @@ LateIsSoon = (net : NetLists) → IsNet net → IsLive net → (x : ℕ → ℕ 
 
 -- inputs at 0 meet the due dates, or some row is the first that has a late number
 abbrev pub EndlessMeetOrLate : Type 0
-EndlessMeetOrLate = (net : NetLists) → IsNet net → IsLive net → (rows : List EndlessRow) → IsEndlessOf net rows → (x : ℕ → ℕ → Date) → IsLeastUnder net inputs_at_zero x
+EndlessMeetOrLate = (net : NetLists) → HasEndsInRange net → IsLive net → (rows : List EndlessRow) → IsEndlessOf net rows → (x : ℕ → ℕ → Date) → IsLeastUnder net inputs_at_zero x
     → InputsMeet net (due_on rows) inputs_at_zero ⊎ ((r : EndlessRow) × (k : ℕ) × (due : ℕ) × (least : ℕ) × IsFirstLateRow x rows r k due least)
 
 -- where a row has a late number, inputs at 0 do not meet the due dates
 abbrev pub EndlessLateExcludesMeet : Type 0
-EndlessLateExcludesMeet = (net : NetLists) → IsNet net → IsLive net → (rows : List EndlessRow) → IsEndlessOf net rows → (x : ℕ → ℕ → Date) → IsLeastUnder net inputs_at_zero x
+EndlessLateExcludesMeet = (net : NetLists) → HasEndsInRange net → IsLive net → (rows : List EndlessRow) → IsEndlessOf net rows → (x : ℕ → ℕ → Date) → IsLeastUnder net inputs_at_zero x
     → (r : EndlessRow) (k due least : ℕ) → IsFirstLateRow x rows r k due least → InputsMeet net (due_on rows) inputs_at_zero → ⊥
 
 -- ---- latest inputs
 
 -- where inputs at 0 meet the due dates, the latest dates at the inputs are the latest inputs
 abbrev pub LatestAtInputsAreLatest : Type 0
-LatestAtInputsAreLatest = (net : NetLists) → IsNet net → IsLive net → (due : ℕ → ℕ → Option ℕ) → InputsMeet net due inputs_at_zero
+LatestAtInputsAreLatest = (net : NetLists) → HasEndsInRange net → IsLive net → (due : ℕ → ℕ → Option ℕ) → InputsMeet net due inputs_at_zero
     → (v : ℕ → ℕ → Date) → ((t k : ℕ) → IsInput net t → 1 ≤ k → IsLatestDate net due t k (v t k)) → AreLatestInputs net due v
 
 -- the meet over the rows of the residuals of the dues by the walks has the latest dates at the transition
 abbrev pub ResidualsAreLatestDates : Type 0
-ResidualsAreLatestDates = (net : NetLists) → IsNet net → IsLive net → (rows : List EndlessRow) → IsEndlessOf net rows → 1 ≤ length rows
+ResidualsAreLatestDates = (net : NetLists) → HasEndsInRange net → IsLive net → (rows : List EndlessRow) → IsEndlessOf net rows → 1 ≤ length rows
     → InputsMeet net (due_on rows) inputs_at_zero → (t : ℕ) → t < length net.transitions → (walks dues : ℕ → Gain) → AreSeriesColumns net t rows walks dues
     → (k : ℕ) → IsLatestDate net (due_on rows) t (k + 1) (value_at (residual_over (length rows) walks dues).series k)
 
@@ -103,7 +103,7 @@ FreeAtEachNumber = (net : NetLists) (rows : List EndlessRow) → IsEndlessOf net
 -- the values of that meet are all never, where no walk leads from any firing of the transition to a due one, or they are all numbers
 -- from 0 on; the first value tells which
 abbrev pub ResidualsAreFreeOrNumbers : Type 0
-ResidualsAreFreeOrNumbers = (net : NetLists) → IsNet net → IsLive net → (rows : List EndlessRow) → IsEndlessOf net rows → 1 ≤ length rows
+ResidualsAreFreeOrNumbers = (net : NetLists) → HasEndsInRange net → IsLive net → (rows : List EndlessRow) → IsEndlessOf net rows → 1 ≤ length rows
     → InputsMeet net (due_on rows) inputs_at_zero → (t : ℕ) → t < length net.transitions → (walks dues : ℕ → Gain) → AreSeriesColumns net t rows walks dues
     → (let s : ℕ → Date = value_at (residual_over (length rows) walks dues).series in
     (s 0 ≡ Never → ((k : ℕ) → s k ≡ Never) × ((k : ℕ) → 1 ≤ k → LeadsToNoDue net (due_on rows) t k))
@@ -111,14 +111,14 @@ ResidualsAreFreeOrNumbers = (net : NetLists) → IsNet net → IsLive net → (r
 
 -- a latest date is a number from 0 on, or never
 abbrev pub LatestDatesFromZero : Type 0
-LatestDatesFromZero = (net : NetLists) → IsNet net → (due : ℕ → ℕ → Option ℕ) → InputsMeet net due inputs_at_zero
+LatestDatesFromZero = (net : NetLists) → HasEndsInRange net → (due : ℕ → ℕ → Option ℕ) → InputsMeet net due inputs_at_zero
     → (t k : ℕ) (d : Date) → t < length net.transitions → 1 ≤ k → IsLatestDate net due t k d → d ≢ Never → (m : ℕ) × (d ≡ At (pos m))
 
 -- ---- series
 
 -- a row of the shortest form of walk times is a list of them
 abbrev pub TransfersAreSeries : Type 0
-TransfersAreSeries = (net : NetLists) → IsNet net → (input : ℕ) (f : SettledForm) → IsTransferOf net input f → (t : ℕ) → t < length net.transitions
+TransfersAreSeries = (net : NetLists) (input : ℕ) (f : SettledForm) → IsTransferOf net input f → (t : ℕ) → t < length net.transitions
     → IsSeriesList (row_of f t) f.period (step_of_form f t) (λ k d. IsGreatestWalkTime net input t (k + 1) d)
 
 -- the listed dates of a due row are a list of its due dates

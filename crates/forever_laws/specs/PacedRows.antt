@@ -2,7 +2,7 @@
 use Rattle.std.specs.Prelude.{ℕ, ◌+◌, ◌*◌, ◌≤◌, List, [], length, All}
 use Rattle.teg_settle.specs.dioid.declared.dates.Date.{Date}
 use Rattle.teg_net.specs.declared.entries.PlaceId.{PlaceId}
-use Rattle.teg_net.specs.Nets.{NetLists, IsNet}
+use Rattle.teg_net.specs.Nets.{NetLists, HasEndsInRange}
 use Rattle.teg_net.specs.Circuits.{IsPathBetween, IsLive, time_of, tokens_of}
 use Rattle.teg_settle.specs.teg_model.Datings.{IsLeastUnder}
 use Rattle.due_laws.specs.MeetingDueDates.{InputsMeet, inputs_at_zero}
@@ -23,9 +23,9 @@ paced_bound net most r = length r.dates + r.every * (length net.transitions * mo
 -- with all inputs at 0 a row that keeps pace has no late number where it has none up to that
 abbrev pub PacedLateIsSoon : Type 0
 PacedLateIsSoon =
-    (net : NetLists) → IsNet net → IsLive net → (x : ℕ → ℕ → Date) → IsLeastUnder net inputs_at_zero x → (r : EndlessRow) → IsEndlessRow net r → KeepsPace net r
+    (net : NetLists) → HasEndsInRange net → IsLive net → (x : ℕ → ℕ → Date) → IsLeastUnder net inputs_at_zero x → (r : EndlessRow) → IsEndlessRow net r → KeepsPace net r
     → (most : ℕ) → 1 ≤ most → All (λ p. p.tokens ≤ most) net.places → NoneLateTo x r (paced_bound net most r) → NoneLate x r
 
 -- where there is no row, inputs at 0 meet the due dates
 abbrev pub NoRowsAreMet : Type 0
-NoRowsAreMet = (net : NetLists) → IsNet net → IsLive net → InputsMeet net (due_on []) inputs_at_zero
+NoRowsAreMet = (net : NetLists) → HasEndsInRange net → IsLive net → InputsMeet net (due_on []) inputs_at_zero

@@ -32,20 +32,20 @@ late_by every gap time tokens more most n date due k fast k_is n_is low slow =
     (cases_lt due date)
 
 pub slow_late : SlowDuesAreLate
-slow_late net ok live x least r row circuit way s s_in closed leads fast =
+slow_late net ends live x least r row circuit way s s_in closed leads fast =
     let t : ℕ = r.transition.index in
     let n : ℕ = r.every * greatest_input_date + r.gap * (1 + tokens_of net way + r.every) + 1 in
     let ps : List PlaceId = rounds n circuit ++ way in
     let k : ℕ = 1 + tokens_of net ps in
     let path : IsPathBetween net s ps t = IsPathBetween-append net (rounds n circuit) way s s t (rounds_lead net s circuit n closed) leads in
-    let most = walk_most net ok live x least t k s 1 (path_steps ps) row.in_range (omega arith) s_in (omega arith) (path_walks net ps s 1 t path) in
+    let most = walk_most net ends live x least t k s 1 (path_steps ps) row.in_range (omega arith) s_in (omega arith) (path_walks net ps s 1 t path) in
     let tokens : tokens_of net ps ≡ n * tokens_of net circuit + tokens_of net way =
     sum_by-append (λ q. (place_at net q).tokens) (rounds n circuit) way ∙ ap (λ m. m + tokens_of net way) (rounds_sum (λ q. (place_at net q).tokens) circuit n) in
     let time : time_of net ps ≡ n * time_of net circuit + time_of net way =
     sum_by-append (λ q. (place_at net q).hold) (rounds n circuit) way ∙ ap (λ m. m + time_of net way) (rounds_sum (λ q. (place_at net q).hold) circuit n) in
     let same = path_time net ps in
-    let low : n * time_of net circuit ≤ least_number net ok live x least t k = omega (arith, most, time, same) in
-    let late : due_number r k < least_number net ok live x least t k =
+    let low : n * time_of net circuit ≤ least_number net ends live x least t k = omega (arith, most, time, same) in
+    let late : due_number r k < least_number net ends live x least t k =
     late_by r.every r.gap (time_of net circuit) (tokens_of net circuit) (tokens_of net way) greatest_input_date n
-    (least_number net ok live x least t k) (due_number r k) k fast (ap (λ m. 1 + m) tokens) (omega arith) low (due_slow net r row k) in
-    (k, due_number r k, least_number net ok live x least t k, late_from net ok live x least r row k (omega arith) late)
+    (least_number net ends live x least t k) (due_number r k) k fast (ap (λ m. 1 + m) tokens) (omega arith) low (due_slow net r row k) in
+    (k, due_number r k, least_number net ends live x least t k, late_from net ends live x least r row k (omega arith) late)

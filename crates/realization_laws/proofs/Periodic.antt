@@ -77,8 +77,8 @@ module _ (net : NetLists) (input t : ℕ) (y : ℕ → Date) (times : (k : ℕ) 
         (causal k)
 
 pub are_periodic : WalkTimesSettle → TransfersArePeriodic
-are_periodic settle net ok live input is =
-    let w = settle net ok live input is in
+are_periodic settle net ends live input is =
+    let w = settle net ends live input is in
     let f : SettledForm = w.0 in
     let x : ℕ → ℕ → Date = w.1.0 in
     let times : AreWalkTimes net input x = w.1.1 in

@@ -5,9 +5,8 @@ use Rattle.teg_settle.specs.dioid.declared.dates.Date.TheVariants.{Early, At}
 use Rattle.teg_settle.specs.dioid.Dates.{IsAtMostDate, delayed}
 use Rattle.teg_settle.specs.teg_net.declared.entries.Place.{Place}
 use Rattle.teg_settle.specs.teg_net.declared.entries.Transition.{Transition}
-use Rattle.teg_settle.specs.teg_net.Nets.{NetLists, IsNet, IsInput}
+use Rattle.teg_settle.specs.teg_net.Nets.{NetLists, HasEndsInRange, IsInput}
 use Rattle.teg_settle.specs.teg_net.Circuits.{IsLive}
-use Rattle.teg_settle.specs.teg_model.LiveRanks.{HasEndsInRange}
 use Rattle.teg_settle.specs.Transfers.{IsGreatestWalkTime, AreWalkTimes}
 
 -- each value is Early or a number from 0 on, no value falls, and from some shift on they go on by a step in each period
@@ -39,5 +38,5 @@ SeriesAreRealized = (s : ℕ → Date) → IsCausalPeriodic s → Transition →
 -- the greatest times of walks from the first firing of an input of a live net to the firings of each transition are such a series
 abbrev pub TransfersArePeriodic : Type 0
 TransfersArePeriodic =
-    (net : NetLists) → IsNet net → IsLive net → (input : ℕ) → IsInput net input
+    (net : NetLists) → HasEndsInRange net → IsLive net → (input : ℕ) → IsInput net input
     → (x : ℕ → ℕ → Date) × AreWalkTimes net input x × ((t : ℕ) → t < length net.transitions → IsCausalPeriodic (λ k. x t (k + 1)))

@@ -12,6 +12,7 @@ use Rattle.teg_net.specs.Nets.{NetLists, IsNet}
 use Rattle.teg_net.specs.Ratios.{Fraction}
 use Rattle.teg_net.specs.Circuits.{IsCircuit, IsLive, time_of, tokens_of}
 use Rattle.teg_net.specs.GreatestRatios.{IsGreatestRatio, IsAnyPlace}
+use Rattle.teg_net.proofs.NetRules.{net_ends}
 use Rattle.bound_laws.specs.teg_model.Datings.{IsLeastDating}
 use Rattle.bound_laws.specs.settled_laws.SettledForms.{RepeatsAfter}
 use Rattle.bound_laws.specs.Critical.{IsStrong, IsCommon, AllReadyAtZero, bound_of}
@@ -75,7 +76,7 @@ module _ (net : NetLists) (r : Fraction) (h : IsAlone net r) where
   still zero_time x least = record {
     at_least_one = omega arith;
     again = λ t k lt more.
-        let all = still_nets_stay_at_zero_by net h.rules h.live h.no_input h.each (no_time zero_time) h.ready x least in
+        let all = still_nets_stay_at_zero_by net (net_ends net h.rules) h.live h.no_input h.each (no_time zero_time) h.ready x least in
         let next : x t (k + 1) ≡ At (pos 0) = all t (k + 1) lt (omega arith) in
         let here : x t k ≡ At (pos 0) = all t k lt (omega arith) in
         next ∙ sym (ap (move (pos 0)) here);

@@ -5,6 +5,7 @@ use Rattle.std.proofs.lemmas.Option.{slice_get_within, get_or_from_slice_get}
 use Rattle.dioid.specs.declared.dates.Date.{Date}
 use Rattle.dioid.specs.declared.dates.Date.TheVariants.{Early, At}
 use Rattle.teg_net.specs.Nets.{NetLists, IsNet, without_inputs}
+use Rattle.teg_net.proofs.NetRules.{net_ends}
 use Rattle.teg_net.specs.Circuits.{IsLive}
 use Rattle.forever_laws.specs.teg_model.Datings.{IsLeastUnder}
 use Rattle.forever_laws.specs.due_laws.MeetingDueDates.{inputs_at_zero}
@@ -32,7 +33,8 @@ module _ (net plain : NetLists) (ok : IsNet net) (live : IsLive net) (same : pla
       let own : IsLeastRow (without_inputs net) k row = subst (λ (n : NetLists). IsLeastRow n k row) same is in
       let x : ℕ → ℕ → Date = own.exists.0 in
       let least : IsLeastUnder net inputs_at_zero x = (law net x).0 own.exists.1 in
-      (least_number net ok live x least t k, tells t l x least ∙ date_is net ok live x least t k l one)
+      let ends = net_ends net ok in
+      (least_number net ends live x least t k, tells t l x least ∙ date_is net ends live x least t k l one)
 
 -- the date of the next number, by the number of rows that were given before
 pub comes_at : (net : NetLists) (t given k date : ℕ) → given + 1 ≡ k → InLeastAtZero net (λ x. x t (given + 1) ≡ At (pos date)) → InLeastAtZero net (λ x. x t k ≡ At (pos date))
@@ -74,5 +76,6 @@ module _ (a : RankedRows) (h : AreRankedRows a) where
   -- where no row is late the inputs at 0 meet the due dates
   pub all_meet_in : NoRowsAreMet → ZeroMeetsWhereNoneLate → InLeastAtZero a.net (λ x. All (NoneLate x) a.rows) → AreMetAtZero a
   all_meet_in zero law none =
-      let some = zero a.net h.rules h.is_live in
-      (law a.net h.rules h.is_live a.rows h.ends some.0 some.1).1 (none some.0 some.1)
+      let ends = net_ends a.net h.rules in
+      let some = zero a.net ends h.is_live in
+      (law a.net ends h.is_live a.rows h.ends some.0 some.1).1 (none some.0 some.1)

@@ -20,6 +20,7 @@ use Rattle.teg_net.specs.declared.entries.Again.{Again}
 use Rattle.teg_net.specs.declared.entries.TransitionId.{TransitionId}
 use Rattle.teg_net.specs.Inputs.{list_date}
 use Rattle.teg_net.specs.Nets.{NetLists}
+use Rattle.teg_net.proofs.NetRules.{net_ends}
 use Rattle.forever_laws.specs.teg_model.Datings.{as_date}
 use Rattle.endless_due.specs.declared.row.EndlessRow.{EndlessRow}
 use Rattle.endless_due.specs.EndlessRows.{again_of_row}
@@ -224,7 +225,7 @@ pub stopped_at : (a : InputAsked) → IsAskedWith a → ColumnsExist → (i : �
 stopped_at a h exist i l fit (Late t k due least) at = absurd at
 stopped_at a h exist i l fit (TooLong v) at = absurd at
 stopped_at a h exist i l fit (TooWide v row) at =
-    let c = exist a.net h.rules h.is_live a.rows h.ends a.input.index h.input in (
+    let c = exist a.net (net_ends a.net h.rules) h.is_live a.rows h.ends a.input.index h.input in (
       at.0,
       record {
         settles = (a.settled, h.transfer, h.short);

@@ -3,6 +3,7 @@ use Rattle.std.proofs.Common.{ℕ, ◌+◌, ◌<◌, ◌≤◌, ◌≡◌, ◌�
 use Rattle.std.proofs.lemmas.Bool.{cases_lt}
 use Rattle.std.proofs.lemmas.List.{length-append}
 use Rattle.teg_net.specs.Nets.{NetLists, IsNet, IsInput}
+use Rattle.teg_net.proofs.NetRules.{net_ends}
 use Rattle.teg_net.specs.Circuits.{IsLive}
 use Rattle.teg_due.specs.RowNames.{is_input}
 use Rattle.forever_laws.specs.due_laws.LatestDates.{IsLatestDate}
@@ -47,7 +48,7 @@ all_releases net rows releases law ok live h = record {
   fine = λ u i. h.fine u (input_within net u i) i;
   each_input = h.each_input;
   right = h.right;
-  latest = law net ok live (due_on rows) h.meet (released net releases)
+  latest = law net (net_ends net ok) live (due_on rows) h.meet (released net releases)
       (λ t k i one. latest_is net rows t k (release_in (inputs_of net) releases t) one
       (beside_in (IsReleaseOf net rows) (inputs_of net) releases t h.right (input_in net t (length net.transitions) (input_test net t i) (input_within net t i))));
 }

@@ -19,6 +19,7 @@ use Rattle.series_form.specs.SeriesAnswers.{AnswersOf}
 use Rattle.series_form.specs.declared.forms.SeriesRefused.{SeriesRefused}
 use Rattle.series_ops.specs.declared.gains.Gain.{Gain}
 use Rattle.teg_net.specs.Nets.{NetLists, IsNet, IsInput}
+use Rattle.teg_net.proofs.NetRules.{net_ends}
 use Rattle.teg_net.specs.Circuits.{IsLive}
 use Rattle.teg_net.specs.Walks.{walk_time}
 use Rattle.forever_laws.specs.settled_laws.SettledForms.{SettledForm, settled_length}
@@ -82,7 +83,7 @@ module _ (net : NetLists) (ok : IsNet net) (u v : ℕ) (lag : ℤ) (first : IsIn
   lagged_settles : WalkTimesSettle → IsLive net → WalkTimesSettleSoon net u → WalkTimesSettleSoon net v
   lagged_settles settle live h =
       let f : SettledForm = h.0 in
-      let g = settle net ok live v second in
+      let g = settle net (net_ends net ok) live v second in
       let moved : IsFormMoved net lag f g.0 = lagged_times net ok u v lag first second lagged f g.0 h.1 g.1 in
       let after : f.after ≡ g.0.after = moved.after in
       let period : f.period ≡ g.0.period = moved.period in
@@ -188,7 +189,7 @@ module _ (net : NetLists) (ok : IsNet net) (u v : ℕ) (lag : ℤ) (first : IsIn
         let never : value_at s (k - 1) ≡ Never = move_injective (pos 0 -ℤ lag) (value_at s (k - 1)) Never (sym is ∙ n) in
         let no : At (pos old.1.0) ≡ Never = sym old.1.1 ∙ never in
         absurd (cc) in
-        (latest, latest_from_zero net ok (due_on rows) zeros v k (value_at t (k - 1)) (input_in net v second) one latest number),
+        (latest, latest_from_zero net (net_ends net ok) (due_on rows) zeros v k (value_at t (k - 1)) (input_in net v second) one latest number),
   )
 
   pub lagged_fine_release : WalkTimesSettle → IsLive net → InputsMeet net (due_on rows) inputs_at_zero → IsFine net rows u → (old new : Release) → IsReleaseOf net rows u old → IsEarlierBy lag old new

@@ -8,7 +8,8 @@ use Rattle.dioid.specs.declared.dates.Date.{Date}
 use Rattle.dioid.specs.declared.dates.Date.TheVariants.{At}
 use Rattle.dioid.specs.Dates.{move}
 use Rattle.dioid.proofs.Moves.{at_inj}
-use Rattle.teg_net.specs.Nets.{NetLists, IsNet, without_inputs}
+use Rattle.teg_net.specs.Nets.{NetLists, HasEndsInRange, without_inputs}
+use Rattle.teg_net.proofs.NetRules.{net_ends}
 use Rattle.teg_net.specs.Circuits.{IsLive}
 use Rattle.forever_laws.specs.teg_model.DateBounds.{IsDateWithin, greatest_least_date}
 use Rattle.forever_laws.specs.settled_laws.SettledForms.{SettledForm, IsSettledFormOf, settled_date, step_of_form}
@@ -25,12 +26,12 @@ use Rattle.teg_forever.specs.LateFirings.{GoesOnBySteps, IsSettledRow, IsZeroFor
 use Rattle.teg_forever.specs.LatestReleases.{IsLateAnswer}
 use Rattle.teg_forever.proofs.LateNumbers.{none_to_as, none_as, least_as, soonest_as}
 
-module _ (net : NetLists) (ok : IsNet net) (live : IsLive net) (f : SettledForm) (form : IsZeroForm net f) where
+module _ (net : NetLists) (ends : HasEndsInRange net) (live : IsLive net) (f : SettledForm) (form : IsZeroForm net f) where
   pub tells : (t k : ℕ) → t < length net.transitions → 1 ≤ k → settled_date f t k ≡ form.dating t k
   tells t k lt one = form_tells (length net.transitions) f form.dating form.stands t k lt one
 
-  number : (t k : ℕ) → t < length net.transitions → 1 ≤ k → settled_date f t k ≡ At (pos (least_number net ok live form.dating form.least t k))
-  number t k lt one = tells t k lt one ∙ date_is net ok live form.dating form.least t k lt one
+  number : (t k : ℕ) → t < length net.transitions → 1 ≤ k → settled_date f t k ≡ At (pos (least_number net ends live form.dating form.least t k))
+  number t k lt one = tells t k lt one ∙ date_is net ends live form.dating form.least t k lt one
 
   low_number : (t k m : ℕ) → IsDateWithin greatest_least_date (settled_date f t k) → settled_date f t k ≡ At (pos m) → m ≤ greatest_least_date
   low_number t k m h e = let w = subst (IsDateWithin greatest_least_date) e h in omega (arith, ints, w.1)
@@ -38,24 +39,24 @@ module _ (net : NetLists) (ok : IsNet net) (live : IsLive net) (f : SettledForm)
   -- the dates of each transition are numbers, and its step is one and not great
   climbing : StepsAreFromZero → IsFormKept f → (t : ℕ) → t < length net.transitions → IsClimbing f t
   climbing law kept t lt =
-      let s = law net ok live form.dating form.least f form.stands t lt in
+      let s = law net ends live form.dating form.least f form.stands t lt in
       let rows : length f.rows ≡ length net.transitions = form.stands.sizes.rows_are in
       let short = kept.short in
       let one : 1 ≤ f.period = form.stands.sizes.at_least_one in
       let k : ℕ = f.after + 1 in
-      let a : ℕ = least_number net ok live form.dating form.least t k in
-      let b : ℕ = least_number net ok live form.dating form.least t (k + f.period) in
+      let a : ℕ = least_number net ends live form.dating form.least t k in
+      let b : ℕ = least_number net ends live form.dating form.least t (k + f.period) in
       let ea : settled_date f t k ≡ At (pos a) = number t k lt (omega arith) in
       let eb : settled_date f t (k + f.period) ≡ At (pos b) = number t (k + f.period) lt (omega arith) in
       let again : form.dating t (k + f.period) ≡ move (step_of_form f t) (form.dating t k) = form.stands.repeats.again t k lt (omega arith) in
       let chain : At (pos b) ≡ move (pos s.0) (At (pos a)) =
-      sym (date_is net ok live form.dating form.least t (k + f.period) lt (omega arith)) ∙ again
-      ∙ ap (λ (z : ℤ). move z (form.dating t k)) s.1 ∙ ap (move (pos s.0)) (date_is net ok live form.dating form.least t k lt (omega arith)) in
+      sym (date_is net ends live form.dating form.least t (k + f.period) lt (omega arith)) ∙ again
+      ∙ ap (λ (z : ℤ). move z (form.dating t k)) s.1 ∙ ap (move (pos s.0)) (date_is net ends live form.dating form.least t k lt (omega arith)) in
       let sum = at_inj _ _ chain in
       let high : b ≤ greatest_least_date = low_number t (k + f.period) b (kept.within t (k + f.period) (omega arith) (omega arith) (omega arith)) eb in
       record {
         in_range = omega arith;
-        numbers = λ j o. (least_number net ok live form.dating form.least t j, number t j lt o);
+        numbers = λ j o. (least_number net ends live form.dating form.least t j, number t j lt o);
         step = s.0;
         step_is = s.1;
         step_low = omega (arith, ints, sum, high);
@@ -74,7 +75,7 @@ module _ (f : SettledForm) (r : EndlessRow) (h : IsSettledRow f r) where
   dating = h.form.dating
 
   same : (k : ℕ) → 1 ≤ k → settled_date f r.transition.index k ≡ dating r.transition.index k
-  same k one = tells h.net h.rules h.is_live f h.form r.transition.index k h.row.in_range one
+  same k one = tells h.net (net_ends h.net h.rules) h.is_live f h.form r.transition.index k h.row.in_range one
 
   back : (k : ℕ) → 1 ≤ k → dating r.transition.index k ≡ settled_date f r.transition.index k
   back k one = sym (same k one)
@@ -101,7 +102,7 @@ module _ (f : SettledForm) (r : EndlessRow) (h : IsSettledRow f r) where
     pub none_at_all : rise ≤ fall → NoneLate (settled_date f) r
     none_at_all flat =
         none_as dating (settled_date f) r back
-        ((law h.net h.rules h.is_live dating h.form.least r h.row past turn rise fall (turn_as past turn rise fall is) (none_to_as (settled_date f) dating r same (past + turn) none)).0 flat)
+        ((law h.net (net_ends h.net h.rules) h.is_live dating h.form.least r h.row past turn rise fall (turn_as past turn rise fall is) (none_to_as (settled_date f) dating r same (past + turn) none)).0 flat)
 
     -- and otherwise the least late number is that which is late after the fewest turns
     pub soon_by_turns : LateIsSoon → (gain base due date : ℕ) → 0 < gain → rise ≡ fall + gain → IsSoonest (settled_date f) r past (past + turn) gain base due date
@@ -109,7 +110,7 @@ module _ (f : SettledForm) (r : EndlessRow) (h : IsSettledRow f r) where
     soon_by_turns low gain base due date some steep soonest =
         soon low (base + turns_to due date gain * turn) (due + turns_to due date gain * fall) (date + turns_to due date gain * rise)
         (least_as dating (settled_date f) r back _ _ _
-        ((law h.net h.rules h.is_live dating h.form.least r h.row past turn rise fall (turn_as past turn rise fall is)
+        ((law h.net (net_ends h.net h.rules) h.is_live dating h.form.least r h.row past turn rise fall (turn_as past turn rise fall is)
         (none_to_as (settled_date f) dating r same (past + turn) none)).1 gain base due date some steep
         (soonest_as (settled_date f) dating r same past (past + turn) gain base due date soonest)))
 
@@ -134,12 +135,12 @@ module _ (a : RankedRows) (h : AreRankedRows a) where
           is_live = h.is_live;
           form = form;
           row = rule;
-          climbing = climbing a.net h.rules h.is_live f form steps kept r.transition.index rule.in_range;
-          steps = goes_on a.net h.rules h.is_live f form r.transition.index rule.in_range;
+          climbing = climbing a.net (net_ends a.net h.rules) h.is_live f form steps kept r.transition.index rule.in_range;
+          steps = goes_on a.net (net_ends a.net h.rules) h.is_live f form r.transition.index rule.in_range;
         }
 
     as_dating : (r : EndlessRow) → r.transition.index < length a.net.transitions → (k : ℕ) → 1 ≤ k → settled_date f r.transition.index k ≡ form.dating r.transition.index k
-    as_dating r lt k one = tells a.net h.rules h.is_live f form r.transition.index k lt one
+    as_dating r lt k one = tells a.net (net_ends a.net h.rules) h.is_live f form r.transition.index k lt one
 
     -- the first row that is late, with its least late number
     pub late_answer : (i : ℕ) (r : EndlessRow) → slice_get a.rows i ≡ Some r → All (NoneLate (settled_date f)) (take i a.rows)
@@ -171,5 +172,5 @@ module _ (a : RankedRows) (h : AreRankedRows a) where
     -- where no row is late the inputs at 0 meet the due dates
     pub all_meet : ZeroMeetsWhereNoneLate → All (NoneLate (settled_date f)) a.rows → AreMetAtZero a
     all_meet zeros none =
-        (zeros a.net h.rules h.is_live a.rows h.ends form.dating form.least).1
+        (zeros a.net (net_ends a.net h.rules) h.is_live a.rows h.ends form.dating form.least).1
         (λ j d w. none_as (settled_date f) form.dating (get_or a.rows j d) (as_dating (get_or a.rows j d) (h.ends.each j d w).in_range) (none j d w))

@@ -9,7 +9,7 @@ use Rattle.series_ops.specs.declared.gains.Gain.{Gain}
 use Rattle.series_ops.specs.Gains.{gain_left, gain_meet, gain_of, MeetFits}
 use Rattle.series_form.specs.NumberBounds.{IsSeries}
 use Rattle.forever_laws.specs.periodic_laws.Equations.{gains}
-use Rattle.teg_net.specs.Nets.{NetLists, IsNet}
+use Rattle.teg_net.specs.Nets.{NetLists}
 use Rattle.forever_laws.specs.settled_laws.SettledForms.{SettledForm}
 use Rattle.teg_settle.specs.Transfers.{IsTransferOf}
 use Rattle.endless_due.specs.declared.row.EndlessRow.{EndlessRow}
@@ -26,13 +26,13 @@ use Rattle.teg_forever.proofs.Itself.{meet_itself}
 
 -- ---- a row as the one before
 
-module _ (net : NetLists) (ok : IsNet net) (u : ℕ) (f : SettledForm) (transfer : IsTransferOf net u f) where
+module _ (net : NetLists) (u : ℕ) (f : SettledForm) (transfer : IsTransferOf net u f) where
   -- transitions of which the form tells the same dates have one walk series
   one_series : (s t : ℕ) → s < length net.transitions → t < length net.transitions → HaveSameWalks f s t → (a b : Gain) → IsWalkSeries net u s a.series → IsWalkSeries net u t b.series → a ≡ b
   one_series s t l m same a b h w =
       let form : told_form f s ≡ told_form f t = ap₂ (λ r z. form_with r f.period z) same.row same.step in
-      let from_s = transfers_are_series net ok u f transfer s l in
-      let from_t = transfers_are_series net ok u f transfer t m in
+      let from_s = transfers_are_series net u f transfer s l in
+      let from_t = transfers_are_series net u f transfer t m in
       let values : (k : ℕ) → value_at a.series k ≡ value_at b.series k = λ k.
       one_time net u s (k + 1) (value_at a.series k) (value_at (told_form f s) k) (h.times k) (from_s.each k)
       ∙ (ap (λ (z : Form). value_at z k) form

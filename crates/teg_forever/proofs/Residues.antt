@@ -7,6 +7,7 @@ use Rattle.series_ops.specs.declared.gains.Gain.{Gain}
 use Rattle.series_ops.specs.Gains.{gain_zero}
 use Rattle.teg_net.specs.declared.entries.TransitionId.{TransitionId}
 use Rattle.teg_net.specs.Nets.{NetLists, IsInput}
+use Rattle.teg_net.proofs.NetRules.{net_ends}
 use Rattle.forever_laws.specs.settled_laws.SettledForms.{SettledForm, settled_length}
 use Rattle.teg_settle.specs.Transfers.{IsTransferOf}
 use Rattle.forever_laws.specs.due_laws.MeetingDueDates.{InputsMeet, inputs_at_zero}
@@ -32,7 +33,7 @@ module _ (a : InputAsked) (h : IsAskedWith a) (exist : ColumnsExist) (m : Gain) 
   pub fine_release : ResidualsAreLatestDates → ResidualsAreFreeOrNumbers → 1 ≤ length a.rows → InputsMeet a.net (due_on a.rows) inputs_at_zero
       → (release : Release) → IsReleaseBy m.series release → IsFineRelease a.net a.rows a.input.index release
   fine_release latest numbers some zero release by =
-      let c = exist a.net h.rules h.is_live a.rows h.ends a.input.index h.input in
+      let c = exist a.net (net_ends a.net h.rules) h.is_live a.rows h.ends a.input.index h.input in
       let is = meet c.0 c.1 c.2 in
       record {
         fine = record { settles = (a.settled, h.transfer, h.short); walks = c.0; dues = c.1; columns = c.2; fit = is.fit };
@@ -42,14 +43,14 @@ module _ (a : InputAsked) (h : IsAskedWith a) (exist : ColumnsExist) (m : Gain) 
       by_meet : (walks dues : ℕ → Gain) → AreSeriesColumns a.net a.input.index a.rows walks dues → (release : Release)
           → IsReleaseBy (residual_over (length a.rows) walks dues).series release → IsReleaseOf a.net a.rows a.input.index release
       by_meet walks dues columns Free by =
-          ((numbers a.net h.rules h.is_live a.rows h.ends some zero a.input.index (input_in a.net a.input.index h.input) walks dues columns).0 by).1
+          ((numbers a.net (net_ends a.net h.rules) h.is_live a.rows h.ends some zero a.input.index (input_in a.net a.input.index h.input) walks dues columns).0 by).1
       by_meet walks dues columns (Latest s) by = (
         subst (λ (z : Form). IsSeries z) (sym by.1) by.2,
         λ k one.
             let shift : k - 1 + 1 ≡ k = omega arith in
             let u_in = input_in a.net a.input.index h.input in
-            let date = latest a.net h.rules h.is_live a.rows h.ends some zero a.input.index u_in walks dues columns (k - 1) in
-            let number = (numbers a.net h.rules h.is_live a.rows h.ends some zero a.input.index u_in walks dues columns).1 by.0 (k - 1) in (
+            let date = latest a.net (net_ends a.net h.rules) h.is_live a.rows h.ends some zero a.input.index u_in walks dues columns (k - 1) in
+            let number = (numbers a.net (net_ends a.net h.rules) h.is_live a.rows h.ends some zero a.input.index u_in walks dues columns).1 by.0 (k - 1) in (
               subst (λ (z : Form). IsLatestDate a.net (due_on a.rows) a.input.index k (value_at z (k - 1))) (sym by.1)
                   (subst (λ (n : ℕ). IsLatestDate a.net (due_on a.rows) a.input.index n (value_at (residual_over (length a.rows) walks dues).series (k - 1))) shift date),
               (number.0, ap (λ (z : Form). value_at z (k - 1)) by.1 ∙ number.1),

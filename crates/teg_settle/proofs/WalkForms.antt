@@ -2,7 +2,6 @@
 use Rattle.std.proofs.Common.{ℕ, pos, sym, arith}
 use Rattle.dioid.proofs.DateOrder.{at_most_refl}
 use Rattle.dioid.proofs.Moves.{move_zero}
-use Rattle.periodic_laws.proofs.teg_model_proofs.OfNet.{net_ends}
 use Rattle.periodic_laws.proofs.teg_model_proofs.LiveRanks.{live_is_ranked}
 use Rattle.periodic_laws.proofs.teg_model_proofs.SystemWalks.{least_in_is_walk}
 use Rattle.periodic_laws.specs.PeriodicDates.{IsPeriodic}
@@ -24,8 +23,7 @@ released_periodic input t = record {
 }
 
 pub walk_forms : SystemsSettle → WalkTimesSettle
-walk_forms law net ok live input h =
-    let ends = net_ends net ok in
+walk_forms law net ends live input h =
     let ranked = live_is_ranked net ends live in
     let found = law net ends live (initial_by Absent) (released_alone input) (λ t l. released_periodic input t) in (
       found.2,

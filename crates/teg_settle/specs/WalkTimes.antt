@@ -1,13 +1,13 @@
 -- That the times of walks from an input settle, in one way.
 use Rattle.std.specs.Prelude.{ℕ, ◌<◌, ◌≡◌}
-use Rattle.teg_net.specs.Nets.{NetLists, IsNet, IsInput}
+use Rattle.teg_net.specs.Nets.{NetLists, HasEndsInRange, IsInput}
 use Rattle.teg_net.specs.Circuits.{IsLive}
 use Rattle.periodic_laws.specs.settled_laws.SettledForms.{SettledForm, settled_length}
 use Rattle.teg_settle.specs.Transfers.{IsTransferOf, TransferSettlesPast}
 
 -- in a live net the greatest times of walks from the first firing of an input have a shortest settled form
 abbrev pub WalkTimesSettle : Type 0
-WalkTimesSettle = (net : NetLists) → IsNet net → IsLive net → (input : ℕ) → IsInput net input → (f : SettledForm) × IsTransferOf net input f
+WalkTimesSettle = (net : NetLists) → HasEndsInRange net → IsLive net → (input : ℕ) → IsInput net input → (f : SettledForm) × IsTransferOf net input f
 
 -- the greatest times of walks from the first firing of an input have one shortest settled form
 abbrev pub TransfersAreOne : Type 0

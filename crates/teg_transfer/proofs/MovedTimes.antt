@@ -19,6 +19,7 @@ use Rattle.teg_net.specs.declared.entries.Transition.{Transition}
 use Rattle.teg_net.specs.declared.entries.TransitionId.{TransitionId}
 use Rattle.teg_net.specs.Circuits.{IsLive}
 use Rattle.teg_net.specs.Nets.{NetLists, IsNet, IsInput}
+use Rattle.teg_net.proofs.NetRules.{net_ends}
 use Rattle.teg_report.specs.declared.answer.TransferFrom.{TransferFrom}
 use Rattle.teg_report.specs.declared.answer.TransferLine.{TransferLine}
 use Rattle.teg_report.specs.AnswerMeanings.{times_from, times_to}
@@ -72,7 +73,7 @@ pub moved_times_from : (net : NetLists) → IsNet net → IsLive net → WalkTim
     → IsInput net all.from.index → IsInput net input.index → AreLagged net all.from.index input.index lag → IsTimesFrom net limit all → IsTimesFrom net limit (times_moved lag input all)
 moved_times_from net ok live settle limit all input lag first second lagged h =
     let f : SettledForm = h.0 in
-    let made = settle net ok live input.index second in
+    let made = settle net (net_ends net ok) live input.index second in
     let g : SettledForm = made.0 in
     let outs : List TransitionId = those_of_role net Output in
     let moved : IsFormMoved net lag f g = lagged_times net ok all.from.index input.index lag first second lagged f g h.1 made.1 in

@@ -19,5 +19,5 @@ returns c = λ yes.
     let before : i - 1 < length a.rows = omega (arith, c.requires.place) in
     let here : IsAlikeAt a.rows i c.first.result = subst (IsAlikeAt a.rows i) (sym c.first.ensures) (c.requires.divisions.firsts.each i c.requires.place) in
     let there : IsAlikeAt a.rows (i - 1) c.first.result = subst (IsAlikeAt a.rows (i - 1)) (sym (c.if-first.false ∙ c.first-2.ensures)) (c.requires.divisions.firsts.each (i - 1) before) in
-    as_before a.net h.rules a.input.index a.settled h.transfer a.rows i c.first.result c.row-row.result.now c.row-before.result.now
+    as_before a.net a.input.index a.settled h.transfer a.rows i c.first.result c.row-row.result.now c.row-before.result.now
     c.row-row.ensures.stands c.row-before.ensures.stands c.row-row.ensures.rules.in_range c.row-before.ensures.rules.in_range here there (rw c.settled.ensures.value at c.have_same_walks.ensures yes)

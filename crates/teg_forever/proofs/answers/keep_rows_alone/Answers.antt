@@ -1,6 +1,7 @@
 use Rattle.std.proofs.Common.{◌≡◌, ◌≤◌, ◌<◌, All, length, refl, subst, sym, arith}
 use Rattle.std.proofs.lemmas.List.{take_all}
 use Rattle.std.proofs.lemmas.Option.{slice_get_within}
+use Rattle.teg_net.proofs.NetRules.{net_ends}
 use Rattle.endless_due.specs.declared.row.EndlessRow.{EndlessRow}
 use Rattle.forever_laws.specs.Late.{NoneLate}
 use Rattle.teg_forever.specs.TogetherRows.{IsTold}
@@ -21,7 +22,7 @@ returns-in-Late-clause-late c =
     let a = c.args.due.now in
     let given = c.net.ensures.given in
     let told = subst (IsTold a.net a.rows) c.in-Late.is c.in_ok-first.ensures in
-    let zero = c.no_rows_are_met.ensures a.net given.rules given.is_live in
+    let zero = c.no_rows_are_met.ensures a.net (net_ends a.net given.rules) given.is_live in
     let l = c.in-Late.first.late in
     let same : c.row.result.now ≡ told.late.row = some_is _ _ _ c.row.ensures.stands told.late.is_row in
     subst (ForeverRefused a.net a.rows) (sym c.refused_at.ensures)
