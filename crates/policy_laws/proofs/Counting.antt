@@ -15,11 +15,11 @@ use Rattle.teg_howard.proofs.Turns.{greater_ratio}
 use Rattle.teg_howard.proofs.Optimum.{some_token}
 use Rattle.teg_howard.proofs.RoundStates.{ratio_less}
 use Rattle.teg_howard.proofs.teg_certificates_proofs.Ratios.{ratio_trans_less}
+use Rattle.teg_howard.proofs.OneRun.{runs_agree}
 use Rattle.teg_loops.proofs.Taking.{sum_most}
 use Rattle.policy_laws.specs.RoundCounts.{RoundsOfOneRatioAreFew, most_ratios, RoundsAreFew}
 use Rattle.policy_laws.proofs.RatioCounts.{ratios_up_to, ratios_rise, ratios_few}
 use Rattle.policy_laws.proofs.OneRound.{Gains, LeadsHome, gains}
-use Rattle.policy_laws.proofs.Homes.{are_rounds, lead_home}
 use Rattle.policy_laws.proofs.InPart.{circuit_in_part}
 use Rattle.policy_laws.proofs.Kept.{AllGain, none_keep_on}
 
@@ -47,10 +47,10 @@ module _ (net : NetLists) (parts : List ℕ) (part : ℕ) (live : IsLive net) (t
   R k = get_or rounds k d
 
   is_round : (k : ℕ) → k < length rounds → IsRound net parts part (R k)
-  is_round k l = are_rounds net parts part rounds run d k l
+  is_round k l = (runs_agree net parts part live rounds rounds d run run k l l).2
 
   home : (k : ℕ) → k < length rounds → LeadsHome net parts part (R k)
-  home k l = lead_home net parts part rounds run d k l
+  home k l = (runs_agree net parts part live rounds rounds d run run k l l).1
 
   step : (k : ℕ) → k + 1 < length rounds → Gains net parts part (R k).ratio (R k) (R (k + 1)) ⊎ Rises net (R k) (R (k + 1))
   step k l =

@@ -1,6 +1,5 @@
 pub mod InPart
 pub mod OneRound
-pub mod Homes
 pub mod Kept
 pub mod Counting
 pub mod RatioCounts

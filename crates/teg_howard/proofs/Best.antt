@@ -112,7 +112,7 @@ module _ (net : NetLists) (parts : List ℕ) (part : ℕ) (π : Policy) (marked 
       × (step_back net π j i < i)) → (d : List PlaceId) → IsPolicyCircuit net parts part π d → Counts net marked d → first_transition_of net d ≡ i → ⊥
   skip_none i none d c p e =
       let t = circuit_trail net parts part π d c in
-      let short = circuit_short net parts part π ok kept d c in
+      let short = circuit_short net parts part π ok d c in
       let w = none (length d) c.circuit.not_empty (omega arith) (subst (λ x. step_back net π (length d) x ≡ x) e t.1) in
       let up : i ≤ step_back net π w.0 i = subst (λ x. x ≤ step_back net π w.0 x) e (low_back d c p.0 w.0 w.1) in
       let down = w.2 in
@@ -121,7 +121,7 @@ module _ (net : NetLists) (parts : List ℕ) (part : ℕ) (π : Policy) (marked 
   pub skip_other : (i : ℕ) (f : FoundCircuit) → IsMember parts part i → IsFoundAt net π i f → (Passes net marked f.places.items → ⊥)
       → (d : List PlaceId) → IsPolicyCircuit net parts part π d → Counts net marked d → first_transition_of net d ≡ i → ⊥
   skip_other i f h c out d hd p e =
-      let same : d ≡ f.places.items = same_circuit net parts part π ok kept d f.places.items hd (found_circuit i f h c) (e ∙ sym c.begins) in
+      let same : d ≡ f.places.items = same_circuit net parts part π ok d f.places.items hd (found_circuit i f h c) (e ∙ sym c.begins) in
       out (subst (Passes net marked) same p.1)
 
   -- the circuit at i is not above the best
@@ -133,7 +133,7 @@ module _ (net : NetLists) (parts : List ℕ) (part : ℕ) (π : Policy) (marked 
       (λ (q : f.time * best.tokens ≤ best.time * f.tokens). q) (cases_lt (best.time * f.tokens) (f.time * best.tokens)) in
       let before = b.before in
       let is_f = λ (d : List PlaceId) (hd : IsPolicyCircuit net parts part π d)
-      (e : first_transition_of net d ≡ i). same_circuit net parts part π ok kept d f.places.items hd (found_circuit i f h c) (e ∙ sym c.begins) in
+      (e : first_transition_of net d ≡ i). same_circuit net parts part π ok d f.places.items hd (found_circuit i f h c) (e ∙ sym c.begins) in
       record {
         is = b.is;
         through = b.through;
@@ -172,7 +172,7 @@ module _ (net : NetLists) (parts : List ℕ) (part : ℕ) (π : Policy) (marked 
   best_take i f best h c through b above =
       let circuit = found_circuit i f h c in
       let is_f = λ (d : List PlaceId) (hd : IsPolicyCircuit net parts part π d)
-      (e : first_transition_of net d ≡ i). same_circuit net parts part π ok kept d f.places.items hd circuit (e ∙ sym c.begins) in
+      (e : first_transition_of net d ≡ i). same_circuit net parts part π ok d f.places.items hd circuit (e ∙ sym c.begins) in
       let less = λ (d : List PlaceId) (hd : IsPolicyCircuit net parts part π d) (p : Counts net marked d) (l : first_transition_of net d < i). less_than f best i b above d hd p l in
       let begins = c.begins in
       record {

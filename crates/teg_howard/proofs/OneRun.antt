@@ -4,7 +4,7 @@ use Rattle.std.specs.Prelude.{All, Any}
 use Rattle.std.proofs.lemmas.Bool.{cases_Bool, cases_lt, eqb-true}
 use Rattle.std.proofs.lemmas.List.Elements.{All-tail}
 use Rattle.teg_net.specs.declared.entries.PlaceId.{PlaceId}
-use Rattle.teg_net.specs.Nets.{NetLists, IsNet}
+use Rattle.teg_net.specs.Nets.{NetLists}
 use Rattle.teg_net.specs.Circuits.{IsLive, time_of, tokens_of, from_of}
 use Rattle.teg_net.specs.declared.rounds.Choice.{Choice}
 use Rattle.teg_net.specs.declared.rounds.Round.{Round}
@@ -110,15 +110,15 @@ module _ (net : NetLists) (parts : List ℕ) (part : ℕ) where
       }
 
   -- two rounds from one policy's best circuit
-  pub one_round_of : (live : IsLive net) (kept : IsNet net) (π σ : Policy) (ok : IsPolicy net parts part π)
+  pub one_round_of : (live : IsLive net) (π σ : Policy) (ok : IsPolicy net parts part π)
       (oks : IsPolicy net parts part σ) → ((t : ℕ) → IsMember parts part t → π t ≡ σ t) → (K L : ℕ → Type 0)
       → ((t : ℕ) → IsMember parts part t → K t → L t) → ((t : ℕ) → IsMember parts part t → L t → K t)
       → (r q : Round) → IsRound net parts part r → IsRound net parts part q → IsRoundOf net parts part π K r → IsRoundOf net parts part σ L q
       → Equal r q × ((t : ℕ) → IsMember parts part t → LeadsBack net (chosen r) t (first_transition_of net r.circuit.places.items))
-  one_round_of live kept π σ ok oks e K L to back_ r q hr hq h k =
+  one_round_of live π σ ok oks e K L to back_ r q hr hq h k =
       let turned = λ (t : ℕ) (i : IsMember parts part t). sym (e t i) in
       let best = best_kind net parts part π L K q.circuit.places.items back_ to (best_agrees σ π turned L q.circuit.places.items k.best) in
-      let circuit = one_best net parts part π ok kept K r.circuit.places.items q.circuit.places.items h.best best in
+      let circuit = one_best net parts part π ok K r.circuit.places.items q.circuit.places.items h.best best in
       let root : first_transition_of net r.circuit.places.items ≡ first_transition_of net q.circuit.places.items = ap (first_transition_of net) circuit in
       let routing = subst (λ x. IsRouting net parts part π x k.routing.0 (chosen q)) (sym root)
       (routing_agrees σ π oks ok turned (first_transition_of net q.circuit.places.items) k.routing.0 (chosen q) k.routing.1) in
@@ -126,9 +126,9 @@ module _ (net : NetLists) (parts : List ℕ) (part : ℕ) where
       let home = all_home net parts part π ok (first_transition_of net r.circuit.places.items) h.routing.0 (chosen r) h.routing.1 in
       (finish live r q hr hq circuit same home, home)
 
-  pub one_first : (live : IsLive net) (kept : IsNet net) (r q : Round) → IsFirstRound net parts part r → IsFirstRound net parts part q
+  pub one_first : (live : IsLive net) (r q : Round) → IsFirstRound net parts part r → IsFirstRound net parts part q
       → Equal r q × ((t : ℕ) → IsMember parts part t → LeadsBack net (chosen r) t (first_transition_of net r.circuit.places.items))
-  one_first live kept r q h k =
+  one_first live r q h k =
       let f : Policy = h.begins.0 in
       let g : Policy = k.begins.0 in
       let same = λ (t : ℕ) (i : IsMember parts part t).
@@ -137,14 +137,14 @@ module _ (net : NetLists) (parts : List ℕ) (part : ℕ) where
       let a = x.lowest (g t) y.enters in
       let b = y.lowest (f t) x.enters in
       same_id (f t) (g t) (omega arith) in
-      one_round_of live kept f g (λ t i. (h.begins.1 t i).enters) (λ t i. (k.begins.1 t i).enters) same (IsMember parts part)
+      one_round_of live f g (λ t i. (h.begins.1 t i).enters) (λ t i. (k.begins.1 t i).enters) same (IsMember parts part)
       (IsMember parts part) (λ t i y. y) (λ t i y. y) r q h.round k.round h.begins.2 k.begins.2
 
-  pub one_next : (live : IsLive net) (kept : IsNet net) (r r' s q : Round) → Equal r r' → IsRound net parts part r
+  pub one_next : (live : IsLive net) (r r' s q : Round) → Equal r r' → IsRound net parts part r
       → ((t : ℕ) → IsMember parts part t → LeadsBack net (chosen r) t (first_transition_of net r.circuit.places.items))
       → FollowsRound net parts part r s → FollowsRound net parts part r' q
       → Equal s q × ((t : ℕ) → IsMember parts part t → LeadsBack net (chosen s) t (first_transition_of net s.circuit.places.items))
-  one_next live kept r r' s q e hr home h k =
+  one_next live r r' s q e hr home h k =
       let a : ℕ = r.ratio.time in
       let b : ℕ = r.ratio.tokens in
       let f : Policy = h.better in
@@ -163,7 +163,7 @@ module _ (net : NetLists) (parts : List ℕ) (part : ℕ) where
       ⊎_elim
       (λ (x : IsRoundOf net parts part f (IsChanged parts part (chosen r) f) s).
       ⊎_elim
-      (λ (y : IsRoundOf net parts part g (IsChanged parts part (chosen r') g) q). one_round_of live kept f g ok ok' agree
+      (λ (y : IsRoundOf net parts part g (IsChanged parts part (chosen r') g) q). one_round_of live f g ok ok' agree
       (IsChanged parts part (chosen r) f) (IsChanged parts part (chosen r') g) to from s q h.round k.round x y)
       (λ (y : KeepsCircuit net parts part r' q g).
       absurd (y.none_new s.circuit.places.items (circuit_agrees net parts part f g agree s.circuit.places.items x.best.is)
@@ -188,28 +188,28 @@ module _ (net : NetLists) (parts : List ℕ) (part : ℕ) where
       h.next
 
   -- two runs agree as far as both go
-  pub runs_agree : (live : IsLive net) (kept : IsNet net) (rs qs : List Round) (d : Round) → IsRunTo net parts part rs → IsRunTo net parts part qs → (k : ℕ) → k < length rs → k < length qs
+  pub runs_agree : (live : IsLive net) (rs qs : List Round) (d : Round) → IsRunTo net parts part rs → IsRunTo net parts part qs → (k : ℕ) → k < length rs → k < length qs
       → Equal (get_or rs k d) (get_or qs k d) × ((t : ℕ) → IsMember parts part t
       → LeadsBack net (chosen (get_or rs k d)) t (first_transition_of net (get_or rs k d).circuit.places.items)) × IsRound net parts part (get_or rs k d)
-  runs_agree live kept rs qs d h j zero l m =
-      let x = one_first live kept (get_or rs 0 d) (get_or qs 0 d) (h.first d) (j.first d) in
+  runs_agree live rs qs d h j zero l m =
+      let x = one_first live (get_or rs 0 d) (get_or qs 0 d) (h.first d) (j.first d) in
       (x.0, x.1, (h.first d).round)
-  runs_agree live kept rs qs d h j (suc k) l m =
-      let before = runs_agree live kept rs qs d h j k (omega arith) (omega arith) in
+  runs_agree live rs qs d h j (suc k) l m =
+      let before = runs_agree live rs qs d h j k (omega arith) (omega arith) in
       let e : k + 1 ≡ suc k = omega arith in
       let f : FollowsRound net parts part (get_or rs k d) (get_or rs (suc k) d) = subst (λ n. FollowsRound net parts part (get_or rs k d) (get_or rs n d)) e (h.next k d (omega arith)) in
       let g : FollowsRound net parts part (get_or qs k d) (get_or qs (suc k) d) = subst (λ n. FollowsRound net parts part (get_or qs k d) (get_or qs n d)) e (j.next k d (omega arith)) in
-      let x = one_next live kept (get_or rs k d) (get_or qs k d) (get_or rs (suc k) d) (get_or qs (suc k) d) before.0 before.2 before.1 f g in
+      let x = one_next live (get_or rs k d) (get_or qs k d) (get_or rs (suc k) d) (get_or qs (suc k) d) before.0 before.2 before.1 f g in
       (x.0, x.1, f.round)
 
   -- a run cannot go on where another ends
-  not_longer : (live : IsLive net) (kept : IsNet net) (rs qs : List Round) (d : Round) → IsPolicyRun net parts part rs → IsPolicyRun net parts part qs → length qs ≤ length rs
-  not_longer live kept rs qs d h j =
+  not_longer : (live : IsLive net) (rs qs : List Round) (d : Round) → IsPolicyRun net parts part rs → IsPolicyRun net parts part qs → length qs ≤ length rs
+  not_longer live rs qs d h j =
       ⊎_elim
       (λ (l : length rs < length qs).
       let some = h.run.some in
       let k : ℕ = length rs - 1 in
-      let x = (runs_agree live kept rs qs d h.run j.run k (omega arith) (omega arith)).0 in
+      let x = (runs_agree live rs qs d h.run j.run k (omega arith) (omega arith)).0 in
       let up = (j.run.next k d (omega arith)).improvable in
       let i = up.2 in
       let r : Round = get_or rs k d in
@@ -223,9 +223,9 @@ module _ (net : NetLists) (parts : List ℕ) (part : ℕ) where
       (cases_lt (length rs) (length qs))
 
   -- a part has one policy run
-  pub one_run : (live : IsLive net) (kept : IsNet net) (rs qs : List Round) (d : Round) → IsPolicyRun net parts part rs
+  pub one_run : (live : IsLive net) (rs qs : List Round) (d : Round) → IsPolicyRun net parts part rs
       → IsPolicyRun net parts part qs → (length rs ≡ length qs) × ((k : ℕ) → k < length rs → Equal (get_or rs k d) (get_or qs k d))
-  one_run live kept rs qs d h j =
-      let a = not_longer live kept rs qs d h j in
-      let b = not_longer live kept qs rs d j h in
-      (omega arith, λ k l. (runs_agree live kept rs qs d h.run j.run k l (omega arith)).0)
+  one_run live rs qs d h j =
+      let a = not_longer live rs qs d h j in
+      let b = not_longer live qs rs d j h in
+      (omega arith, λ k l. (runs_agree live rs qs d h.run j.run k l (omega arith)).0)

@@ -6,7 +6,7 @@ use Rattle.std.proofs.lemmas.Bool.{cases_eq, cases_lt}
 use Rattle.std.proofs.lemmas.List.{take_more}
 use Rattle.std.proofs.Math.Seq.{take-length}
 use Rattle.teg_net.specs.declared.entries.PlaceId.{PlaceId}
-use Rattle.teg_net.specs.Nets.{NetLists, IsNet}
+use Rattle.teg_net.specs.Nets.{NetLists}
 use Rattle.teg_net.specs.Circuits.{time_of, tokens_of, from_of}
 use Rattle.teg_net.specs.Parts.{IsMember, to_of}
 use Rattle.teg_howard.specs.Policies.{Policy, IsPolicy, IsPolicyCircuit, IsBestCircuit, step_back, LeadsBack, IsRouted, JoinsNext, IsRouting, AreSums, Improves, IsImprovement, first_id, offer_of}
@@ -52,16 +52,16 @@ module _ (net : NetLists) (parts : List ℕ) (part : ℕ) where
   circuit_agrees π σ e c h = record { circuit = h.circuit; inside = h.inside; own = λ i d l. sym (e (to_of net (get_or c i d)) (h.inside i d l).to_member) ∙ h.own i d l }
 
   -- the best circuit is determined
-  pub one_best : (π : Policy) (ok : IsPolicy net parts part π) (kept : IsNet net) (Kind : ℕ → Type 0) (c d : List PlaceId)
+  pub one_best : (π : Policy) (ok : IsPolicy net parts part π) (Kind : ℕ → Type 0) (c d : List PlaceId)
       → IsBestCircuit net parts part π Kind c → IsBestCircuit net parts part π Kind d → c ≡ d
-  one_best π ok kept Kind c d h k =
+  one_best π ok Kind c d h k =
       let one = h.greatest d k.is k.through in
       let two = k.greatest c h.is h.through in
       let same : time_of net d * tokens_of net c ≡ time_of net c * tokens_of net d = omega arith in
       let low = h.lowest d k.is k.through same in
       let high = k.lowest c h.is h.through (sym same) in
       let root : first_transition_of net c ≡ first_transition_of net d = omega arith in
-      same_circuit net parts part π ok kept c d h.is k.is root
+      same_circuit net parts part π ok c d h.is k.is root
 
   -- the routing is determined
   one_join : (π : Policy) (s : ℕ) (joins : List PlaceId) (p q : PlaceId) → JoinsNext net parts part π s joins p → JoinsNext net parts part π s joins q → p ≡ q

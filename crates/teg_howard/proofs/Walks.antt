@@ -78,20 +78,7 @@ walked_below net π start m at backs time tokens n h low k some few e =
     (λ (q : k ≤ m). absurd (h.not_yet k some q e))
     (cases_lt m k)
 
-module _ (net : NetLists) (parts : List ℕ) (part : ℕ) (π : Policy) (ok : IsPolicy net parts part π) (kept : IsNet net) where
-  pub trail_sums : (m t : ℕ) → IsMember parts part t → (time_of net (trail net π m t) ≤ m * greatest_hold) × (tokens_of net (trail net π m t) ≤ m * 1000)
-  trail_sums zero t h = (omega arith, omega arith)
-  trail_sums (suc m) t h =
-      let rest = trail_sums m t h in
-      let p : PlaceId = π (step_back net π m t) in
-      let e = sum_by-cons (λ q. (place_at net q).hold) p (trail net π m t) in
-      let f = sum_by-cons (λ q. (place_at net q).tokens) p (trail net π m t) in
-      let inside = (ok (step_back net π m t) (back_member net parts part π ok m t h)).inside in
-      let is : IsPlaceOf net (place_at net p) = kept.each_place p.index no_place inside.in_range in
-      let hold = is.hold_in in
-      let token = is.tokens_in in
-      (omega (arith, rest.0), omega (arith, rest.1))
-
+module _ (net : NetLists) (parts : List ℕ) (part : ℕ) (π : Policy) (ok : IsPolicy net parts part π) where
   -- two circuits of a policy that begin at one transition are one
   pub same_circuit : (c d : List PlaceId) → IsPolicyCircuit net parts part π c → IsPolicyCircuit net parts part π d → first_transition_of net c ≡ first_transition_of net d → c ≡ d
   same_circuit c d hc hd e =
@@ -127,6 +114,20 @@ module _ (net : NetLists) (parts : List ℕ) (part : ℕ) (π : Policy) (ok : Is
       absurd (no_early net parts part π c hc ((n - j) + i) (omega arith) (omega arith) early))
       (λ (l : length c ≤ length parts). l)
       (cases_lt (length parts) (length c))
+
+module _ (net : NetLists) (parts : List ℕ) (part : ℕ) (π : Policy) (ok : IsPolicy net parts part π) (kept : IsNet net) where
+  pub trail_sums : (m t : ℕ) → IsMember parts part t → (time_of net (trail net π m t) ≤ m * greatest_hold) × (tokens_of net (trail net π m t) ≤ m * 1000)
+  trail_sums zero t h = (omega arith, omega arith)
+  trail_sums (suc m) t h =
+      let rest = trail_sums m t h in
+      let p : PlaceId = π (step_back net π m t) in
+      let e = sum_by-cons (λ q. (place_at net q).hold) p (trail net π m t) in
+      let f = sum_by-cons (λ q. (place_at net q).tokens) p (trail net π m t) in
+      let inside = (ok (step_back net π m t) (back_member net parts part π ok m t h)).inside in
+      let is : IsPlaceOf net (place_at net p) = kept.each_place p.index no_place inside.in_range in
+      let hold = is.hold_in in
+      let token = is.tokens_in in
+      (omega (arith, rest.0), omega (arith, rest.1))
 
 pub found_sums_in : (m n time tokens : ℕ) → time ≤ m * greatest_hold → tokens ≤ m * 1000 → m ≤ n → n ≤ 400 → (time ≤ greatest_circuit_time) × (tokens ≤ most_circuit_tokens)
 found_sums_in m n time tokens a b l k = (omega arith, omega arith)

@@ -1,7 +1,7 @@
 -- Policy runs are determined by the net and the part.
 use Rattle.std.specs.Prelude.{ℕ, ◌<◌, ◌≡◌, List, length, slice_index_or}
 use Rattle.teg_net.specs.declared.rounds.Round.{Round}
-use Rattle.teg_net.specs.Nets.{NetLists, IsNet}
+use Rattle.teg_net.specs.Nets.{NetLists}
 use Rattle.teg_net.specs.Circuits.{IsLive}
 use Rattle.teg_howard.specs.PolicyRounds.{chosen, potential, IsPolicyRun}
 
@@ -22,4 +22,4 @@ pub record AreSameRuns (rs qs : List Round) : Type 0 where
 -- a part of a live net has one policy run only
 abbrev pub PolicyRunsAreOne : Type 0
 PolicyRunsAreOne =
-    (net : NetLists) (part_of : List ℕ) (part : ℕ) (rs qs : List Round) → IsNet net → IsLive net → IsPolicyRun net part_of part rs → IsPolicyRun net part_of part qs → AreSameRuns rs qs
+    (net : NetLists) (part_of : List ℕ) (part : ℕ) (rs qs : List Round) → IsLive net → IsPolicyRun net part_of part rs → IsPolicyRun net part_of part qs → AreSameRuns rs qs

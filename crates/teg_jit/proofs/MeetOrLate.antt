@@ -4,7 +4,7 @@ use Rattle.std.specs.Prelude.{All}
 use Rattle.std.proofs.lemmas.Bool.{cases_lt}
 use Rattle.std.proofs.lemmas.Int.{ints}
 use Rattle.std.proofs.lemmas.List.{get_or_default}
-use Rattle.teg_net.specs.Nets.{NetLists, IsNet}
+use Rattle.teg_net.specs.Nets.{NetLists, HasEndsInRange}
 use Rattle.teg_net.specs.Circuits.{IsLive}
 use Rattle.teg_net.specs.ReadyDates.{start_date}
 use Rattle.teg_net.specs.Walks.{walk_time}
@@ -12,7 +12,7 @@ use Rattle.date_rows.specs.teg_model.Datings.{IsLeastUnder, system_of}
 use Rattle.due_laws.specs.MeetingDueDates.{inputs_at_zero}
 use Rattle.date_rows.proofs.teg_model_proofs.LeastOver.{least_over}
 use Rattle.date_rows.proofs.teg_model_proofs.LiveRanks.{live_is_ranked}
-use Rattle.date_rows.proofs.teg_model_proofs.OfNet.{net_ends, least_of, least_of_system}
+use Rattle.date_rows.proofs.teg_model_proofs.OfNet.{least_of, least_of_system}
 use Rattle.teg_due.specs.declared.rows.DueRow.{DueRow}
 use Rattle.teg_due.specs.RowRules.{IsDueOf}
 use Rattle.teg_jit.specs.PlansAndLateness.{IsLate, MeetOrLate}
@@ -33,16 +33,16 @@ more_kept x rows i l kept here m q in' low = ⊎_elim
     subst (λ (z : DueRow). KeepsRow x z) (sym row) here)
     (cases_lt m i)
 
-scan : (net : NetLists) (rows : List DueRow) (x : Dating) → IsNet net → IsLive net → IsDueOf net rows → IsLeastUnder net inputs_at_zero x → (j i : ℕ) → i + j ≡ length rows
+scan : (net : NetLists) (rows : List DueRow) (x : Dating) → HasEndsInRange net → IsLive net → IsDueOf net rows → IsLeastUnder net inputs_at_zero x → (j i : ℕ) → i + j ≡ length rows
     → ((m : ℕ) (q : DueRow) → m < length rows → m < i → KeepsRow x (get_or rows m q)) → All (KeepsRow x) rows ⊎ IsLate net rows
-scan net rows x ok live due h zero i e kept = inl (λ m q l. kept m q l (omega (arith, l)))
-scan net rows x ok live due h (suc j) i e kept =
+scan net rows x ends live due h zero i e kept = inl (λ m q l. kept m q l (omega (arith, l)))
+scan net rows x ends live due h (suc j) i e kept =
     let r : DueRow = get_or rows i no_row in
     let l : i < length rows = omega arith in
     let own = due.each i no_row l in
     let w : Reached net x r.transition.index r.number =
-    reached net x (rank_bound net) (rank_in net) (net_ends net ok)
-    (ranks_in net (net_ends net ok) live) h r.transition.index r.number own.in_range own.from_one in
+    reached net x (rank_bound net) (rank_in net) ends
+    (ranks_in net ends live) h r.transition.index r.number own.in_range own.from_one in
     let date : ℕ = start_date net w.from w.number + walk_time net w.steps in
     ⊎_elim
     (λ (late : r.date < date).
@@ -64,15 +64,15 @@ scan net rows x ok live due h (suc j) i e kept =
     }))
     (λ (low : date ≤ r.date).
     let here : KeepsRow x r = rw w.is (omega (arith, ints)) in
-    scan net rows x ok live due h j (suc i) (omega arith) (more_kept x rows i l kept here))
+    scan net rows x ends live due h j (suc i) (omega arith) (more_kept x rows i l kept here))
     (cases_lt r.date date)
 
 pub meet_or_late : MeetOrLate
-meet_or_late net rows ok live due =
-    let ranked = live_is_ranked net (net_ends net ok) live in
+meet_or_late net rows ends live due =
+    let ranked = live_is_ranked net ends live in
     let x : Dating = least_over (system_of net inputs_at_zero) ranked.0 ranked.1 in
     let h : IsLeastUnder net inputs_at_zero x = least_of_system net inputs_at_zero x (least_of net inputs_at_zero ranked.0 ranked.1 ranked.2) in
     ⊎_elim
     (λ (kept : All (KeepsRow x) rows). inl (all_kept net x rows h kept))
     (λ (late : IsLate net rows). inr late)
-    (scan net rows x ok live due h (length rows) 0 (omega arith) (λ m q l low. absurd (omega (arith, low))))
+    (scan net rows x ends live due h (length rows) 0 (omega arith) (λ m q l low. absurd (omega (arith, low))))

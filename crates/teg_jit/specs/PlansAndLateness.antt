@@ -6,7 +6,7 @@ use Rattle.date_rows.specs.dioid.Dates.{delayed}
 use Rattle.teg_net.specs.declared.entries.TransitionId.{TransitionId}
 use Rattle.teg_net.specs.declared.walks.Step.{Step}
 use Rattle.teg_net.specs.declared.walks.Walk.{Walk}
-use Rattle.teg_net.specs.Nets.{NetLists, IsNet}
+use Rattle.teg_net.specs.Nets.{NetLists, IsNet, HasEndsInRange}
 use Rattle.teg_net.specs.Circuits.{IsLive}
 use Rattle.teg_net.specs.ReadyDates.{start_date}
 use Rattle.teg_net.specs.Walks.{Walks, walk_time}
@@ -54,4 +54,4 @@ pub record IsLate (net : NetLists) (rows : List DueRow) : Type 0 where
 
 -- inputs at 0 meet the due dates, or some row is late
 abbrev pub MeetOrLate : Type 0
-MeetOrLate = (net : NetLists) (rows : List DueRow) → IsNet net → IsLive net → IsDueOf net rows → InputsMeet net (due_in rows) inputs_at_zero ⊎ IsLate net rows
+MeetOrLate = (net : NetLists) (rows : List DueRow) → HasEndsInRange net → IsLive net → IsDueOf net rows → InputsMeet net (due_in rows) inputs_at_zero ⊎ IsLate net rows

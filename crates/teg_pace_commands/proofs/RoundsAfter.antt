@@ -49,7 +49,7 @@ alike one net part_of part NoCircuit NoCircuit kept live tells says ends last = 
 alike one net part_of part NoCircuit (Best q d w) kept live none best ends last = absurd (none d.places.items best.circuit best.inside)
 alike one net part_of part (Best r c v) NoCircuit kept live best none ends last = absurd (none c.places.items best.circuit best.inside)
 alike one net part_of part (Best r c v) (Best q d w) kept live tells says ends last =
-    last_alike ends.0 last.0 r q c d v w ends.1.run.some (one net part_of part ends.0 last.0 kept live ends.1 last.1) ends.2 last.2
+    last_alike ends.0 last.0 r q c d v w ends.1.run.some (one net part_of part ends.0 last.0 live ends.1 last.1) ends.2 last.2
 
 -- the answers of all parts
 

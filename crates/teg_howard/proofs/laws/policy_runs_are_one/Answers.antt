@@ -1,7 +1,7 @@
 use Rattle.std.proofs.Common.{ℕ, ◌≡◌, List, [], ◌∷◌, length, get_or, ap, arith}
 use Rattle.std.specs.Prelude.{ℤ}
 use Rattle.teg_net.specs.declared.rounds.Round.{Round}
-use Rattle.teg_net.specs.Nets.{NetLists, IsNet}
+use Rattle.teg_net.specs.Nets.{NetLists}
 use Rattle.teg_net.specs.Circuits.{IsLive}
 use Rattle.teg_howard.specs.Policies.{Policy}
 use Rattle.teg_net.specs.Parts.{ListsMembers}
@@ -22,16 +22,16 @@ same_rounds part_of part r q h k e = record {
   ratio = λ i. record { time = e.time i; tokens = e.tokens i };
 }
 
-same_count : (net : NetLists) (part_of : List ℕ) (part : ℕ) → IsLive net → IsNet net → (rs qs : List Round) → IsPolicyRun net part_of part rs → IsPolicyRun net part_of part qs → length rs ≡ length qs
-same_count net part_of part live kept [] qs h k = absurd (omega (arith, h.run.some))
-same_count net part_of part live kept (r ∷ rs) qs h k = (one_run net part_of part live kept (r ∷ rs) qs r h k).0
+same_count : (net : NetLists) (part_of : List ℕ) (part : ℕ) → IsLive net → (rs qs : List Round) → IsPolicyRun net part_of part rs → IsPolicyRun net part_of part qs → length rs ≡ length qs
+same_count net part_of part live [] qs h k = absurd (omega (arith, h.run.some))
+same_count net part_of part live (r ∷ rs) qs h k = (one_run net part_of part live (r ∷ rs) qs r h k).0
 
 pub returns : goal.returns
-returns c = λ net part_of part rs qs kept live h k.
+returns c = λ net part_of part rs qs live h k.
     record {
-      count = same_count net part_of part live kept rs qs h k;
+      count = same_count net part_of part live rs qs h k;
       rounds = λ i d l.
-          let one = one_run net part_of part live kept rs qs d h k in
+          let one = one_run net part_of part live rs qs d h k in
           same_rounds part_of part (get_or rs i d) (get_or qs i d) (each_round net part_of part rs h.run i d l).members
           (each_round net part_of part qs k.run i d (omega (arith, l, one.0))).members (one.1 i l);
     }
