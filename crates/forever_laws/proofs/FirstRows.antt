@@ -3,10 +3,9 @@ use Rattle.std.proofs.Common.{ℕ, zero, suc, ◌+◌, ◌*◌, ◌<◌, ◌≤�
 use Rattle.std.specs.Prelude.{All, slice_get}
 use Rattle.std.proofs.lemmas.List.Elements.{All-cons}
 use Rattle.teg_settle.specs.dioid.declared.dates.Date.{Date}
-use Rattle.teg_net.specs.declared.entries.Place.{Place}
 use Rattle.teg_net.specs.Limits.{greatest_input_date}
 use Rattle.teg_net.specs.Nets.{NetLists, HasEndsInRange}
-use Rattle.teg_net.proofs.Bounds.{some_most}
+use Rattle.teg_net.proofs.Bounds.{hold_bound, holds_bounded, token_bound, tokens_bounded}
 use Rattle.teg_net.specs.Circuits.{IsLive}
 use Rattle.teg_settle.specs.teg_model.Datings.{IsLeastUnder}
 use Rattle.due_laws.specs.MeetingDueDates.{inputs_at_zero}
@@ -35,11 +34,9 @@ late_or_none net ends live x least r row =
     let n : ℕ = length net.transitions in
     let t : ℕ = r.transition.index in
     let z : ℕ → ℕ = least_number net ends live x least t in
-    let longest = some_most (λ (p : Place). p.hold) net.places in
-    let fullest = some_most (λ (p : Place). p.tokens) net.places in
-    let hold : ℕ = longest.0 in
-    let most : ℕ = fullest.0 + 1 in
-    let marks : All (λ p. p.tokens ≤ most) net.places = λ i d l. (let few : (get_or net.places i d).tokens ≤ fullest.0 = fullest.1 i d l in omega arith) in
+    let hold : ℕ = hold_bound net in
+    let most : ℕ = token_bound net + 1 in
+    let marks : All (λ p. p.tokens ≤ most) net.places = λ i d l. (let few : (get_or net.places i d).tokens ≤ token_bound net = tokens_bounded net i d l in omega arith) in
     let bound : ℕ = flat_bound (n * most) most r.every (length r.dates) + steep_bound (n * most)
     (n * most) (n * r.every * hold) r.every greatest_input_date in
     ⊎_elim
@@ -47,7 +44,7 @@ late_or_none net ends live x least r row =
     let soon : LateWithin z (due_number r) bound =
     late_soon (unrolled net) n (n * most) (n * most)
     (n * r.every * hold) most r.every greatest_input_date r.gap (length r.dates) (least_number net ends live x least) (due_number r)
-    (setting net ends live x least r row hold most (omega arith) longest.1 marks) t k row.in_range h.from_one (late_to net ends live x least r k due date h) in
+    (setting net ends live x least r row hold most (omega arith) (holds_bounded net) marks) t k row.in_range h.from_one (late_to net ends live x least r k due date h) in
     let kept = none soon.number soon.some soon.within in
     let late = soon.late in
     absurd (omega arith)))

@@ -11,6 +11,7 @@ use Rattle.teg_net.specs.declared.entries.PlaceId.{PlaceId}
 use Rattle.teg_net.specs.Limits.{most_place_tokens, greatest_hold, greatest_input_date}
 use Rattle.teg_net.specs.Nets.{NetLists, IsNet, HasEndsInRange}
 use Rattle.teg_net.specs.Circuits.{no_place, place_at, IsPathBetween, IsCircuit, IsLive, time_of, tokens_of}
+use Rattle.teg_net.proofs.NetRules.{holds_within, tokens_within}
 use Rattle.teg_settle.specs.teg_model.Datings.{IsLeastUnder, extended_places}
 use Rattle.teg_settle.proofs.teg_model_proofs.OfNet.{net_ends, all_extended_in}
 use Rattle.teg_settle.proofs.teg_model_proofs.LiveRanks.{live_ranks}
@@ -34,13 +35,6 @@ marks_in net most some all id l = all_extended_in net (λ p. p.tokens ≤ most) 
 
 holds_in : (net : NetLists) (hold : ℕ) → All (λ p. p.hold ≤ hold) net.places → (id : PlaceId) → id.index < length (extended_places net) → (place_at (unrolled net) id).hold ≤ hold
 holds_in net hold all id l = all_extended_in net (λ p. p.hold ≤ hold) all (λ t m. omega arith) id.index no_place l
-
--- the limits of every net
-marks_low : (net : NetLists) → IsNet net → All (λ p. p.tokens ≤ most_place_tokens) net.places
-marks_low net ok i d l = (ok.each_place i d l).tokens_in
-
-holds_low : (net : NetLists) → IsNet net → All (λ p. p.hold ≤ greatest_hold) net.places
-holds_low net ok i d l = (ok.each_place i d l).hold_in
 
 -- with its implicit places the net is still live
 pub live_in : (net : NetLists) → IsLive net → (ps : List PlaceId) → IsCircuit (unrolled net) ps → 1 ≤ tokens_of (unrolled net) ps
@@ -204,7 +198,7 @@ late_is_soon net ok live x least r row k due date h =
     let late = late_to net ends live x least r k due date h.late in
     let soon = late_soon (unrolled net) n (n * most_place_tokens) (n * most_place_tokens)
     (n * r.every * greatest_hold) most_place_tokens r.every greatest_input_date r.gap (length r.dates) (least_number net ends live x least) (due_number r)
-    (setting net ends live x least r row greatest_hold most_place_tokens (omega arith) (holds_low net ok) (marks_low net ok)) t k row.in_range h.late.from_one late in
+    (setting net ends live x least r row greatest_hold most_place_tokens (omega arith) (holds_within net ok) (tokens_within net ok)) t k row.in_range h.late.from_one late in
     let within = soon.within in
     let low = bound_low n r.every (length r.dates) ok.few_transitions row.goes_on.every_in row.few in
     let first = h.first soon.number (due_number r soon.number) (least_number net ends live x least t soon.number) (late_from net ends live x least r row soon.number soon.some soon.late) in

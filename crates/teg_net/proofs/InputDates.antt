@@ -168,12 +168,15 @@ IsInputDate-input_date net t k ok one = record {
       (has_list net.inputs t);
 }
 
-pub date_le : (dates : List ℕ) (i : ℕ) → All (λ d. d ≤ greatest_input_date) dates → get_or dates i 0 ≤ greatest_input_date
-date_le dates i h =
+pub date_within : (dates : List ℕ) (i most : ℕ) → All (λ d. d ≤ most) dates → get_or dates i 0 ≤ most
+date_within dates i most h =
     ⊎_elim
     (λ (l : i < length dates). h i 0 l)
     (λ (l : length dates ≤ i). let is : get_or dates i 0 ≡ 0 = get_or_past dates i 0 l in omega arith)
     (cases_lt i (length dates))
+
+pub date_le : (dates : List ℕ) (i : ℕ) → All (λ d. d ≤ greatest_input_date) dates → get_or dates i 0 ≤ greatest_input_date
+date_le dates i h = date_within dates i greatest_input_date h
 
 past-most : (dates : List ℕ) (o : Option Again) (k : ℕ) → All (λ d. d ≤ greatest_input_date) dates → EndsOrGoesOn dates o
     → length dates < k → IfSome (list_date_past dates o k) (λ d. d ≤ greatest_input_date * (k + 1))

@@ -4,7 +4,7 @@ use Rattle.std.specs.Prelude.{All, AllPairs, IsTrue}
 use Rattle.teg_net.specs.declared.entries.Transition.{Transition}
 use Rattle.teg_net.specs.declared.entries.Place.{Place}
 use Rattle.teg_net.specs.declared.entries.InputList.{InputList}
-use Rattle.teg_net.specs.Limits.{most_transitions, most_places}
+use Rattle.teg_net.specs.Limits.{most_transitions, most_places, greatest_hold, most_place_tokens}
 use Rattle.teg_net.specs.Names.{is_name}
 use Rattle.teg_net.specs.Nets.{NetLists, IsPlaceOf, IsInputOf, IsNet, HasEndsInRange, HasListsByRule, HasRisingLists, HasListsOfInputs, lists_of, transitions_alone}
 
@@ -73,3 +73,10 @@ lists_rise net ok i d l = (ok.each_input i d l).never_falls
 -- and each list is that of one input
 pub lists_of_inputs : (net : NetLists) → IsNet net → HasListsOfInputs net
 lists_of_inputs net ok = record { is_input = λ i d l. (ok.each_input i d l).is_input; one_list = ok.one_list }
+
+-- no place has a longer hold than the limit, or more tokens
+pub holds_within : (net : NetLists) → IsNet net → All (λ p. p.hold ≤ greatest_hold) net.places
+holds_within net ok i d l = (ok.each_place i d l).hold_in
+
+pub tokens_within : (net : NetLists) → IsNet net → All (λ p. p.tokens ≤ most_place_tokens) net.places
+tokens_within net ok i d l = (ok.each_place i d l).tokens_in

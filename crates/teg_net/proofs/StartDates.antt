@@ -9,7 +9,7 @@ use Rattle.teg_net.specs.declared.entries.Place.{Place}
 use Rattle.teg_net.specs.Limits.{greatest_input_date}
 use Rattle.teg_net.specs.Nets.{NetLists, IsNet}
 use Rattle.teg_net.specs.ReadyDates.{ready_date, takes_initial, ready_for, start_date, IsStartDate}
-use Rattle.teg_net.proofs.InputDates.{date_le}
+use Rattle.teg_net.proofs.InputDates.{date_within}
 
 -- the latest of a and the dates of the entries
 abbrev latest : {X : Type 0} (h : X → ℕ) → ℕ → List X → ℕ
@@ -72,13 +72,17 @@ IsStartDate-start_date net t k = record {
       (latest_is (ready_for t k) 0 net.places);
 }
 
--- a ready date keeps the limit of dates
-pub start_date-most : (net : NetLists) (t k : ℕ) → IsNet net → start_date net t k ≤ greatest_input_date
-start_date-most net t k ok =
+-- a start is no later than ready dates may be
+pub start_date-within : (net : NetLists) (t k most : ℕ) → All (λ p. All (λ d. d ≤ most) p.ready) net.places → start_date net t k ≤ most
+start_date-within net t k most all =
     ⊎_elim
     (λ (none : start_date net t k ≡ 0). omega arith)
     (λ (one : Any (λ p. (p.to.index ≡ t) × (k ≤ p.tokens) × (ready_date p k ≡ start_date net t k)) net.places).
     let (i, p, l, r, (into, few, e)) = one in
-    let most : ready_date p k ≤ greatest_input_date = date_le p.ready (k - 1) (subst (λ q. All (λ d. d ≤ greatest_input_date) q.ready) r (ok.each_place i p l).ready_in) in
-    omega (arith, most, e))
+    let low : ready_date p k ≤ most = date_within p.ready (k - 1) most (subst (λ q. All (λ d. d ≤ most) q.ready) r (all i p l)) in
+    omega (arith, low, e))
     (IsStartDate-start_date net t k).reached
+
+-- and keeps the limit of dates
+pub start_date-most : (net : NetLists) (t k : ℕ) → IsNet net → start_date net t k ≤ greatest_input_date
+start_date-most net t k ok = start_date-within net t k greatest_input_date (λ i d l. (ok.each_place i d l).ready_in)
