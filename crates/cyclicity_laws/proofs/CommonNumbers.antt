@@ -6,6 +6,7 @@ use Rattle.std.proofs.lemmas.Nat.Gcd.{dvd_refl}
 use Rattle.std.proofs.Math.Nat.{mul-le-mul_right, dvd-mul_left_of_dvd}
 use Rattle.bound_laws.specs.teg_net.Limits.{most_place_tokens}
 use Rattle.bound_laws.specs.teg_net.Circuits.{tokens_of}
+use Rattle.bound_laws.proofs.teg_net_proofs.NetRules.{lists_by_rule, lists_of_inputs, lists_rise, net_ends, tokens_within}
 use Rattle.bound_laws.specs.Critical.{IsCommon}
 use Rattle.bound_laws.specs.PastTheBound.{factorial}
 use Rattle.periodic_laws.specs.LinearSystem.{LeastDatingsRepeat}
@@ -40,7 +41,7 @@ pub common_by_parts_exist : CommonByPartsExist
 common_by_parts_exist net ok live a b = common_by_parts net a b (common_number net) is where
   is : IsCommon net a b (common_number net)
   is c ps h =
-      let w = in_factorial (tokens_of net ps) (length net.transitions * most_place_tokens) (some_of (tokens_of net ps) (live ps h.circuit)) (tokens_round net ps ok h.circuit) in
+      let w = in_factorial (tokens_of net ps) (length net.transitions * most_place_tokens) (some_of (tokens_of net ps) (live ps h.circuit)) (tokens_round net most_place_tokens ps (net_ends net ok) (tokens_within net ok) h.circuit) in
       (ps, h, w.0, w.1)
 
 pub common_towards_exist : CommonTowardsExist
@@ -61,5 +62,5 @@ common_towards_exist net ok live t a b = (
 
 pub common_of_nets_exist : LeastDatingsRepeat → CommonOfNetsExist
 common_of_nets_exist repeat net ok live x least t l endless =
-    let w = slopes_exist repeat net ok live x least t l endless in
+    let w = slopes_exist repeat net (net_ends net ok) (lists_of_inputs net ok) (lists_rise net ok) (lists_by_rule net ok) live x least t l endless in
     (w.0, w.1, w.2, w.3, λ some. (common_towards_exist net ok live t w.0 w.1).1)

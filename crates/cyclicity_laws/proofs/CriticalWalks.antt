@@ -4,15 +4,14 @@ use Rattle.std.specs.Prelude.{sum_by}
 use Rattle.std.proofs.lemmas.Bool.{cases_lt}
 use Rattle.std.proofs.Math.Nat.{mul-le-mul_left, mul-le-mul_right}
 use Rattle.bound_laws.specs.teg_net.declared.entries.PlaceId.{PlaceId}
-use Rattle.bound_laws.specs.teg_net.Limits.{greatest_hold, most_place_tokens}
-use Rattle.bound_laws.specs.teg_net.Nets.{NetLists, IsNet}
+use Rattle.bound_laws.specs.teg_net.Nets.{NetLists, HasEndsInRange}
 use Rattle.bound_laws.specs.teg_net.Circuits.{no_place, place_at, IsPathBetween, time_of, tokens_of}
 use Rattle.bound_laws.proofs.teg_net_proofs.PathLaws.{IsPathBetween-append}
 use Rattle.bound_laws.proofs.teg_loops_proofs.Taking.{loop_sum, by_loops, sum_most}
 use Rattle.bound_laws.proofs.teg_loops_proofs.Visits.{Meets, joined_meets, still_meets}
 use Rattle.bound_laws.specs.Critical.{IsCriticalAt}
 use Rattle.slope_laws.specs.teg_loops.Loops.{IsCircuitTowards}
-use Rattle.bound_laws.proofs.teg_net_proofs.NetRules.{net_ends}
+use Rattle.bound_laws.proofs.teg_net_proofs.Bounds.{hold_bound, holds_bounded, token_bound, tokens_bounded}
 use Rattle.bound_laws.proofs.teg_loops_proofs.Ends.{ends_below}
 use Rattle.slope_laws.proofs.WalkPaths.{tokens_round}
 
@@ -25,10 +24,10 @@ pub record MeetsCritical (net : NetLists) (a b t : ℕ) (ps : List PlaceId) : Ty
 
 -- the tokens and the time that a path without loops, or a circuit, has at most
 abbrev pub most_tokens : NetLists → ℕ
-most_tokens net = length net.transitions * most_place_tokens
+most_tokens net = length net.transitions * token_bound net
 
 abbrev pub most_time : NetLists → ℕ
-most_time net = length net.transitions * greatest_hold
+most_time net = length net.transitions * hold_bound net
 
 -- so many circuits stand in the path, each of which loses at least 1
 pub record LosesMuch (net : NetLists) (a b : ℕ) (ps : List PlaceId) : Type 0 where
@@ -44,12 +43,12 @@ loses_more b C a P t1 t2 k1 k2 time tokens q e f h l m w =
     let three : C * (q + 1) ≡ C * q + C = grind arith in
     (omega (arith, one, two, h, m), omega (arith, three, l, w, f))
 
-pub meets_or_loses : (net : NetLists) (a b : ℕ) → IsNet net → (j t : ℕ) → ((ps : List PlaceId) → IsCircuitTowards net t ps → b * time_of net ps ≤ a * tokens_of net ps)
+pub meets_or_loses : (net : NetLists) (a b : ℕ) → HasEndsInRange net → (j t : ℕ) → ((ps : List PlaceId) → IsCircuitTowards net t ps → b * time_of net ps ≤ a * tokens_of net ps)
     → t < length net.transitions → (ps : List PlaceId) → IsPathBetween net j ps t → MeetsCritical net a b t ps ⊎ LosesMuch net a b ps
-meets_or_loses net a b ok j t greatest lt ps h = by_loops net (length net.transitions) j t (λ qs. MeetsCritical net a b t qs ⊎ LosesMuch net a b qs) (ends_below net (net_ends net ok)) lt
+meets_or_loses net a b ends j t greatest lt ps h = by_loops net (length net.transitions) j t (λ qs. MeetsCritical net a b t qs ⊎ LosesMuch net a b qs) (ends_below net ends) lt
     (λ qs g l.
-    let few : tokens_of net qs ≤ most_tokens net = short (λ p. (place_at net p).tokens) most_place_tokens qs g l (λ id m. (ok.each_place id.index no_place m).tokens_in) in
-    let soon : time_of net qs ≤ most_time net = short (λ p. (place_at net p).hold) greatest_hold qs g l (λ id m. (ok.each_place id.index no_place m).hold_in) in
+    let few : tokens_of net qs ≤ most_tokens net = short (λ p. (place_at net p).tokens) (token_bound net) qs g l (λ id m. tokens_bounded net id.index no_place m) in
+    let soon : time_of net qs ≤ most_time net = short (λ p. (place_at net p).hold) (hold_bound net) qs g l (λ id m. holds_bounded net id.index no_place m) in
     let time : b * time_of net qs ≤ b * most_time net = mul-le-mul_left b soon in
     inr (record { loops = 0; loss = omega (arith, time); few = omega (arith, few) }))
     (λ qs g loop old. ⊎_elim
@@ -67,7 +66,7 @@ meets_or_loses net a b ok j t greatest lt ps h = by_loops net (length net.transi
     (λ (less : b * time_of net loop.loop < a * tokens_of net loop.loop).
     let both = loses_more b (most_tokens net) a (most_time net) (time_of net (loop.before ++ loop.after)) (time_of net loop.loop)
     (tokens_of net (loop.before ++ loop.after)) (tokens_of net loop.loop) (time_of net qs) (tokens_of net qs) o.loops
-    (loop_sum (λ p. (place_at net p).hold) net j t qs loop) (loop_sum (λ p. (place_at net p).tokens) net j t qs loop) o.loss o.few less (tokens_round net loop.loop ok loop.circuit) in
+    (loop_sum (λ p. (place_at net p).hold) net j t qs loop) (loop_sum (λ p. (place_at net p).tokens) net j t qs loop) o.loss o.few less (tokens_round net (token_bound net) loop.loop ends (tokens_bounded net) loop.circuit) in
     inr (record { loops = o.loops + 1; loss = both.0; few = both.1 }))
     (λ (more : a * tokens_of net loop.loop ≤ b * time_of net loop.loop).
     inl (record {

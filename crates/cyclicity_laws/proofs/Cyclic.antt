@@ -6,7 +6,7 @@ use Rattle.bound_laws.specs.dioid.declared.dates.Date.TheVariants.{Early, At, Ne
 use Rattle.bound_laws.specs.dioid.Dates.{move}
 use Rattle.periodic_laws.proofs.dioid_proofs.DateOrder.{at_most_is}
 use Rattle.periodic_laws.proofs.dioid_proofs.Moves.{delayed_is_move}
-use Rattle.bound_laws.specs.teg_net.Nets.{NetLists, IsNet}
+use Rattle.bound_laws.specs.teg_net.Nets.{NetLists, HasEndsInRange, HasListsOfInputs, HasRisingLists, HasListsByRule}
 use Rattle.bound_laws.specs.teg_net.Circuits.{IsPathBetween, IsLive, time_of}
 use Rattle.bound_laws.specs.teg_model.Datings.{IsLeastDating}
 use Rattle.bound_laws.specs.settled_laws.SettledForms.{RepeatsAfter}
@@ -16,7 +16,7 @@ use Rattle.slope_laws.specs.Slopes.{IsSlope}
 use Rattle.slope_laws.proofs.EndedLists.{dates_of_list}
 use Rattle.slope_laws.proofs.FormSlopes.{forms_have_slopes}
 use Rattle.slope_laws.proofs.Nevers.{nevers_come_from_ended_lists}
-use Rattle.bound_laws.proofs.teg_net_proofs.NetRules.{net_ends}
+use Rattle.bound_laws.proofs.teg_net_proofs.NetRules.{lists_by_rule, lists_of_inputs, lists_rise, net_ends}
 use Rattle.bound_laws.proofs.teg_loops_proofs.Ends.{ends_below}
 use Rattle.bound_laws.proofs.Onward.{start_in}
 use Rattle.bound_laws.proofs.Shortest.{least_divides}
@@ -59,8 +59,8 @@ never_or Never = inl refl
 
 -- ---- the period of a net
 
-module _ (repeat : LeastDatingsRepeat) (net : NetLists) (ok : IsNet net) (live : IsLive net) (x : ℕ → ℕ → Date) (least : IsLeastDating net x)
-    (L : ℕ) (one : 1 ≤ L) (common : IsCommonOfNet net L) where
+module _ (repeat : LeastDatingsRepeat) (net : NetLists) (ends : HasEndsInRange net) (inputs : HasListsOfInputs net) (rising : HasRisingLists net) (rules : HasListsByRule net)
+    (live : IsLive net) (x : ℕ → ℕ → Date) (least : IsLeastDating net x) (L : ℕ) (one : 1 ≤ L) (common : IsCommonOfNet net L) where
   abbrev Goes : ℕ → ℕ → ℤ → Type 0
   Goes t after z = (k : ℕ) → after < k → x t (k + L) ≡ move z (x t k)
 
@@ -68,15 +68,15 @@ module _ (repeat : LeastDatingsRepeat) (net : NetLists) (ok : IsNet net) (live :
   ended : (t : ℕ) → t < length net.transitions → x t (repeats_past net + 1) ≡ Never → Goes t (repeats_past net) (pos 0)
   ended t l e k past =
       let begin : ℕ = repeats_past net + 1 in
-      let by = nevers_come_from_ended_lists net ok live x least t l in
+      let by = nevers_come_from_ended_lists net ends inputs rules live x least t l in
       let is : (j : ℕ) → repeats_past net < j → x t j ≡ Never = λ j m. (let f : begin + (j - begin) ≡ j = omega (arith, m) in sym (ap (x t) f) ∙ by.on begin (j - begin) (omega arith) e) in
       is (k + L) (omega (arith, past)) ∙ ap (move (pos 0)) (sym (is k past))
 
   endless : (t : ℕ) → t < length net.transitions → x t (repeats_past net + 1) ≢ Never → IsEndless net t
   endless t l not list w =
-      let r = repeat net ok live x least in
+      let r = repeat net ends rising rules live x least in
       let some = r.at_least_one in
-      let h = forms_have_slopes net ok live x least t (repeats_past net) (repeats_in net) (repeats_by net t) l some (λ k past. r.again t k l past) in
+      let h = forms_have_slopes net ends inputs rules live x least t (repeats_past net) (repeats_in net) (repeats_by net t) l some (λ k past. r.again t k l past) in
       not (h.never.1 (list, w) (repeats_past net + 1) (omega arith) (omega (arith, some)))
 
   each : (t : ℕ) → t < length net.transitions → (after : ℕ) × ((z : ℤ) × Goes t after z)
@@ -85,7 +85,7 @@ module _ (repeat : LeastDatingsRepeat) (net : NetLists) (ok : IsNet net) (live :
       (λ (e : x t (repeats_past net + 1) ≢ Never).
       let none = endless t l e in
       let c = common t l none in
-      let r : RepeatBy (x t) c.0 c.1 L = repeat_by_parts repeat net ok live x least t l none c.0 c.1 c.2 c.3 L one c.4 in
+      let r : RepeatBy (x t) c.0 c.1 L = repeat_by_parts repeat net ends inputs rising rules live x least t l none c.0 c.1 c.2 c.3 L one c.4 in
       (r.after, (pos r.step, λ k past. r.again k past ∙ delayed_is_move r.step (x t k))))
       (never_or (x t (repeats_past net + 1)))
 
@@ -96,8 +96,8 @@ module _ (repeat : LeastDatingsRepeat) (net : NetLists) (ok : IsNet net) (live :
       (w.0, s.0, record { at_least_one = one; again = λ t k l past. s.1 t l k past })
 
 pub periods_divide_of_nets : LeastDatingsRepeat → PeriodsDivideOfNets
-periods_divide_of_nets repeat net ok live x least f h L one common =
-    let w = all repeat net ok live x least L one common in
+periods_divide_of_nets repeat net ends inputs rising rules live x least f h L one common =
+    let w = all repeat net ends inputs rising rules live x least L one common in
     least_divides (length net.transitions) x f w.0 L w.1 h w.2
 
 -- ---- a strongly connected net
@@ -122,7 +122,7 @@ module _ (net : NetLists) (a b : ℕ) (s : IsStronglyConnected net a b) where
 
 pub periods_divide : LeastDatingsRepeat → PeriodsDivideByParts
 periods_divide repeat net a b s x least f h L one common =
-    periods_divide_of_nets repeat net s.net_rules s.live x least f h L one
+    periods_divide_of_nets repeat net (net_ends net s.net_rules) (lists_of_inputs net s.net_rules) (lists_rise net s.net_rules) (lists_by_rule net s.net_rules) s.live x least f h L one
     (λ t l none. (
       a,
       b,
@@ -137,4 +137,4 @@ periods_divide repeat net a b s x least f h L one common =
 -- the slope of each transition is the greatest ratio
 pub grow_by_cycle_time : LeastDatingsRepeat → DatesGrowByCycleTime
 grow_by_cycle_time repeat net a b s x least t l =
-    dates_grow repeat net s.net_rules s.live x least t l (none_ends net a b s t) a b s.ratio.some (slope net a b s t l)
+    dates_grow repeat net (net_ends net s.net_rules) (lists_of_inputs net s.net_rules) (lists_rise net s.net_rules) (lists_by_rule net s.net_rules) s.live x least t l (none_ends net a b s t) a b s.ratio.some (slope net a b s t l)

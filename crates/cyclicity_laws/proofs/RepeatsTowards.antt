@@ -9,12 +9,13 @@ use Rattle.bound_laws.specs.dioid.declared.dates.Date.{Date}
 use Rattle.bound_laws.specs.dioid.declared.dates.Date.TheVariants.{At}
 use Rattle.bound_laws.specs.dioid.Dates.{IsAtMostDate, delayed}
 use Rattle.bound_laws.specs.teg_net.declared.entries.PlaceId.{PlaceId}
-use Rattle.bound_laws.specs.teg_net.Limits.{greatest_input_date, greatest_every, most_input_dates}
-use Rattle.bound_laws.specs.teg_net.Nets.{NetLists, IsNet}
+use Rattle.bound_laws.specs.teg_net.Limits.{greatest_every, most_input_dates}
+use Rattle.bound_laws.specs.teg_net.Nets.{NetLists, HasEndsInRange, HasListsOfInputs, HasRisingLists, HasListsByRule}
 use Rattle.bound_laws.specs.teg_net.Circuits.{IsPathBetween, IsLive, time_of, tokens_of}
 use Rattle.bound_laws.specs.teg_net.Parts.{Reaches}
 use Rattle.bound_laws.specs.teg_net.Inputs.{input_date}
 use Rattle.bound_laws.specs.teg_net.Walks.{walk_time}
+use Rattle.bound_laws.proofs.teg_net_proofs.Bounds.{date_bound}
 use Rattle.bound_laws.proofs.teg_net_proofs.PathLaws.{IsPathBetween-append}
 use Rattle.bound_laws.proofs.teg_loops_proofs.Visits.{FirstVisit, first_visit}
 use Rattle.bound_laws.specs.teg_model.Datings.{IsLeastDating, listed_releases, as_date}
@@ -22,14 +23,13 @@ use Rattle.bound_laws.specs.teg_model.Starts.{start_of_firing}
 use Rattle.bound_laws.specs.teg_model.WalkDates.{IsDateOfWalk, IsGreatestOfWalks}
 use Rattle.growth_laws.proofs.teg_model_proofs.GreatestWalks.{least_is_walk}
 use Rattle.growth_laws.proofs.teg_model_proofs.LiveRanks.{live_is_ranked}
-use Rattle.growth_laws.proofs.teg_model_proofs.OfNet.{net_ends}
 use Rattle.growth_laws.proofs.teg_model_proofs.Tokens.{dates_climb}
 use Rattle.growth_laws.proofs.teg_model_proofs.WalkSteps.{Keeps}
 use Rattle.growth_laws.proofs.number_laws_proofs.Numbers.{some_of}
 use Rattle.periodic_laws.specs.RepeatNumbers.{repeats_past, repeats_in}
 use Rattle.periodic_laws.specs.LinearSystem.{LeastDatingsRepeat}
 use Rattle.slope_laws.specs.Slopes.{IsSlope}
-use Rattle.slope_laws.proofs.EndedLists.{dates_of_list}
+use Rattle.slope_laws.proofs.EndedLists.{dates_by_list, input_of}
 use Rattle.slope_laws.proofs.Lower.{path_keeps, climb_many}
 use Rattle.slope_laws.proofs.Slopes.{least_keeps}
 use Rattle.slope_laws.proofs.Starts.{Behind}
@@ -112,15 +112,15 @@ by_gaps a b L P m every gap rate whole =
 
 abbrev pub loss_most : NetLists → ℕ → ℕ → ℕ
 loss_most net a b =
-    (most_input_dates + greatest_every * (b * greatest_input_date)) + greatest_every * (b * most_time net) + greatest_every * (a * (repeats_past net + repeats_in net))
+    (most_input_dates + greatest_every * (b * date_bound net)) + greatest_every * (b * most_time net) + greatest_every * (a * (repeats_past net + repeats_in net))
 
 abbrev pub far_of : NetLists → ℕ → ℕ → ℕ
 far_of net a b = (loss_most net a b + loss_most net a b + (most_tokens net + most_tokens net * loss_most net a b)) + repeats_past net
 
 -- ---- a transition that no ended list reaches
 
-module _ (repeat : LeastDatingsRepeat) (net : NetLists) (ok : IsNet net) (live : IsLive net) (x : ℕ → ℕ → Date) (least : IsLeastDating net x)
-    (t : ℕ) (lt : t < length net.transitions) (endless : IsEndless net t) (a b : ℕ) (some_b : 1 ≤ b) (slope : IsSlope net t b a) where
+module _ (repeat : LeastDatingsRepeat) (net : NetLists) (ends : HasEndsInRange net) (inputs : HasListsOfInputs net) (rising : HasRisingLists net) (rules : HasListsByRule net)
+    (live : IsLive net) (x : ℕ → ℕ → Date) (least : IsLeastDating net x) (t : ℕ) (lt : t < length net.transitions) (endless : IsEndless net t) (a b : ℕ) (some_b : 1 ≤ b) (slope : IsSlope net t b a) where
   abbrev P : ℕ
   P = repeats_in net
 
@@ -134,7 +134,7 @@ module _ (repeat : LeastDatingsRepeat) (net : NetLists) (ok : IsNet net) (live :
   far = far_of net a b
 
   some : 1 ≤ P
-  some = (repeat net ok live x least).at_least_one
+  some = (repeat net ends rising rules live x least).at_least_one
 
   abbrev v : ℕ → ℕ → ℕ
   v c k = unit (x c k)
@@ -154,14 +154,14 @@ module _ (repeat : LeastDatingsRepeat) (net : NetLists) (ok : IsNet net) (live :
   })
 
   is_v : (c k : ℕ) → c < length net.transitions → Reaches net c t → 1 ≤ k → x c k ≡ At (pos (v c k))
-  is_v c k l r one = is_number repeat net ok live x least c l (endless_before c r) k one
+  is_v c k l r one = is_number repeat net ends inputs rising rules live x least c l (endless_before c r) k one
 
   units : (u : ℕ) × (a * P ≡ u * b) × ((k : ℕ) → K < k → v t (k + P) ≡ v t k + u)
   units =
-      let w = slope_of repeat net ok live x least t lt endless in (
+      let w = slope_of repeat net ends inputs rising rules live x least t lt endless in (
         w.0,
-        slopes_are_one net live t a b w.0 P (lists_repeat net ok t) some_b some slope w.2,
-        λ k m. on_by repeat net ok live x least t lt endless k m,
+        slopes_are_one net live t a b w.0 P (lists_repeat net rules t) some_b some slope w.2,
+        λ k m. on_by repeat net ends inputs rising rules live x least t lt endless k m,
       )
 
   floor : (k : ℕ) → a * k ≤ b * v t k + a * (K + P)
@@ -180,7 +180,6 @@ module _ (repeat : LeastDatingsRepeat) (net : NetLists) (ok : IsNet net) (live :
 
   walks : (c k : ℕ) → c < length net.transitions → 1 ≤ k → IsGreatestOfWalks net (listed_releases net) c k (x c k)
   walks c k l one =
-      let ends = net_ends net ok in
       let ranked = live_is_ranked net ends live in
       least_is_walk net (listed_releases net) x ranked.0 ranked.1 ends ranked.2 least c k l one
 
@@ -201,7 +200,7 @@ module _ (repeat : LeastDatingsRepeat) (net : NetLists) (ok : IsNet net) (live :
       let r : Reaches net c t = (ps, h) in
       let rise = climb_many x c (λ k o. climbs c k lc o) j nexts one in
       let up = at_most_numbers (x c j) (x c (j + nexts)) (v c j) (v c (j + nexts)) (is_v c j lc r one) (is_v c (j + nexts) lc r (omega (arith, one))) rise in
-      let on = path_keeps net x ok keeps ps c t (j + nexts) (omega (arith, one)) h in
+      let on = path_keeps net x keeps ps c t (j + nexts) (omega (arith, one)) h in
       let e : delayed (time_of net ps) (x c (j + nexts)) ≡ At (pos (v c (j + nexts) + time_of net ps)) =
       ap (delayed (time_of net ps)) (is_v c (j + nexts) lc r (omega (arith, one))) ∙ later_number (time_of net ps) (v c (j + nexts)) in
       let more = at_most_numbers (delayed (time_of net ps) (x c (j + nexts))) (x t ((j + nexts) + tokens_of net ps))
@@ -294,14 +293,13 @@ module _ (repeat : LeastDatingsRepeat) (net : NetLists) (ok : IsNet net) (live :
         let rate : b * gap ≡ a * every = omega (arith, at_most, at_least) in
         let m : ℕ = L / every in
         let whole : m * every ≡ L = (let rest = mod-eq-zero_of_dvd every (common.lists s.list s.again s.towards rate) in let parts = div-add-mod' L every in omega (arith, rest, parts)) in
-        let facts = dates_of_list net s.list ok s.towards.of_net in
         let later : input_date net c (w.number + m * every) ≡ Some (w.start + m * gap) =
-        list_on s.list s.again (input_date net c) facts.1 s.towards.goes_on m w.number w.start s.past s.given in
+        list_on s.list s.again (input_date net c) (dates_by_list net s.list inputs rules s.towards.of_net) s.towards.goes_on m w.number w.start s.past s.given in
         let release : listed_releases net c (w.number + m * every) ≡ At (pos (w.start + m * gap)) = ap as_date later in
         let lc : c < length net.transitions = subst (λ z. z < length net.transitions) (sym s.here) w.from_in in
         let path : IsPathBetween net c w.places t = subst (λ z. IsPathBetween net z w.places t) (sym s.here) w.path in
         let some_j : 1 ≤ w.number + m * every = (let o = w.from_one in omega (arith, o)) in
-        let below = least.feasible.inputs c (w.number + m * every) some_j facts.0.is_input in
+        let below = least.feasible.inputs c (w.number + m * every) some_j (input_of net s.list inputs s.towards.of_net) in
         let low = at_most_numbers (listed_releases net c (w.number + m * every)) (x c (w.number + m * every)) (w.start + m * gap) (v c (w.number + m * every))
         release (is_v c (w.number + m * every) lc (w.places, path) some_j) below in
         let more = carries w.places c (w.number + m * every) w.nexts lc some_j path in
@@ -319,18 +317,18 @@ module _ (repeat : LeastDatingsRepeat) (net : NetLists) (ok : IsNet net) (live :
     -- one that meets none is too short, or begins with such a list
     by_start : (k : ℕ) → 1 ≤ a → far < k → (w : IsBestWalk k) → LosesMuch net a b w.places → IsLaterBy k
     by_start k some_a past w o = ⊎_elim
-        (λ (behind : Behind b a w.number w.start).
-        let few = short_walk a b greatest_every (most_input_dates + greatest_every * (b * greatest_input_date)) (most_time net) (a * (K + P)) Q (most_tokens net) (v t k) w.start
+        (λ (behind : Behind (date_bound net) b a w.number w.start).
+        let few = short_walk a b greatest_every (most_input_dates + greatest_every * (b * date_bound net)) (most_time net) (a * (K + P)) Q (most_tokens net) (v t k) w.start
         (time_of net w.places) (tokens_of net w.places) o.loops w.number w.nexts k some_a (omega arith) (floor k) w.date behind w.count o.loss o.few refl in
         absurd (omega (arith, few, past)))
         (λ (s : IsListStart net t b a w.from w.number w.start). by_list k (common_if some_a) w s)
-        (start_behind_or net ok t b a some_a w.from w.number w.start w.from_one (w.places, w.path) w.starts)
+        (start_behind_or net inputs rules t b a some_a w.from w.number w.start w.from_one (w.places, w.path) w.starts)
 
     by_walk : (k : ℕ) → 1 ≤ a → far < k → IsBestWalk k → IsLaterBy k
     by_walk k some_a past w = ⊎_elim
         (λ (m : MeetsCritical net a b t w.places). by_rounds k (common_if some_a) w m)
         (λ (o : LosesMuch net a b w.places). by_start k some_a past w o)
-        (meets_or_loses net a b ok w.from t slope.circuits lt w.places w.path)
+        (meets_or_loses net a b ends w.from t slope.circuits lt w.places w.path)
 
     later : (k : ℕ) → 1 ≤ a → far < k → IsLaterBy k
     later k some_a past = by_walk k some_a past (best k (omega (arith, past)))
@@ -365,6 +363,6 @@ module _ (repeat : LeastDatingsRepeat) (net : NetLists) (ok : IsNet net) (live :
         )
 
 pub repeat_by_parts : LeastDatingsRepeat → DatesRepeatByParts
-repeat_by_parts repeat net ok live x least t lt endless a b some_b slope L one common =
-    let w = repeats repeat net ok live x least t lt endless a b some_b slope L one common in
+repeat_by_parts repeat net ends inputs rising rules live x least t lt endless a b some_b slope L one common =
+    let w = repeats repeat net ends inputs rising rules live x least t lt endless a b some_b slope L one common in
     record { after = far_of net a b; step = w.0; rate = w.1; again = w.2 }

@@ -12,7 +12,6 @@ use Rattle.bound_laws.specs.dioid.Dates.{IsAtMostDate, move}
 use Rattle.periodic_laws.proofs.dioid_proofs.DateOrder.{at_most_is}
 use Rattle.bound_laws.specs.teg_net.declared.entries.PlaceId.{PlaceId}
 use Rattle.bound_laws.specs.teg_net.declared.walks.Step.{Step}
-use Rattle.bound_laws.specs.teg_net.Limits.{greatest_hold}
 use Rattle.bound_laws.specs.teg_net.Nets.{NetLists, IsNet}
 use Rattle.bound_laws.specs.teg_net.Circuits.{no_place, place_at, IsPathBetween, IsCircuit, time_of, tokens_of}
 use Rattle.bound_laws.specs.teg_net.Parts.{Reaches}
@@ -25,6 +24,7 @@ use Rattle.bound_laws.proofs.Onward.{PutIn, put_in, start_in}
 use Rattle.growth_laws.proofs.number_laws_proofs.Numbers.{some_of}
 use Rattle.growth_laws.proofs.Growth.{cancel, unit, on, near}
 use Rattle.periodic_laws.specs.LinearSystem.{SystemsSettle}
+use Rattle.bound_laws.proofs.teg_net_proofs.Bounds.{hold_bound, holds_bounded}
 use Rattle.bound_laws.proofs.teg_net_proofs.NetRules.{net_ends}
 use Rattle.bound_laws.proofs.teg_loops_proofs.Ends.{ends_below}
 use Rattle.slope_laws.proofs.WalkPaths.{IsPathOf, walk_path}
@@ -126,8 +126,8 @@ module _ (net : NetLists) (a b : ℕ) (s : IsStronglyConnected net a b) (i : ℕ
   path_most : (qs : List PlaceId) → IsPathBetween net i qs t → b * time_of net qs ≤ a * tokens_of net qs + b * most_time net
   path_most qs h = by_loops net (length net.transitions) i t (λ ps. b * time_of net ps ≤ a * tokens_of net ps + b * most_time net) (ends_below net (net_ends net ok)) lt
       (λ ps g l.
-      let one = sum_most (λ p. (place_at net p).hold) greatest_hold net (λ id m. (ok.each_place id.index no_place m).hold_in) ps i t g in
-      let two : length ps * greatest_hold ≤ length net.transitions * greatest_hold = mul-le-mul_right {m = length ps} {n = length net.transitions} greatest_hold (omega (arith, l)) in
+      let one = sum_most (λ p. (place_at net p).hold) (hold_bound net) net (λ id m. holds_bounded net id.index no_place m) ps i t g in
+      let two : length ps * hold_bound net ≤ length net.transitions * hold_bound net = mul-le-mul_right {m = length ps} {n = length net.transitions} (hold_bound net) (omega (arith, l)) in
       let three : b * time_of net ps ≤ b * most_time net = mul-le-mul_left {m = time_of net ps} {n = most_time net} b (omega (arith, one, two)) in
       omega (arith, three))
       (λ ps g loop old. added (time_of net ps) (time_of net (loop.before ++ loop.after)) (time_of net loop.loop)
@@ -261,7 +261,7 @@ module _ (net : NetLists) (a b : ℕ) (s : IsStronglyConnected net a b) (i : ℕ
         let few = short_walk a b 1 1 (most_time net) (a * (J + P)) Q (most_tokens net) (v k) 0 (time_of net w.places) (tokens_of net w.places) o.loops 1 w.nexts k
         some_a (omega arith) (floor k) value begin number o.loss o.few refl in
         absurd (omega (arith, few, past)))
-        (meets_or_loses net a b ok i t (λ qs c. greatest qs c.circuit) lt w.places w.path)
+        (meets_or_loses net a b (net_ends net ok) i t (λ qs c. greatest qs c.circuit) lt w.places w.path)
 
     rises : (k : ℕ) → far < k → b * v k + a * L ≤ b * v (k + L)
     rises k past = ⊎_elim

@@ -6,7 +6,7 @@ use Rattle.bound_laws.specs.dioid.Dates.{delayed}
 use Rattle.bound_laws.specs.teg_net.declared.entries.PlaceId.{PlaceId}
 use Rattle.bound_laws.specs.teg_net.declared.entries.Again.{Again}
 use Rattle.bound_laws.specs.teg_net.declared.entries.InputList.{InputList}
-use Rattle.bound_laws.specs.teg_net.Nets.{NetLists, IsNet}
+use Rattle.bound_laws.specs.teg_net.Nets.{NetLists, HasEndsInRange, HasListsOfInputs, HasRisingLists, HasListsByRule}
 use Rattle.bound_laws.specs.teg_net.Circuits.{IsLive}
 use Rattle.bound_laws.specs.teg_net.Parts.{Reaches}
 use Rattle.bound_laws.specs.teg_model.Datings.{IsLeastDating}
@@ -33,7 +33,8 @@ pub record RepeatBy (dates : ℕ → Date) (a b L : ℕ) : Type 0 where
 -- to it at its slope; by each number at all where the slope is 0
 abbrev pub DatesRepeatByParts : Type 0
 DatesRepeatByParts =
-    (net : NetLists) → IsNet net → IsLive net → (x : ℕ → ℕ → Date) → IsLeastDating net x
+    (net : NetLists) → HasEndsInRange net → HasListsOfInputs net → HasRisingLists net → HasListsByRule net → IsLive net
+    → (x : ℕ → ℕ → Date) → IsLeastDating net x
     → (t : ℕ) → t < length net.transitions → IsEndless net t → (a b : ℕ) → 1 ≤ b → IsSlope net t b a
     → (L : ℕ) → 1 ≤ L → (1 ≤ a → IsCommonTowards net t a b L) → RepeatBy (x t) a b L
 
@@ -45,5 +46,6 @@ IsCommonOfNet net L =
 -- the period of the shortest settled form of the least dating of a live net divides each such number
 abbrev pub PeriodsDivideOfNets : Type 0
 PeriodsDivideOfNets =
-    (net : NetLists) → IsNet net → IsLive net → (x : ℕ → ℕ → Date) → IsLeastDating net x
+    (net : NetLists) → HasEndsInRange net → HasListsOfInputs net → HasRisingLists net → HasListsByRule net → IsLive net
+    → (x : ℕ → ℕ → Date) → IsLeastDating net x
     → (f : SettledForm) → IsShortestForm (length net.transitions) f x → (L : ℕ) → 1 ≤ L → IsCommonOfNet net L → f.period ∣ L

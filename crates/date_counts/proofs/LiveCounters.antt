@@ -87,7 +87,7 @@ module _ (net : NetLists) (x : ℕ → ℕ → Date) (least : IsLeastDating net 
   counters = (λ t d. count_if t d (cases_lt t (length net.transitions)), λ t l d k o. is_count t d (cases_lt t (length net.transitions)) l k o)
 
 pub counters_of_live : LeastDatingsRepeat → CountersOfLiveNetsExist
-counters_of_live repeat net x ok live least = counters net x least _ _ _ (repeat net ok live x least)
+counters_of_live repeat net x ends rise rules live least = counters net x least _ _ _ (repeat net ends rise rules live x least)
 
 -- where each date by which b comes is one by which a comes, a is at most b
 below : (a b : Date) → IsAtMostDate (At (pos 0)) b → ((d : ℕ) → IsAtMostDate b (At (pos d)) → IsAtMostDate a (At (pos d))) → IsAtMostDate a b

@@ -11,7 +11,7 @@ use Rattle.periodic_laws.specs.dioid.Dates.{IsAtMostDate, move}
 use Rattle.periodic_laws.specs.teg_net.declared.entries.PlaceId.{PlaceId}
 use Rattle.periodic_laws.specs.teg_net.declared.entries.Again.{Again}
 use Rattle.periodic_laws.specs.teg_net.declared.entries.InputList.{InputList}
-use Rattle.periodic_laws.specs.teg_net.Nets.{NetLists, IsNet}
+use Rattle.periodic_laws.specs.teg_net.Nets.{NetLists, HasEndsInRange, HasListsOfInputs, HasRisingLists, HasListsByRule}
 use Rattle.periodic_laws.specs.teg_net.Circuits.{IsLive, time_of, tokens_of}
 use Rattle.periodic_laws.specs.teg_model.Datings.{IsLeastDating, listed_releases}
 use Rattle.periodic_laws.proofs.teg_model_proofs.Tokens.{not_before_zero}
@@ -21,7 +21,7 @@ use Rattle.slope_laws.specs.teg_loops.Loops.{IsCircuitTowards}
 use Rattle.slope_laws.specs.Slopes.{IsGoingOnTowards, IsSlope, HasSlope}
 use Rattle.slope_laws.proofs.FormSlopes.{forms_have_slopes}
 use Rattle.slope_laws.proofs.Nevers.{nevers_come_from_ended_lists}
-use Rattle.slope_laws.proofs.EndedLists.{dates_of_list, rule_of}
+use Rattle.slope_laws.proofs.EndedLists.{rule_in, rule_of}
 use Rattle.growth_laws.specs.Growth.{IsNearLine, GrowBy, IsEndless, DatesGrowBySlopes, SlopesExist, SlopesAreOne}
 
 -- ---- one fraction
@@ -52,8 +52,8 @@ some_tokens net live t ps w = ⊎_elim
     (cases_lt 0 (tokens_of net ps))
 
 -- each list of a net that goes on repeats some of its dates
-pub lists_repeat : (net : NetLists) → IsNet net → (t : ℕ) (l : InputList) (again : Again) → IsGoingOnTowards net t l again → 1 ≤ again.every
-lists_repeat net ok t l again w = (rule_of l.dates l.again again w.goes_on (dates_of_list net l ok w.of_net).0.again).some
+pub lists_repeat : (net : NetLists) → HasListsByRule net → (t : ℕ) (l : InputList) (again : Again) → IsGoingOnTowards net t l again → 1 ≤ again.every
+lists_repeat net rules t l again w = (rule_of l.dates l.again again w.goes_on (rule_in net l rules w.of_net)).some
 
 at_most : (net : NetLists) → IsLive net → (t a b c d : ℕ) → ((l : InputList) (again : Again) → IsGoingOnTowards net t l again → 1 ≤ again.every)
     → IsSlope net t b a → IsSlope net t d c → a * d ≤ c * b
@@ -195,8 +195,8 @@ near_line a b c d k value date e low high =
     let is = times_pos b value in
     rw e (omega (arith, ints, is, low), omega (arith, ints, is, high))
 
-module _ (repeat : LeastDatingsRepeat) (net : NetLists) (ok : IsNet net) (live : IsLive net) (x : ℕ → ℕ → Date)
-    (least : IsLeastDating net x) (t : ℕ) (in' : t < length net.transitions) (endless : IsEndless net t) where
+module _ (repeat : LeastDatingsRepeat) (net : NetLists) (ends : HasEndsInRange net) (inputs : HasListsOfInputs net) (rise : HasRisingLists net) (rules : HasListsByRule net)
+    (live : IsLive net) (x : ℕ → ℕ → Date) (least : IsLeastDating net x) (t : ℕ) (in' : t < length net.transitions) (endless : IsEndless net t) where
   abbrev after : ℕ
   after = repeats_past net
 
@@ -204,19 +204,19 @@ module _ (repeat : LeastDatingsRepeat) (net : NetLists) (ok : IsNet net) (live :
   period = repeats_in net
 
   again : (k : ℕ) → after < k → x t (k + period) ≡ move (repeats_by net t) (x t k)
-  again k l = (repeat net ok live x least).again t k in' l
+  again k l = (repeat net ends rise rules live x least).again t k in' l
 
   some : 1 ≤ period
-  some = (repeat net ok live x least).at_least_one
+  some = (repeat net ends rise rules live x least).at_least_one
 
   number : (k : ℕ) → 1 ≤ k → (a : ℕ) × (x t k ≡ At (pos a))
   number k one = number_from (x t k) (not_before_zero net (listed_releases net) x least.feasible t k in' one)
-      (λ e. let w = (nevers_come_from_ended_lists net ok live x least t in').ended k one e in endless w.0 w.1)
+      (λ e. let w = (nevers_come_from_ended_lists net ends inputs rules live x least t in').ended k one e in endless w.0 w.1)
 
   -- the dates rise by a whole number of units in each period, and this is the slope
   pub slope_of : (units : ℕ) × (repeats_by net t ≡ pos units) × IsSlope net t period units
   slope_of =
-      let h : HasSlope net (x t) t after period (repeats_by net t) = forms_have_slopes net ok live x least t after period (repeats_by net t) in' some again in
+      let h : HasSlope net (x t) t after period (repeats_by net t) = forms_have_slopes net ends inputs rules live x least t after period (repeats_by net t) in' some again in
       h.slope (λ tail. let w = h.never.0 tail in endless w.0 w.1)
 
   abbrev values : ℕ → ℕ
@@ -235,7 +235,7 @@ module _ (repeat : LeastDatingsRepeat) (net : NetLists) (ok : IsNet net) (live :
   pub grow_by : (a b : ℕ) → 1 ≤ b → IsSlope net t b a → GrowBy (x t) a b
   grow_by a b one h =
       let units : ℕ = slope_of.0 in
-      let same : a * period ≡ units * b = slopes_are_one net live t a b units period (lists_repeat net ok t) one some h slope_of.2 in
+      let same : a * period ≡ units * b = slopes_are_one net live t a b units period (lists_repeat net rules t) one some h slope_of.2 in
       record {
         below = b * (units * (after + period));
         above = b * (period * most values after period units some on_by);
@@ -246,9 +246,9 @@ module _ (repeat : LeastDatingsRepeat) (net : NetLists) (ok : IsNet net) (live :
       }
 
 pub dates_grow : LeastDatingsRepeat → DatesGrowBySlopes
-dates_grow repeat net ok live x least t in' endless a b one h = grow_by repeat net ok live x least t in' endless a b one h
+dates_grow repeat net ends inputs rise rules live x least t in' endless a b one h = grow_by repeat net ends inputs rise rules live x least t in' endless a b one h
 
 pub slopes_exist : LeastDatingsRepeat → SlopesExist
-slopes_exist repeat net ok live x least t in' endless =
-    let w = slope_of repeat net ok live x least t in' endless in
-    (w.0, repeats_in net, (repeat net ok live x least).at_least_one, w.2)
+slopes_exist repeat net ends inputs rise rules live x least t in' endless =
+    let w = slope_of repeat net ends inputs rise rules live x least t in' endless in
+    (w.0, repeats_in net, (repeat net ends rise rules live x least).at_least_one, w.2)

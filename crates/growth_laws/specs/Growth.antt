@@ -4,7 +4,7 @@ use Rattle.periodic_laws.specs.dioid.declared.dates.Date.{Date}
 use Rattle.periodic_laws.specs.dioid.declared.dates.Date.TheVariants.{Early, At, Never}
 use Rattle.periodic_laws.specs.teg_net.declared.entries.Again.{Again}
 use Rattle.periodic_laws.specs.teg_net.declared.entries.InputList.{InputList}
-use Rattle.periodic_laws.specs.teg_net.Nets.{NetLists, IsNet}
+use Rattle.periodic_laws.specs.teg_net.Nets.{NetLists, HasEndsInRange, HasListsOfInputs, HasRisingLists, HasListsByRule}
 use Rattle.periodic_laws.specs.teg_net.Circuits.{IsLive}
 use Rattle.periodic_laws.specs.teg_model.Datings.{IsLeastDating}
 use Rattle.slope_laws.specs.Slopes.{IsEndedTowards, IsGoingOnTowards, IsSlope}
@@ -28,13 +28,15 @@ IsEndless net t = (l : InputList) → IsEndedTowards net t l → ⊥
 -- in a live net the least dates of a transition that no ended list reaches grow by each of its slopes
 abbrev pub DatesGrowBySlopes : Type 0
 DatesGrowBySlopes =
-    (net : NetLists) → IsNet net → IsLive net → (x : ℕ → ℕ → Date) → IsLeastDating net x → (t : ℕ) → t < length net.transitions → IsEndless net t
+    (net : NetLists) → HasEndsInRange net → HasListsOfInputs net → HasRisingLists net → HasListsByRule net → IsLive net
+    → (x : ℕ → ℕ → Date) → IsLeastDating net x → (t : ℕ) → t < length net.transitions → IsEndless net t
     → (a b : ℕ) → 1 ≤ b → IsSlope net t b a → GrowBy (x t) a b
 
 -- it has one
 abbrev pub SlopesExist : Type 0
 SlopesExist =
-    (net : NetLists) → IsNet net → IsLive net → (x : ℕ → ℕ → Date) → IsLeastDating net x → (t : ℕ) → t < length net.transitions → IsEndless net t
+    (net : NetLists) → HasEndsInRange net → HasListsOfInputs net → HasRisingLists net → HasListsByRule net → IsLive net
+    → (x : ℕ → ℕ → Date) → IsLeastDating net x → (t : ℕ) → t < length net.transitions → IsEndless net t
     → (a : ℕ) × (b : ℕ) × (1 ≤ b) × IsSlope net t b a
 
 -- and only one, as a fraction, where each list that goes on to it repeats some of its dates

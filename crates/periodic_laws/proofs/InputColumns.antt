@@ -20,9 +20,9 @@ use Rattle.settled_laws.specs.teg_net.declared.entries.InputList.{InputList}
 use Rattle.settled_laws.specs.teg_net.declared.entries.Role.{Role}
 use Rattle.settled_laws.specs.teg_net.declared.entries.Role.TheVariants.{Internal, Input, Output}
 use Rattle.settled_laws.specs.teg_net.declared.entries.Transition.{Transition}
-use Rattle.settled_laws.specs.teg_net.Nets.{NetLists, IsNet, IsInputOf, ListGoesOn, EndsOrGoesOn}
+use Rattle.settled_laws.specs.teg_net.Nets.{NetLists, HasRisingLists, HasListsByRule, ListGoesOn, EndsOrGoesOn}
 use Rattle.settled_laws.specs.teg_net.Inputs.{moved_by, IsInputDates, list_date, date_by_list, list_of_input}
-use Rattle.settled_laws.proofs.teg_net_proofs.InputDates.{IsInputDates-list_date, found_rules}
+use Rattle.settled_laws.proofs.teg_net_proofs.InputDates.{IsInputDates-list_date, found_has}
 use Rattle.settled_laws.specs.teg_model.Datings.{as_date, listed_releases, by_role, by_transition, at_input}
 use Rattle.periodic_laws.specs.GainColumns.{turn_of_list, begin_of_list, period_of_list, begin_of, release_gain}
 use Rattle.periodic_laws.proofs.Values.{Holds}
@@ -147,9 +147,12 @@ list_periodic dates (Some a) s h = goes_periodic dates a s h
 
 -- ---- a transition of a net
 
-found_periodic : (net : NetLists) (t : ℕ) (o : Option InputList) → IsNet net → o ≡ list_of_input net t → RisesAndRepeats (λ k. as_date (date_by_list o (k + 1))) (begin_of o) (period_of_list o)
-found_periodic net t None ok e = constant_periodic (At (pos 0)) 0 1 (omega arith)
-found_periodic net t (Some l) ok e = let own : IsInputOf net l = found_rules net net.inputs t l ok.each_input e in list_periodic l.dates l.again own.never_falls own.again
+found_periodic : (net : NetLists) (t : ℕ) (o : Option InputList) → HasRisingLists net → HasListsByRule net → o ≡ list_of_input net t → RisesAndRepeats (λ k. as_date (date_by_list o (k + 1))) (begin_of o) (period_of_list o)
+found_periodic net t None rise rules e = constant_periodic (At (pos 0)) 0 1 (omega arith)
+found_periodic net t (Some l) rise rules e =
+    let own : IsNonDecreasing l.dates = found_has (λ z. IsNonDecreasing z.dates) net.inputs t l rise e in
+    let rule : EndsOrGoesOn l.dates l.again = found_has (λ z. EndsOrGoesOn z.dates z.again) net.inputs t l rules e in
+    list_periodic l.dates l.again own rule
 
 role_periodic : (r : Role) (f : ℕ → Date) (p n : ℕ) → RisesAndRepeats f p n → RisesAndRepeats (λ k. by_role r (f k) Early) p n
 role_periodic Internal f p n h = constant_periodic Early p n h.turns
@@ -161,9 +164,9 @@ transition_periodic None f p n h = constant_periodic Early p n h.turns
 transition_periodic (Some t) f p n h = role_periodic t.role f p n h
 
 -- the releases by the input lists are a gain
-pub release_holds : (net : NetLists) → IsNet net → (t : ℕ) → Holds (release_gain net t) (λ k. at_input net t (listed_releases net t (k + 1)) Early)
+pub release_holds : (net : NetLists) → HasRisingLists net → HasListsByRule net → (t : ℕ) → Holds (release_gain net t) (λ k. at_input net t (listed_releases net t (k + 1)) Early)
 unfolding release_gain
-release_holds net ok t =
+release_holds net rise rules t =
     let list : Option InputList = list_of_input net t in
     periodic_holds (λ k. at_input net t (listed_releases net t (k + 1)) Early) (begin_of list) (period_of_list list)
-    (transition_periodic (slice_get net.transitions t) (λ k. listed_releases net t (k + 1)) (begin_of list) (period_of_list list) (found_periodic net t list ok refl))
+    (transition_periodic (slice_get net.transitions t) (λ k. listed_releases net t (k + 1)) (begin_of list) (period_of_list list) (found_periodic net t list rise rules refl))

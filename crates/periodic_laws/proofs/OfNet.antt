@@ -4,12 +4,11 @@ use Rattle.std.specs.Prelude.{All}
 use Rattle.std.proofs.lemmas.Option.{slice_get_past}
 use Rattle.series_ops.specs.dioid.declared.dates.Date.TheVariants.{Early}
 use Rattle.dioid_matrix.specs.MatrixStars.{StarsAreLeast}
-use Rattle.settled_laws.specs.teg_net.Nets.{NetLists, IsNet}
+use Rattle.settled_laws.specs.teg_net.Nets.{NetLists, HasEndsInRange}
 use Rattle.settled_laws.specs.teg_model.Systems.{System, IsLeastIn}
-use Rattle.settled_laws.specs.teg_model.LiveRanks.{HasEndsInRange}
 use Rattle.settled_laws.specs.teg_model.Datings.{IsLeastDating, IsLeastUnder, initial_date, extended_places, system_of, system_with, listed_releases, at_input, by_transition}
 use Rattle.settled_laws.proofs.teg_model_proofs.LeastOver.{least_over, least_over_is_least}
-use Rattle.settled_laws.proofs.teg_model_proofs.OfNet.{net_ends, all_extended_in, implicit_is, ranks_extended, feasible_in, feasible_from, least_of_system, least_of}
+use Rattle.settled_laws.proofs.teg_model_proofs.OfNet.{all_extended_in, implicit_is, ranks_extended, feasible_in, feasible_from, least_of_system, least_of}
 use Rattle.settled_laws.proofs.teg_model_proofs.LiveRanks.{live_is_ranked}
 use Rattle.settled_laws.proofs.teg_model_proofs.DateFunctions.{Dating, InitialDates}
 use Rattle.periodic_laws.specs.PeriodicDates.{IsPeriodic}
@@ -34,8 +33,8 @@ none_outside : (net : NetLists) (u : Dating) (t k : ℕ) → length net.transiti
 none_outside net u t k l = ap (λ o. by_transition o (u t k) Early) (slice_get_past net.transitions t l)
 
 -- the system of the net's own input lists
-own_system : (net : NetLists) → IsNet net → IsSystemOf (length net.transitions) (system_of net (listed_releases net))
-own_system net ok = system_is net initial_date (λ t k. at_input net t (listed_releases net t k) Early) (net_ends net ok) (none_outside net (listed_releases net))
+own_system : (net : NetLists) → HasEndsInRange net → IsSystemOf (length net.transitions) (system_of net (listed_releases net))
+own_system net ends = system_is net initial_date (λ t k. at_input net t (listed_releases net t k) Early) ends (none_outside net (listed_releases net))
 
 least_on : (net : NetLists) (u x : Dating) → IsLeastUnder net u x → IsLeastOn (length net.transitions) (system_of net u) x
 least_on net u x h = record {
@@ -45,12 +44,12 @@ least_on net u x h = record {
 
 pub solves : StarsAreLeast gains gain_stars → LeastDatingsSolve
 unfolding column
-solves stars net ok live =
+solves stars net ends rise rules live =
     let n : ℕ = length net.transitions in
     let s : System = system_of net (listed_releases net) in
-    let ranked = live_is_ranked net (net_ends net ok) live in
-    let of : IsSystemOf n s = own_system net ok in
-    let released = release_holds net ok in
+    let ranked = live_is_ranked net ends live in
+    let of : IsSystemOf n s = own_system net ends in
+    let released = release_holds net rise rules in
     record {
       entries = entry_of_places s.places;
       right = right_side s.initial s.places (release_gain net);
@@ -63,17 +62,17 @@ solves stars net ok live =
 
 pub repeats : StarsAreLeast gains gain_stars → LeastDatingsRepeat
 unfolding repeats_past repeats_in repeats_by
-repeats stars net ok live x h =
-    let ranked = live_is_ranked net (net_ends net ok) live in
-    column_repeats stars (length net.transitions) (system_of net (listed_releases net)) (release_gain net) (own_system net ok) (release_holds net ok)
+repeats stars net ends rise rules live x h =
+    let ranked = live_is_ranked net ends live in
+    column_repeats stars (length net.transitions) (system_of net (listed_releases net)) (release_gain net) (own_system net ends) (release_holds net rise rules)
     ranked.0 ranked.1 (ranks_extended net ranked.0 ranked.1 ranked.2) x (least_on net (listed_releases net) x h)
 
 pub live_settles : StarsAreLeast gains gain_stars → LiveNetsSettle
-live_settles stars net ok live =
-    let ranked = live_is_ranked net (net_ends net ok) live in
+live_settles stars net ends rise rules live =
+    let ranked = live_is_ranked net ends live in
     let x : Dating = least_over (system_of net (listed_releases net)) ranked.0 ranked.1 in
     let least : IsLeastDating net x = least_of_system net (listed_releases net) x (least_of net (listed_releases net) ranked.0 ranked.1 ranked.2) in
-    let best = column_settles stars (length net.transitions) (system_of net (listed_releases net)) (release_gain net) (own_system net ok) (release_holds net ok)
+    let best = column_settles stars (length net.transitions) (system_of net (listed_releases net)) (release_gain net) (own_system net ends) (release_holds net rise rules)
     ranked.0 ranked.1 (ranks_extended net ranked.0 ranked.1 ranked.2) x (least_on net (listed_releases net) x least) in
     (best.0, (x, least, best.1))
 

@@ -7,10 +7,9 @@ use Rattle.dioid_matrix.specs.Sums.{dot}
 use Rattle.series_ops.specs.series_laws.SeriesForms.{value_at}
 use Rattle.series_ops.specs.declared.gains.Gain.{Gain}
 use Rattle.settled_laws.specs.teg_net.declared.entries.Place.{Place}
-use Rattle.settled_laws.specs.teg_net.Nets.{NetLists, IsNet}
+use Rattle.settled_laws.specs.teg_net.Nets.{NetLists, HasEndsInRange, HasRisingLists, HasListsByRule}
 use Rattle.settled_laws.specs.teg_net.Circuits.{IsLive}
 use Rattle.settled_laws.specs.teg_model.Systems.{IsLeastIn}
-use Rattle.settled_laws.specs.teg_model.LiveRanks.{HasEndsInRange}
 use Rattle.settled_laws.specs.teg_model.Datings.{IsLeastDating, listed_releases, system_of, system_with}
 use Rattle.settled_laws.specs.SettledForms.{SettledForm, RepeatsAfter, IsShortestForm, IsSettledFormOf}
 use Rattle.periodic_laws.specs.PeriodicDates.{ArePeriodic}
@@ -34,7 +33,7 @@ pub record IsNetSolved (net : NetLists) : Type 0 where
 
 -- the least dating of a live net is the least solution of its linear system
 abbrev pub LeastDatingsSolve : Type 0
-LeastDatingsSolve = (net : NetLists) → IsNet net → IsLive net → IsNetSolved net
+LeastDatingsSolve = (net : NetLists) → HasEndsInRange net → HasRisingLists net → HasListsByRule net → IsLive net → IsNetSolved net
 
 -- the least dating of the net has a shortest settled form
 abbrev pub SettlesShortest : NetLists → Type 0
@@ -42,11 +41,11 @@ SettlesShortest net = (f : SettledForm) × IsSettledFormOf net f
 
 -- the least dating of every live net has a shortest settled form
 abbrev pub LiveNetsSettle : Type 0
-LiveNetsSettle = (net : NetLists) → IsNet net → IsLive net → SettlesShortest net
+LiveNetsSettle = (net : NetLists) → HasEndsInRange net → HasRisingLists net → HasListsByRule net → IsLive net → SettlesShortest net
 
 -- the lists of a live net alone tell numbers by which its least dating repeats
 abbrev pub LeastDatingsRepeat : Type 0
-LeastDatingsRepeat = (net : NetLists) → IsNet net → IsLive net → (x : ℕ → ℕ → Date) → IsLeastDating net x
+LeastDatingsRepeat = (net : NetLists) → HasEndsInRange net → HasRisingLists net → HasListsByRule net → IsLive net → (x : ℕ → ℕ → Date) → IsLeastDating net x
     → RepeatsAfter (length net.transitions) x (repeats_past net) (repeats_in net) (repeats_by net)
 
 -- dates that never fall and repeat, each transition in its own period, have a shortest settled form

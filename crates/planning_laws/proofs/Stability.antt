@@ -253,8 +253,8 @@ module _ (net : NetLists) (x : Dating) (f : IsFeasibleUnder net (listed_releases
   by_slopes = record { rises = never_less; waits = (bounded, one_slope); longer = longer; stock = λ rise. (few rise, one_by_stock) }
 
 pub bounded_by_slopes : DatesGrowBySlopes → WaitsAreBoundedByEqualSlopes
-bounded_by_slopes grow net ok live x least p in' endless a b c d some some' start end =
-    let rules = ok.each_place p.index no_place in' in
-    by_slopes net x least.feasible p in' rules.from_in rules.to_in a b c d some some'
-    (grow net ok live x least (from_of net p) rules.from_in (endless_start net p in' endless) a b some start)
-    (grow net ok live x least (to_of net p) rules.to_in endless c d some' end)
+bounded_by_slopes grow net ends inputs rise rules live x least p in' endless a b c d some some' start end =
+    let own = ends p.index no_place in' in
+    by_slopes net x least.feasible p in' own.0 own.1 a b c d some some'
+    (grow net ends inputs rise rules live x least (from_of net p) own.0 (endless_start net p in' endless) a b some start)
+    (grow net ends inputs rise rules live x least (to_of net p) own.1 endless c d some' end)

@@ -5,10 +5,9 @@ use Rattle.teg_model.specs.dioid.declared.dates.Date.{Date}
 use Rattle.teg_model.specs.dioid.Dates.{IsAtMostDate, delayed}
 use Rattle.teg_model.specs.teg_net.declared.entries.PlaceId.{PlaceId}
 use Rattle.teg_model.specs.teg_net.declared.entries.Place.{Place}
-use Rattle.teg_model.specs.teg_net.Nets.{NetLists, IsNet}
+use Rattle.teg_model.specs.teg_net.Nets.{NetLists, HasEndsInRange, HasListsOfInputs, HasRisingLists, HasListsByRule}
 use Rattle.teg_model.specs.teg_net.Circuits.{place_at, from_of, IsLive}
 use Rattle.teg_model.specs.teg_net.Parts.{to_of}
-use Rattle.teg_model.specs.LiveRanks.{HasEndsInRange}
 use Rattle.teg_model.specs.Datings.{IsFeasibleUnder, IsLeastDating}
 use Rattle.slope_laws.specs.Slopes.{IsSlope}
 
@@ -55,7 +54,8 @@ pub record AreWaitsBySlopes (x : ℕ → ℕ → Date) (p : Place) (a b c d : �
 -- so it is in a live net for each place whose end no ended list reaches, with slopes a / b of its start and c / d of its end
 abbrev pub WaitsAreBoundedByEqualSlopes : Type 0
 WaitsAreBoundedByEqualSlopes =
-    (net : NetLists) → IsNet net → IsLive net → (x : ℕ → ℕ → Date) → IsLeastDating net x
+    (net : NetLists) → HasEndsInRange net → HasListsOfInputs net → HasRisingLists net → HasListsByRule net → IsLive net
+    → (x : ℕ → ℕ → Date) → IsLeastDating net x
     → (p : PlaceId) → p.index < length net.places → IsEndless net (to_of net p)
     → (a b c d : ℕ) → 1 ≤ b → 1 ≤ d → IsSlope net (from_of net p) b a → IsSlope net (to_of net p) d c
     → AreWaitsBySlopes x (place_at net p) a b c d

@@ -9,8 +9,7 @@ use Rattle.settled_laws.specs.dioid.declared.dates.Date.TheVariants.{Early, At, 
 use Rattle.settled_laws.specs.dioid.Dates.{IsAtMostDate, delayed}
 use Rattle.settled_laws.proofs.dioid_proofs.DateOrder.{at_most_is, at_most_trans, later_left}
 use Rattle.settled_laws.specs.teg_net.declared.entries.PlaceId.{PlaceId}
-use Rattle.settled_laws.specs.teg_net.Limits.{greatest_hold, most_place_tokens}
-use Rattle.settled_laws.specs.teg_net.Nets.{NetLists, IsNet}
+use Rattle.settled_laws.specs.teg_net.Nets.{NetLists, HasEndsInRange}
 use Rattle.settled_laws.specs.teg_net.ReadyDates.{start_date}
 use Rattle.settled_laws.specs.teg_net.Circuits.{place_at, IsLive, time_of, tokens_of}
 use Rattle.settled_laws.specs.teg_net.Parts.{Reaches}
@@ -20,7 +19,7 @@ use Rattle.settled_laws.specs.teg_model.Starts.{start_of_firing}
 use Rattle.settled_laws.specs.teg_model.WalkDates.{IsDateOfWalk}
 use Rattle.settled_laws.proofs.teg_model_proofs.GreatestWalks.{least_is_walk}
 use Rattle.settled_laws.proofs.teg_model_proofs.LiveRanks.{live_ranks}
-use Rattle.settled_laws.proofs.teg_model_proofs.OfNet.{net_ends}
+use Rattle.settled_laws.proofs.teg_net_proofs.Bounds.{hold_bound, holds_bounded, token_bound, tokens_bounded}
 use Rattle.teg_loops.specs.Loops.{IsCircuitTowards, IsSplit}
 use Rattle.teg_loops.proofs.Splitting.{split}
 use Rattle.slope_laws.proofs.Sums.{sum_small, times_add, times_le, le_times, at_least}
@@ -111,18 +110,17 @@ too_far nu step within c j k0 at s nexts tq mq times tokens many t q constant n1
 
 -- where each start either falls behind or is what W says, so is a best walk: it goes round, or W
 pub go_round_or :
-    {W : Type 0} (net : NetLists) → IsNet net → IsLive net → (u x : ℕ → ℕ → Date) → IsLeastUnder net u x
+    {W : Type 0} (net : NetLists) → HasEndsInRange net → IsLive net → (u x : ℕ → ℕ → Date) → IsLeastUnder net u x
     → (b k0 nu c step within constant : ℕ) → b < length net.transitions → 1 ≤ k0 → 1 ≤ nu → 1 ≤ step → 1 ≤ within → GoesBy x b k0 nu c step
     → ((a s date : ℕ) → a < length net.transitions → 1 ≤ s → Reaches net a b → start_of_firing net u a s ≡ At (pos date) → (s + within * (nu * date) ≤ within * (step * s) + constant) ⊎ W)
     → Tight net b nu step ⊎ W
-go_round_or {W} net ok live u x h b k0 nu c step within constant l o n1 s1 w1 goes behind =
+go_round_or {W} net ends live u x h b k0 nu c step within constant l o n1 s1 w1 goes behind =
     let n : ℕ = length net.transitions in
-    let t : ℕ = n * most_place_tokens in
-    let q : ℕ = n * greatest_hold in
+    let t : ℕ = n * token_bound net in
+    let q : ℕ = n * hold_bound net in
     let d : ℕ = within * (step * k0 + nu * q) + constant in
     let j : ℕ = suc (d + d + t + d * t) in
     let k : ℕ = k0 + j * nu in
-    let ends = net_ends net ok in
     let ranks = live_ranks net ends live in
     let w : IsDateOfWalk net u b k (x b k) = (least_is_walk net u x (suc (suc n)) ranks.0 ends ranks.1 h b k l (omega arith)).reached in
     let path : IsPathOf net w.steps w.from w.number b k = walk_path net w.steps w.from w.number b k w.walk in
@@ -139,14 +137,15 @@ go_round_or {W} net ok live u x h b k0 nu c step within constant l o n1 s1 w1 go
     let time = is.same (λ p. (place_at net p).hold) in
     let tokens = is.same (λ p. (place_at net p).tokens) in
     let each : sum_by (λ y. tokens_of net y) cs ≤ length cs * t =
-    sum_small (λ y. tokens_of net y) t cs (λ i e m. tokens_round net (get_or cs i e) ok (is.rounds i e m).circuit) in
+    sum_small (λ y. tokens_of net y) t cs (λ i e m. tokens_round net (token_bound net) (get_or cs i e) ends (tokens_bounded net) (is.rounds i e m).circuit) in
     ⊎_elim
     (λ (kept : w.number + within * (nu * start.at) ≤ within * (step * w.number) + constant).
     let far = too_far nu step within c j k0 start.at w.number path.nexts (time_of net qs) (tokens_of net qs)
     (sum_by (λ y. time_of net y) cs) (sum_by (λ y. tokens_of net y) cs) (length cs) t q constant n1 s1 w1
     (omega (arith, start.sum, path.time, time)) (omega (arith, path.number, tokens)) lacks
     kept
-    (time_straight net qs w.from b ok l is.path) (tokens_straight net qs w.from b ok l is.path) each in
+    (time_straight net (hold_bound net) qs w.from b ends (holds_bounded net) l is.path)
+    (tokens_straight net (token_bound net) qs w.from b ends (tokens_bounded net) l is.path) each in
     absurd (omega arith))
     (λ (other : W). inr other)
     (behind w.from w.number start.at w.from_in w.from_one (path.places, path.path) start.is))

@@ -4,15 +4,26 @@ use Rattle.std.specs.Prelude.{All, Contains, unwrap_or, ⊤}
 use Rattle.std.proofs.lemmas.Bool.{cases_lt, cases_eq}
 use Rattle.settled_laws.specs.teg_net.declared.entries.Again.{Again}
 use Rattle.settled_laws.specs.teg_net.declared.entries.InputList.{InputList}
-use Rattle.settled_laws.specs.teg_net.Nets.{NetLists, IsNet, IsInputOf, ListGoesOn, EndsOrGoesOn}
+use Rattle.settled_laws.specs.teg_net.Nets.{NetLists, IsNet, IsInput, IsInputOf, HasListsOfInputs, HasListsByRule, ListGoesOn, EndsOrGoesOn}
 use Rattle.settled_laws.specs.teg_net.Inputs.{moved_by, GoOnBy, IsInputDates, input_date}
-use Rattle.settled_laws.proofs.teg_net_proofs.InputDates.{AreInputDates-input_date}
+use Rattle.settled_laws.proofs.teg_net_proofs.InputDates.{dates_by_lists}
+use Rattle.settled_laws.proofs.teg_net_proofs.NetRules.{lists_by_rule, lists_of_inputs}
+
+-- the rule that one of the lists keeps, its input, and the dates that it gives
+pub rule_in : (net : NetLists) (l : InputList) → HasListsByRule net → Contains net.inputs l → EndsOrGoesOn l.dates l.again
+rule_in net l rules has = subst (λ (z : InputList). EndsOrGoesOn z.dates z.again) has.2 (rules has.0 l has.1)
+
+pub input_of : (net : NetLists) (l : InputList) → HasListsOfInputs net → Contains net.inputs l → IsInput net l.transition.index
+input_of net l inputs has = subst (λ (z : InputList). IsInput net z.transition.index) has.2 (inputs.is_input has.0 l has.1)
+
+pub dates_by_list : (net : NetLists) (l : InputList) → HasListsOfInputs net → HasListsByRule net → Contains net.inputs l → IsInputDates l (input_date net l.transition.index)
+dates_by_list net l inputs rules has =
+    let at : get_or net.inputs has.0 l ≡ l = has.2 in
+    (rw at at ((dates_by_lists net l.transition.index inputs.one_list rules).by_list has.0 l has.1)) refl
 
 -- what the net says of one of its lists, and the dates that the list gives
 pub dates_of_list : (net : NetLists) (l : InputList) → IsNet net → Contains net.inputs l → IsInputOf net l × IsInputDates l (input_date net l.transition.index)
-dates_of_list net l ok has =
-    let at : get_or net.inputs has.0 l ≡ l = has.2 in
-    (rw at at (ok.each_input has.0 l has.1), (rw at at ((AreInputDates-input_date net l.transition.index ok).by_list has.0 l has.1)) refl)
+dates_of_list net l ok has = (subst (IsInputOf net) has.2 (ok.each_input has.0 l has.1), dates_by_list net l (lists_of_inputs net ok) (lists_by_rule net ok) has)
 
 -- past its end it goes on by its rule
 pub goes_past : (long : ℕ) (o : Option Again) (again : Again) (u : ℕ → Option ℕ) → o ≡ Some again → GoOnBy long o u → (k : ℕ) → long < k → u k ≡ moved_by again.gap (u (k - again.every))

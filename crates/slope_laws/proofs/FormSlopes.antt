@@ -38,8 +38,8 @@ at_least_itself : (n p : ℕ) → 1 ≤ p → n ≤ n * p
 at_least_itself n p l = let is : p ≡ suc (p - 1) = omega arith in let wide : n * suc (p - 1) ≡ n + n * (p - 1) = grind arith in let same : n * p ≡ n * suc (p - 1) = ap (λ z. n * z) is in omega arith
 
 pub forms_have_slopes : FormsHaveSlopes
-forms_have_slopes net ok live x h t after period step l some again =
-    let by = nevers_come_from_ended_lists net ok live x h t l in
+forms_have_slopes net ends inputs rules live x h t after period step l some again =
+    let by = nevers_come_from_ended_lists net ends inputs rules live x h t l in
     let climbs : (s : ℕ) → 1 ≤ s → IsAtMostDate (x t s) (x t (s + 1)) = λ s o. dates_climb net (listed_releases net) x h.feasible t s l o in
     let begun : x t (after + 1) ≡ Never → IsTail (x t) after period Never = λ e k low high. ap (x t) (omega (arith, low)) ∙ by.on (after + 1) (k - (after + 1)) (omega arith) e in
     record {
@@ -66,9 +66,9 @@ forms_have_slopes net ok live x h t after period step l some again =
             first = date.1;
             again = λ k low. again k low ∙ (ap (λ z. move z (x t k)) s.1 ∙ sym (delayed_is_move s.0 (x t k)));
           } in
-          (s.0, s.1, slopes_are_greatest net ok live x h t after period s.0 l grows);
+          (s.0, s.1, slopes_are_greatest net ends inputs rules live x h t after period s.0 l grows);
     }
 
 pub settled_forms_have_slopes : SettledFormsHaveSlopes
-settled_forms_have_slopes net ok live x h f stands t l =
-    forms_have_slopes net ok live x h t f.after f.period (step_of_form f t) l stands.repeats.at_least_one (λ k low. stands.repeats.again t k l low)
+settled_forms_have_slopes net ends inputs rules live x h f stands t l =
+    forms_have_slopes net ends inputs rules live x h t f.after f.period (step_of_form f t) l stands.repeats.at_least_one (λ k low. stands.repeats.again t k l low)

@@ -10,7 +10,7 @@ use Rattle.settled_laws.specs.dioid.Dates.{IsAtMostDate, delayed}
 use Rattle.settled_laws.proofs.dioid_proofs.DateOrder.{at_most_refl, at_most_trans, delayed_rises, delayed_later}
 use Rattle.settled_laws.specs.teg_net.declared.entries.PlaceId.{PlaceId}
 use Rattle.settled_laws.specs.teg_net.declared.entries.Place.{Place}
-use Rattle.settled_laws.specs.teg_net.Nets.{NetLists, IsNet}
+use Rattle.settled_laws.specs.teg_net.Nets.{NetLists}
 use Rattle.settled_laws.specs.teg_net.Circuits.{place_at, IsPathBetween, time_of, tokens_of}
 use Rattle.settled_laws.proofs.teg_model_proofs.Delays.{delayed_twice, delayed_not}
 use Rattle.settled_laws.proofs.teg_model_proofs.WalkSteps.{Keeps}
@@ -18,16 +18,16 @@ use Rattle.slope_laws.proofs.Sums.{times_add, times_le}
 use Rattle.slope_laws.proofs.BestWalks.{GoesBy}
 
 -- what a dating carries along a path
-pub path_keeps : (net : NetLists) (x : ℕ → ℕ → Date) → IsNet net → Keeps net x → (ps : List PlaceId) (a b s : ℕ) → 1 ≤ s
+pub path_keeps : (net : NetLists) (x : ℕ → ℕ → Date) → Keeps net x → (ps : List PlaceId) (a b s : ℕ) → 1 ≤ s
     → IsPathBetween net a ps b → IsAtMostDate (delayed (time_of net ps) (x a s)) (x b (s + tokens_of net ps))
-path_keeps net x ok c [] a b s o h =
+path_keeps net x c [] a b s o h =
     let is : s + 0 ≡ s = omega arith in
     rw (is, delayed_not (x a s), h) (at_most_refl (x b s))
-path_keeps net x ok c (p ∷ ps) a b s o h =
+path_keeps net x c (p ∷ ps) a b s o h =
     let place : Place = place_at net p in
     let from : x place.from.index s ≡ x a s = ap (λ t. x t s) h.1 in
     let here = rw from at (c.by p s h.0 o) in
-    let rest = path_keeps net x ok c ps place.to.index b (s + place.tokens) (omega arith) h.2 in
+    let rest = path_keeps net x c ps place.to.index b (s + place.tokens) (omega arith) h.2 in
     let long : time_of net (p ∷ ps) ≡ place.hold + time_of net ps = sum_by-cons (λ q. (place_at net q).hold) p ps in
     let many : tokens_of net (p ∷ ps) ≡ place.tokens + tokens_of net ps = sum_by-cons (λ q. (place_at net q).tokens) p ps in
     let there : (s + place.tokens) + tokens_of net ps ≡ s + (place.tokens + tokens_of net ps) = omega arith in
@@ -82,16 +82,16 @@ lower x b k0 nu c step s0 gain each climbs o n1 s1 goes grows =
     omega (arith, low, left, right))
 
 -- a transition on a circuit grows by the time in each so many tokens
-pub round_grows : (net : NetLists) (x : ℕ → ℕ → Date) → IsNet net → Keeps net x → (ps : List PlaceId) (a : ℕ) → IsPathBetween net a ps a
+pub round_grows : (net : NetLists) (x : ℕ → ℕ → Date) → Keeps net x → (ps : List PlaceId) (a : ℕ) → IsPathBetween net a ps a
     → IsAtMostDate (At (pos 0)) (x a 1) → (i : ℕ) → IsAtMostDate (At (pos (i * time_of net ps))) (x a (1 + i * tokens_of net ps))
-round_grows net x ok c ps a h zero' zero =
+round_grows net x c ps a h zero' zero =
     let none : 0 * time_of net ps ≡ 0 = grind arith in
     let is : 1 + 0 * tokens_of net ps ≡ 1 = grind arith in
     rw (none, is) zero'
-round_grows net x ok c ps a h zero' (suc i) =
-    let before = round_grows net x ok c ps a h zero' i in
+round_grows net x c ps a h zero' (suc i) =
+    let before = round_grows net x c ps a h zero' i in
     let s : ℕ = 1 + i * tokens_of net ps in
-    let on = path_keeps net x ok c ps a a s (omega arith) h in
+    let on = path_keeps net x c ps a a s (omega arith) h in
     let up = delayed_rises (time_of net ps) (At (pos (i * time_of net ps))) (x a s) before in
     let sum : suc i * time_of net ps ≡ i * time_of net ps + time_of net ps = grind arith in
     let date : At (pos (suc i * time_of net ps)) ≡ delayed (time_of net ps) (At (pos (i * time_of net ps))) = ap At (omega (arith, ints, sum)) in
@@ -99,11 +99,11 @@ round_grows net x ok c ps a h zero' (suc i) =
     rw (date, is) (at_most_trans (delayed (time_of net ps) (At (pos (i * time_of net ps)))) (delayed (time_of net ps) (x a s)) (x a (s + tokens_of net ps)) up on)
 
 -- what grows at a grows at b
-pub carried : (net : NetLists) (x : ℕ → ℕ → Date) → IsNet net → Keeps net x → (qs : List PlaceId) (a b s gain each : ℕ) → 1 ≤ s
+pub carried : (net : NetLists) (x : ℕ → ℕ → Date) → Keeps net x → (qs : List PlaceId) (a b s gain each : ℕ) → 1 ≤ s
     → IsPathBetween net a qs b → ((i : ℕ) → IsAtMostDate (At (pos (i * gain))) (x a (s + i * each))) → (i : ℕ)
     → IsAtMostDate (At (pos (i * gain))) (x b ((s + tokens_of net qs) + i * each))
-carried net x ok c qs a b s gain each o h grows i =
-    let on = path_keeps net x ok c qs a b (s + i * each) (omega arith) h in
+carried net x c qs a b s gain each o h grows i =
+    let on = path_keeps net x c qs a b (s + i * each) (omega arith) h in
     let later = at_most_trans (x a (s + i * each)) (delayed (time_of net qs) (x a (s + i * each))) (x b ((s + i * each) + tokens_of net qs)) (delayed_later (time_of net qs) (x a (s + i * each))) on in
     let is : (s + tokens_of net qs) + i * each ≡ (s + i * each) + tokens_of net qs = omega arith in
     rw is (at_most_trans (At (pos (i * gain))) (x a (s + i * each)) (x b ((s + i * each) + tokens_of net qs)) (grows i) later)

@@ -1,14 +1,13 @@
 -- The path that a walk goes along, and how much of it may be off circuits.
 use Rattle.std.proofs.Common.{ℕ, suc, ◌+◌, ◌*◌, ◌<◌, ◌≤◌, ◌≡◌, List, [], ◌∷◌, length, refl, arith}
+use Rattle.std.specs.Prelude.{All}
 use Rattle.std.proofs.lemmas.List.Sums.{sum_by-cons}
 use Rattle.settled_laws.specs.teg_net.declared.entries.PlaceId.{PlaceId}
 use Rattle.settled_laws.specs.teg_net.declared.walks.Step.{Step}
 use Rattle.settled_laws.specs.teg_net.declared.walks.Step.TheVariants.{By, Next}
-use Rattle.settled_laws.specs.teg_net.Limits.{greatest_hold, most_place_tokens}
-use Rattle.settled_laws.specs.teg_net.Nets.{NetLists, IsNet}
+use Rattle.settled_laws.specs.teg_net.Nets.{NetLists, HasEndsInRange}
 use Rattle.settled_laws.specs.teg_net.Circuits.{no_place, place_at, IsPathBetween, IsCircuit, time_of, tokens_of}
 use Rattle.settled_laws.specs.teg_net.Walks.{Walks, step_time, walk_time}
-use Rattle.settled_laws.proofs.teg_net_proofs.NetRules.{net_ends}
 use Rattle.teg_loops.specs.Loops.{IsStraight}
 use Rattle.teg_loops.proofs.Ends.{ends_below}
 use Rattle.teg_loops.proofs.Straight.{straight_short, loop_short}
@@ -43,21 +42,24 @@ walk_path net (Next ∷ steps) a s b k w =
     record { places = rest.places; nexts = suc rest.nexts; path = rest.path; time = omega (arith, rest.time, here); number = omega (arith, rest.number) }
 
 -- a straight path has few tokens, and takes little time
-pub tokens_straight : (net : NetLists) (ps : List PlaceId) (a b : ℕ) → IsNet net → b < length net.transitions → IsStraight net a ps b → tokens_of net ps ≤ length net.transitions * most_place_tokens
-tokens_straight net ps a b ok l h =
-    let few = straight_short net (length net.transitions) ps a b (ends_below net (net_ends net ok)) l h in
-    let each = sum_most (λ q. (place_at net q).tokens) most_place_tokens net (λ id m. (ok.each_place id.index no_place m).tokens_in) ps a b h.path in
-    omega (arith, each, le_times most_place_tokens (length ps) (length net.transitions) (omega arith))
+pub tokens_straight : (net : NetLists) (most : ℕ) (ps : List PlaceId) (a b : ℕ) → HasEndsInRange net → All (λ p. p.tokens ≤ most) net.places
+    → b < length net.transitions → IsStraight net a ps b → tokens_of net ps ≤ length net.transitions * most
+tokens_straight net most ps a b ends marks l h =
+    let few = straight_short net (length net.transitions) ps a b (ends_below net ends) l h in
+    let each = sum_most (λ q. (place_at net q).tokens) most net (λ id m. marks id.index no_place m) ps a b h.path in
+    omega (arith, each, le_times most (length ps) (length net.transitions) (omega arith))
 
-pub time_straight : (net : NetLists) (ps : List PlaceId) (a b : ℕ) → IsNet net → b < length net.transitions → IsStraight net a ps b → time_of net ps ≤ length net.transitions * greatest_hold
-time_straight net ps a b ok l h =
-    let few = straight_short net (length net.transitions) ps a b (ends_below net (net_ends net ok)) l h in
-    let each = sum_most (λ q. (place_at net q).hold) greatest_hold net (λ id m. (ok.each_place id.index no_place m).hold_in) ps a b h.path in
-    omega (arith, each, le_times greatest_hold (length ps) (length net.transitions) (omega arith))
+pub time_straight : (net : NetLists) (hold : ℕ) (ps : List PlaceId) (a b : ℕ) → HasEndsInRange net → All (λ p. p.hold ≤ hold) net.places
+    → b < length net.transitions → IsStraight net a ps b → time_of net ps ≤ length net.transitions * hold
+time_straight net hold ps a b ends holds l h =
+    let few = straight_short net (length net.transitions) ps a b (ends_below net ends) l h in
+    let each = sum_most (λ q. (place_at net q).hold) hold net (λ id m. holds id.index no_place m) ps a b h.path in
+    omega (arith, each, le_times hold (length ps) (length net.transitions) (omega arith))
 
 -- so does a circuit
-pub tokens_round : (net : NetLists) (ps : List PlaceId) → IsNet net → IsCircuit net ps → tokens_of net ps ≤ length net.transitions * most_place_tokens
-tokens_round net ps ok c =
-    let few = loop_short net (length net.transitions) ps (ends_below net (net_ends net ok)) c in
-    let each = sum_most (λ q. (place_at net q).tokens) most_place_tokens net (λ id m. (ok.each_place id.index no_place m).tokens_in) ps c.closed.0 c.closed.0 c.closed.1 in
-    omega (arith, each, le_times most_place_tokens (length ps) (length net.transitions) few)
+pub tokens_round : (net : NetLists) (most : ℕ) (ps : List PlaceId) → HasEndsInRange net → All (λ p. p.tokens ≤ most) net.places
+    → IsCircuit net ps → tokens_of net ps ≤ length net.transitions * most
+tokens_round net most ps ends marks c =
+    let few = loop_short net (length net.transitions) ps (ends_below net ends) c in
+    let each = sum_most (λ q. (place_at net q).tokens) most net (λ id m. marks id.index no_place m) ps c.closed.0 c.closed.0 c.closed.1 in
+    omega (arith, each, le_times most (length ps) (length net.transitions) few)

@@ -4,7 +4,7 @@ use Rattle.settled_laws.specs.dioid.declared.dates.Date.{Date}
 use Rattle.settled_laws.specs.dioid.declared.dates.Date.TheVariants.{Never}
 use Rattle.settled_laws.specs.dioid.Dates.{move}
 use Rattle.settled_laws.specs.teg_net.declared.entries.InputList.{InputList}
-use Rattle.settled_laws.specs.teg_net.Nets.{NetLists, IsNet}
+use Rattle.settled_laws.specs.teg_net.Nets.{NetLists, HasEndsInRange, HasListsOfInputs, HasListsByRule}
 use Rattle.settled_laws.specs.teg_net.Circuits.{IsLive}
 use Rattle.settled_laws.specs.teg_model.Datings.{IsLeastDating}
 use Rattle.settled_laws.specs.SettledForms.{SettledForm, StandsFor, step_of_form}
@@ -18,17 +18,17 @@ pub record NeverByEndedLists (net : NetLists) (dates : ℕ → Date) (t : ℕ) :
 
 -- in a live net the least dates of a transition are Never only by lists that end
 abbrev pub NeversComeFromEndedLists : Type 0
-NeversComeFromEndedLists = (net : NetLists) → IsNet net → IsLive net → (x : ℕ → ℕ → Date) → IsLeastDating net x
+NeversComeFromEndedLists = (net : NetLists) → HasEndsInRange net → HasListsOfInputs net → HasListsByRule net → IsLive net → (x : ℕ → ℕ → Date) → IsLeastDating net x
     → (t : ℕ) → t < length net.transitions → NeverByEndedLists net (x t) t
 
 -- where the dates of one transition of a live net repeat past some number, they have its slope
 abbrev pub FormsHaveSlopes : Type 0
-FormsHaveSlopes = (net : NetLists) → IsNet net → IsLive net → (x : ℕ → ℕ → Date) → IsLeastDating net x
+FormsHaveSlopes = (net : NetLists) → HasEndsInRange net → HasListsOfInputs net → HasListsByRule net → IsLive net → (x : ℕ → ℕ → Date) → IsLeastDating net x
     → (t after period : ℕ) (step : ℤ) → t < length net.transitions → 1 ≤ period
     → ((k : ℕ) → after < k → x t (k + period) ≡ move step (x t k)) → HasSlope net (x t) t after period step
 
 -- the dates of each transition in each settled form of the least dating of a live net have its slope
 abbrev pub SettledFormsHaveSlopes : Type 0
-SettledFormsHaveSlopes = (net : NetLists) → IsNet net → IsLive net → (x : ℕ → ℕ → Date) → IsLeastDating net x
+SettledFormsHaveSlopes = (net : NetLists) → HasEndsInRange net → HasListsOfInputs net → HasListsByRule net → IsLive net → (x : ℕ → ℕ → Date) → IsLeastDating net x
     → (f : SettledForm) → StandsFor (length net.transitions) f x
     → (t : ℕ) → t < length net.transitions → HasSlope net (x t) t f.after f.period (step_of_form f t)

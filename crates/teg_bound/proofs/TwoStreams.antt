@@ -6,6 +6,7 @@ use Rattle.dioid.specs.Dates.{move}
 use Rattle.teg_net.specs.Nets.{NetLists, IsNet}
 use Rattle.teg_net.specs.Circuits.{no_place, IsLive}
 use Rattle.teg_net.specs.Limits.{greatest_firing_number}
+use Rattle.teg_net.proofs.NetRules.{lists_by_rule, lists_rise, net_ends}
 use Rattle.teg_check.specs.Ranks.{IsRanking}
 use Rattle.periodic_laws.specs.teg_model.DateBounds.{IsDateWithin}
 use Rattle.periodic_laws.specs.teg_model.Datings.{IsLeastDating}
@@ -181,6 +182,6 @@ form_within law net ok live settles = record {
   after = repeats_past net;
   period = repeats_in net;
   step = repeats_by net;
-  repeats = law net ok live settles.1.0 settles.1.1;
+  repeats = law net (net_ends net ok) (lists_rise net ok) (lists_by_rule net ok) live settles.1.0 settles.1.1;
   fits = omega arith;
 }

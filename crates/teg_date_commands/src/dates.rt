@@ -1,6 +1,7 @@
 //! The dates of a live net for ever, and one of them.
 ghost use Rattle.std.specs.Prelude.{◌≤◌, ◌<◌, IfErr, IfOk, IfSome, Some, length};
 ghost use Rattle.settled_laws.specs.SettledForms.{IsSettledFormOf, NetSettlesPast};
+ghost use Rattle.periodic_laws.specs.LinearSystem.{SettlesShortest};
 ghost use Rattle.teg_outcome.specs.CommandOutcomes.{Tells, outcome_of};
 ghost use Rattle.teg_date_commands.specs.CommandDates.{FormExceedsLimit, IsFormWithinLimit, SaysDate, SaysDateOf, SaysDates, SaysTooLong, SettlesWithin, TellsNoTransition};
 ghost use Rattle.teg_net.specs.Limits.{greatest_firing_number};
@@ -52,6 +53,16 @@ fn settled(alloc: Global, net: &LiveNet, limit: Option<u32>) -> Result<Settled, 
     }
 }
 
+// That the least dating of a live net has a settled form.
+fn has_settled_form(net: &LiveNet)
+    ensures { SettlesShortest net.now }
+{
+    live_nets_settle();
+    let held = net.net();
+    // The net keeps its rules.
+    held.rules();
+}
+
 // The date of one firing by the least dating: by its settled form where that has a limit, and else
 // by rows, form or jumps, whichever tells it first.
 fn least_date(
@@ -77,9 +88,7 @@ fn least_date(
             Ok(settled.date(transition, number))
         }
         None => {
-            // That the least dating of a live net has a settled form.
-            live_nets_settle();
-            net.net().rules();
+            has_settled_form(net);
             Ok(date_of_part(alloc, net.net(), net.live(), transition, number)?)
         }
     }

@@ -1,6 +1,7 @@
 -- The shortest form of the least dates by a net's own releases is that of the net, and has the slopes of the net.
 use Rattle.std.proofs.Common.{ℕ, List}
 use Rattle.teg_net.specs.Nets.{NetLists, IsNet}
+use Rattle.teg_net.proofs.NetRules.{lists_by_rule, lists_of_inputs, net_ends}
 use Rattle.teg_check.specs.Ranks.{IsRanking}
 use Rattle.teg_check.proofs.Liveness.{ranking_is_live}
 use Rattle.periodic_laws.specs.settled_laws.SettledForms.{SettledForm, step_of_form, IsSettledFormOf, NetSettlesPast}
@@ -25,4 +26,4 @@ module _ (net : NetLists) (r : Releases) (own : AreOwnReleases net r) where
   pub own_slopes : (ranks : List ℕ) → IsNet net → IsRanking net ranks → (f : SettledForm) → IsLeastForm net r f → HasSlopes net f
   own_slopes ranks ok ranking f h =
       let least = own_least net r own.tokens own.waits h.0 h.1 in
-      (h.0, least, h.2.stands, λ t l. settled_forms_have_slopes net ok (ranking_is_live net ranks ranking) h.0 least f h.2.stands t l)
+      (h.0, least, h.2.stands, λ t l. settled_forms_have_slopes net (net_ends net ok) (lists_of_inputs net ok) (lists_by_rule net ok) (ranking_is_live net ranks ranking) h.0 least f h.2.stands t l)

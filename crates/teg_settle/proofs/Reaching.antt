@@ -3,6 +3,7 @@ use Rattle.std.proofs.Common.{ℕ, ◌+◌, ◌<◌, ◌≤◌, arith, ⊎_elim}
 use Rattle.std.proofs.lemmas.Bool.{cases_lt}
 use Rattle.teg_net.specs.Nets.{NetLists}
 use Rattle.teg_net.specs.Circuits.{IsLive}
+use Rattle.teg_net.proofs.NetRules.{lists_by_rule, lists_rise, net_ends}
 use Rattle.periodic_laws.specs.RepeatNumbers.{repeats_past, repeats_in, repeats_by}
 use Rattle.periodic_laws.specs.LinearSystem.{LeastDatingsRepeat}
 use Rattle.teg_settle.specs.declared.releases.Releases.{Releases}
@@ -20,7 +21,8 @@ pub fewer_unseen : LeastDatingsRepeat → (net : NetLists) → IsLive net → (r
     → (count : ℕ) → ((period : ℕ) → IsRefuted net r most count period) → count < enough_rows net most
 fewer_unseen law net live r own most h count none =
     let is = least_is net r most h in
-    let repeats = law net h.is_net live (least net r most h) (own_least net r own.tokens own.waits (least net r most h) is) in
+    let ok = h.is_net in
+    let repeats = law net (net_ends net ok) (lists_rise net ok) (lists_by_rule net ok) live (least net r most h) (own_least net r own.tokens own.waits (least net r most h) is) in
     ⊎_elim
     (λ (l : count < enough_rows net most). l)
     (λ (l : enough_rows net most ≤ count). absurd (none (repeats_in net) (least net r most h) is (repeats_past net) (repeats_by net) repeats (omega arith)))
