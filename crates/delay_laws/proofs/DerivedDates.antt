@@ -11,14 +11,14 @@ use Rattle.periodic_laws.specs.dioid.DateOrder.{Le}
 use Rattle.periodic_laws.proofs.dioid_proofs.AtMost.{le_refl, le_is, le_trans, le_antisym}
 use Rattle.teg_net.specs.declared.entries.Place.{Place}
 use Rattle.teg_net.specs.declared.entries.PlaceId.{PlaceId}
-use Rattle.teg_net.specs.Nets.{NetLists, IsNet}
+use Rattle.teg_net.specs.Nets.{NetLists, HasListsOfInputs, HasListsByRule}
 use Rattle.teg_net.specs.Circuits.{no_place, place_at, IsLive}
 use Rattle.periodic_laws.specs.teg_model.Systems.{available_in, IsFeasibleIn}
 use Rattle.periodic_laws.specs.teg_model.LiveRanks.{HasEndsInRange, IsRanked}
 use Rattle.periodic_laws.specs.teg_model.Datings.{implicit_place, initial_date, available_at, listed_releases, IsFeasibleUnder, IsLeastDating, system_with}
 use Rattle.periodic_laws.specs.teg_model.LeastDatings.{IsTight}
 use Rattle.periodic_laws.proofs.teg_model_proofs.Delays.{delayed_not}
-use Rattle.periodic_laws.proofs.teg_model_proofs.OfNet.{net_ends, all_extended_in, extended_has, implicit_is, tight_of_least}
+use Rattle.periodic_laws.proofs.teg_model_proofs.OfNet.{all_extended_in, extended_has, implicit_is, tight_of_least}
 use Rattle.periodic_laws.proofs.teg_model_proofs.Tokens.{available_after, available_first, available_same, implicit_keeps}
 use Rattle.periodic_laws.proofs.teg_model_proofs.LiveRanks.{live_is_ranked}
 use Rattle.periodic_laws.proofs.teg_model_proofs.DateFunctions.{Dating}
@@ -70,7 +70,8 @@ released_at x n i k o =
     let e : k - 0 ≡ k = omega arith in
     available_after initial_date x (release_place n i) k (x (n + i) k) o (ap (x (n + i)) e) ∙ delayed_not (x (n + i) k)
 
-module _ (net : NetLists) (ends : HasEndsInRange net) (live : IsLive net) (period : ℕ) (t : Timetable) (derived : NetLists) (ok : IsNet derived) (r : IsReleaseNet net period t derived) where
+module _ (net : NetLists) (ends : HasEndsInRange net) (live : IsLive net) (period : ℕ) (t : Timetable) (derived : NetLists)
+    (own_ends : HasEndsInRange derived) (inputs : HasListsOfInputs derived) (rules : HasListsByRule derived) (r : IsReleaseNet net period t derived) where
   abbrev n : ℕ
   n = length net.transitions
 
@@ -78,7 +79,7 @@ module _ (net : NetLists) (ends : HasEndsInRange net) (live : IsLive net) (perio
   w i k = listed_releases derived (n + i) k
 
   release : IsRelease net period t w
-  release = lists_release net period t derived ok r
+  release = lists_release net period t derived inputs rules r
 
   -- the releases never fall
   w_rises : (i k : ℕ) → i < n → 1 ≤ k → Le (w i k) (w i (k + 1))
@@ -105,7 +106,7 @@ module _ (net : NetLists) (ends : HasEndsInRange net) (live : IsLive net) (perio
   module _ (y : Dating) (h : IsLeastDating derived y) where
     tight : IsTight derived (listed_releases derived) y
     tight =
-        let ranked : IsRanked derived = live_is_ranked derived (net_ends derived ok) (stays_live net ends period t derived r live) in
+        let ranked : IsRanked derived = live_is_ranked derived own_ends (stays_live net ends period t derived r live) in
         tight_of_least derived (listed_releases derived) y ranked.0 ranked.1 ranked.2 h
 
     -- each input fires at its releases

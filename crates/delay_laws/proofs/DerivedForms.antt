@@ -9,7 +9,7 @@ use Rattle.settled_laws.proofs.Alike.{shortest_alike, past_alike}
 use Rattle.delay_laws.proofs.DerivedDates.{beside, is_delayed, are_alike}
 
 pub release_nets_tell_delays : ReleaseNetsTellDelays
-release_nets_tell_delays net ends live period t derived ok r =
+release_nets_tell_delays net ends live period t derived own inputs rules r =
     let n : ℕ = length net.transitions in
     let w : Dating = λ i k. listed_releases derived (n + i) k in
     record {
@@ -17,10 +17,10 @@ release_nets_tell_delays net ends live period t derived ok r =
           let y : Dating = h.0 in
           let x : Dating = beside n y w in
           let short : IsShortestForm (n + n) f y = subst (λ (c : ℕ). IsShortestForm c f y) r.twice h.2 in
-          (x, w, is_delayed net ends live period t derived ok r y h.1, shortest_alike (n + n) f y (together n x w) (are_alike net ends live period t derived ok r y h.1) short);
+          (x, w, is_delayed net ends live period t derived own inputs rules r y h.1, shortest_alike (n + n) f y (together n x w) (are_alike net ends live period t derived own inputs rules r y h.1) short);
       past = λ limit h.
           let y : Dating = h.0 in
           let x : Dating = beside n y w in
           let long : SettlesPast (n + n) y limit = subst (λ (c : ℕ). SettlesPast c y limit) r.twice h.2 in
-          (x, w, is_delayed net ends live period t derived ok r y h.1, past_alike (n + n) y (together n x w) limit (are_alike net ends live period t derived ok r y h.1) long);
+          (x, w, is_delayed net ends live period t derived own inputs rules r y h.1, past_alike (n + n) y (together n x w) limit (are_alike net ends live period t derived own inputs rules r y h.1) long);
     }

@@ -4,9 +4,9 @@ use Rattle.std.proofs.lemmas.Bool.{cases_lt}
 use Rattle.std.proofs.Math.Nat.{mul-le-mul_left}
 use Rattle.teg_net.specs.declared.entries.Again.{Again}
 use Rattle.teg_net.specs.declared.entries.InputList.{InputList}
-use Rattle.teg_net.specs.Nets.{NetLists, IsNet}
+use Rattle.teg_net.specs.Nets.{NetLists, HasListsOfInputs, HasListsByRule}
 use Rattle.teg_net.specs.Inputs.{moved_by, GoOnBy, IsInputDates, input_date}
-use Rattle.teg_net.proofs.InputDates.{AreInputDates-input_date}
+use Rattle.teg_net.proofs.InputDates.{dates_by_lists}
 use Rattle.periodic_laws.specs.teg_model.Datings.{as_date, listed_releases}
 use Rattle.delay_laws.specs.declared.table.Timetable.{Timetable}
 use Rattle.delay_laws.specs.PlannedTimetables.{planned, IsPastDelays}
@@ -62,14 +62,14 @@ list_tells period t n i l u rs h k o =
     (λ (near : k ≤ long). (get_or l.dates (k - 1) 0, h.listed k o near, rs.dates k o near))
     (cases_lt long k)
 
-pub lists_release : (net : NetLists) (period : ℕ) (t : Timetable) (derived : NetLists) → IsNet derived → IsReleaseNet net period t derived
+pub lists_release : (net : NetLists) (period : ℕ) (t : Timetable) (derived : NetLists) → HasListsOfInputs derived → HasListsByRule derived → IsReleaseNet net period t derived
     → IsRelease net period t (λ i k. listed_releases derived (length net.transitions + i) k)
-lists_release net period t derived ok r i k l o =
+lists_release net period t derived inputs rules r i k l o =
     let n : ℕ = length net.transitions in
     let d : InputList = record { transition = record { index = 0 }; dates = []; again = None } in
     let entry : InputList = get_or derived.inputs i d in
     let rs : IsReleaseList period t n i entry = r.lists i d l in
     let count = r.list_count in
-    let dates : IsInputDates entry (input_date derived (n + i)) = (AreInputDates-input_date derived (n + i) ok).by_list i d (omega arith) rs.of in
+    let dates : IsInputDates entry (input_date derived (n + i)) = (dates_by_lists derived (n + i) inputs.one_list rules).by_list i d (omega arith) rs.of in
     let told = list_tells period t n i entry (input_date derived (n + i)) rs dates k o in
     (told.0, ap as_date told.1, told.2)

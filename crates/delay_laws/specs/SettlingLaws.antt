@@ -2,7 +2,7 @@
 use Rattle.std.specs.Prelude.{ℕ, ℤ, pos, negsuc, ◌+◌, ◌-◌, ◌*◌, ◌≤◌, ◌<◌, ◌≡◌, length}
 use Rattle.periodic_laws.specs.dioid.declared.dates.Date.{Date}
 use Rattle.periodic_laws.specs.dioid.declared.dates.Date.TheVariants.{Early, At, Never}
-use Rattle.teg_net.specs.Nets.{NetLists, IsNet}
+use Rattle.teg_net.specs.Nets.{NetLists, HasListsOfInputs, HasListsByRule}
 use Rattle.teg_net.specs.Circuits.{IsLive}
 use Rattle.periodic_laws.specs.teg_model.LiveRanks.{HasEndsInRange}
 use Rattle.settled_laws.specs.SettledForms.{SettledForm, RepeatsAfter, IsSettledFormOf, NetSettlesPast, settled_date}
@@ -26,8 +26,8 @@ pub record TellsDelays (net : NetLists) (period : ℕ) (t : Timetable) (derived 
 
 -- the least dating of each net with the releases as inputs tells the delays
 abbrev pub ReleaseNetsTellDelays : Type 0
-ReleaseNetsTellDelays = (net : NetLists) → HasEndsInRange net → IsLive net → (period : ℕ) (t : Timetable) (derived : NetLists) → IsNet derived
-    → IsReleaseNet net period t derived → TellsDelays net period t derived
+ReleaseNetsTellDelays = (net : NetLists) → HasEndsInRange net → IsLive net → (period : ℕ) (t : Timetable) (derived : NetLists)
+    → HasEndsInRange derived → HasListsOfInputs derived → HasListsByRule derived → IsReleaseNet net period t derived → TellsDelays net period t derived
 
 -- in each period the dates go on by as many planned steps
 abbrev pub StepsAreThePlan : Type 0
