@@ -4,9 +4,8 @@ use Rattle.dioid.specs.declared.dates.Date.{Date}
 use Rattle.dioid.specs.declared.dates.Date.TheVariants.{Early, Never}
 use Rattle.dioid.specs.Dates.{move}
 use Rattle.teg_net.specs.declared.entries.Place.{Place}
-use Rattle.teg_net.specs.Nets.{NetLists, IsInput}
+use Rattle.teg_net.specs.Nets.{NetLists, HasEndsInRange, IsInput}
 use Rattle.teg_net.specs.Circuits.{IsLive}
-use Rattle.teg_model.specs.LiveRanks.{HasEndsInRange}
 use Rattle.teg_model.specs.Datings.{IsLeastUnder}
 use Rattle.settled_laws.specs.SettledForms.{RepeatsAfter}
 

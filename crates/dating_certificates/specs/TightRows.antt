@@ -2,9 +2,8 @@
 use Rattle.std.specs.Prelude.{ℕ, ◌<◌, ◌≤◌, ◌≡◌, length, All}
 use Rattle.dioid.specs.declared.dates.Date.{Date}
 use Rattle.dioid.specs.Dates.{IsAtMostDate}
-use Rattle.teg_net.specs.Nets.{NetLists, IsInput}
+use Rattle.teg_net.specs.Nets.{NetLists, HasEndsInRange, IsInput}
 use Rattle.teg_net.specs.Circuits.{IsLive}
-use Rattle.teg_model.specs.LiveRanks.{HasEndsInRange}
 use Rattle.teg_model.specs.Datings.{IsLeastUnder, extended_places, available_at}
 
 -- the date is at most z: each token that the firing takes, and at an input its release, is there by z

@@ -2,8 +2,7 @@
 use Rattle.std.specs.Prelude.{ℕ, ◌<◌, ◌≤◌, length}
 use Rattle.teg_model.specs.dioid.declared.dates.Date.{Date}
 use Rattle.teg_model.specs.dioid.Dates.{IsAtMostDate}
-use Rattle.teg_model.specs.teg_net.Nets.{NetLists, IsInput}
-use Rattle.teg_model.specs.LiveRanks.{HasEndsInRange}
+use Rattle.teg_model.specs.teg_net.Nets.{NetLists, HasEndsInRange, IsInput}
 use Rattle.teg_model.specs.Datings.{IsLeastUnder}
 use Rattle.change_laws.specs.SlowerNets.{HasReadyDatesOfTokens, IsSlowerNet}
 

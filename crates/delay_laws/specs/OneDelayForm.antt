@@ -1,8 +1,7 @@
 -- A timetable has one settled form and one family of delays left in a net: they do not hang on which delayed dating is taken.
 use Rattle.std.specs.Prelude.{ℕ, ◌+◌, ◌≤◌, ◌<◌, ◌≡◌, length}
 use Rattle.periodic_laws.specs.dioid.declared.dates.Date.{Date}
-use Rattle.teg_net.specs.Nets.{NetLists}
-use Rattle.periodic_laws.specs.teg_model.LiveRanks.{HasEndsInRange}
+use Rattle.teg_net.specs.Nets.{NetLists, HasEndsInRange}
 use Rattle.settled_laws.specs.SettledForms.{SettledForm, IsShortestForm}
 use Rattle.delay_laws.specs.declared.table.Timetable.{Timetable}
 use Rattle.delay_laws.specs.Delays.{IsDelayedBy, AreDelaysLeft, together, IsFormOfDelays}

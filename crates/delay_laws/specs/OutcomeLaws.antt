@@ -1,10 +1,9 @@
 -- What becomes of the delays that are left (chapters 2 and 3).
 use Rattle.std.specs.Prelude.{ℕ, ◌≤◌, ◌<◌, ◌≡◌, ◌⊎◌, List, All, length}
 use Rattle.teg_net.specs.declared.entries.PlaceId.{PlaceId}
-use Rattle.teg_net.specs.Nets.{NetLists}
+use Rattle.teg_net.specs.Nets.{NetLists, HasEndsInRange}
 use Rattle.teg_net.specs.Circuits.{from_of, IsCircuit, IsLive, BeginsLowest}
 use Rattle.teg_net.specs.Parts.{to_of}
-use Rattle.periodic_laws.specs.teg_model.LiveRanks.{HasEndsInRange}
 use Rattle.delay_laws.specs.declared.table.Timetable.{Timetable}
 use Rattle.delay_laws.specs.PlannedTimetables.{IsWorkable}
 use Rattle.delay_laws.specs.DelayOutcomes.{IsRecovered, KeepsDelays, HasNoSpare, HasDelayPast, IsGreatestPast}

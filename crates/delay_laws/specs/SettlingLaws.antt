@@ -2,9 +2,8 @@
 use Rattle.std.specs.Prelude.{ℕ, ℤ, pos, negsuc, ◌+◌, ◌-◌, ◌*◌, ◌≤◌, ◌<◌, ◌≡◌, length}
 use Rattle.periodic_laws.specs.dioid.declared.dates.Date.{Date}
 use Rattle.periodic_laws.specs.dioid.declared.dates.Date.TheVariants.{Early, At, Never}
-use Rattle.teg_net.specs.Nets.{NetLists, HasListsOfInputs, HasListsByRule}
+use Rattle.teg_net.specs.Nets.{NetLists, HasEndsInRange, HasListsOfInputs, HasListsByRule}
 use Rattle.teg_net.specs.Circuits.{IsLive}
-use Rattle.periodic_laws.specs.teg_model.LiveRanks.{HasEndsInRange}
 use Rattle.settled_laws.specs.SettledForms.{SettledForm, RepeatsAfter, IsSettledFormOf, NetSettlesPast, settled_date}
 use Rattle.delay_laws.specs.declared.table.Timetable.{Timetable}
 use Rattle.delay_laws.specs.PlannedTimetables.{planned, AreDelaysUpTo, IsWorkable}

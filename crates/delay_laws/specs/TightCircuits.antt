@@ -1,9 +1,8 @@
 -- What shows that delays stay: a circuit to which the plan leaves no spare time (chapters 2 and 3).
 use Rattle.std.specs.Prelude.{ℕ, ◌+◌, ◌*◌, ◌≤◌, ◌<◌, ◌≡◌, List, Contains, length}
 use Rattle.teg_net.specs.declared.entries.PlaceId.{PlaceId}
-use Rattle.teg_net.specs.Nets.{NetLists}
+use Rattle.teg_net.specs.Nets.{NetLists, HasEndsInRange}
 use Rattle.teg_net.specs.Circuits.{from_of, IsPathBetween, IsCircuit, IsLive, BeginsLowest, time_of, tokens_of}
-use Rattle.periodic_laws.specs.teg_model.LiveRanks.{HasEndsInRange}
 use Rattle.delay_laws.specs.declared.table.Timetable.{Timetable}
 use Rattle.delay_laws.specs.PlannedTimetables.{first_planned, delay_given, IsWorkable}
 use Rattle.delay_laws.specs.Delays.{AreDelaysLeft}

@@ -2,8 +2,7 @@
 use Rattle.std.specs.Prelude.{ℕ, ◌≡◌, ◌↔◌, List, Option, Some}
 use Rattle.teg_model.specs.dioid.declared.dates.Date.{Date}
 use Rattle.teg_model.specs.dioid.declared.dates.Date.TheVariants.{Never}
-use Rattle.teg_model.specs.LiveRanks.{HasEndsInRange}
-use Rattle.teg_model.specs.teg_net.Nets.{NetLists}
+use Rattle.teg_model.specs.teg_net.Nets.{NetLists, HasEndsInRange}
 use Rattle.teg_model.specs.teg_net.Circuits.{IsLive}
 use Rattle.teg_model.specs.teg_net.declared.walks.Step.{Step}
 use Rattle.teg_model.specs.teg_net.Walks.{Walks}

@@ -4,14 +4,13 @@ use Rattle.periodic_laws.specs.teg_net.declared.entries.PlaceId.{PlaceId}
 use Rattle.periodic_laws.specs.teg_net.declared.answers.PartAnswer.{PartAnswer}
 use Rattle.periodic_laws.specs.teg_net.declared.answers.PartAnswer.TheVariants.{NoCircuit, Best}
 use Rattle.periodic_laws.specs.teg_net.declared.answers.CycleAnswer.{CycleAnswer}
-use Rattle.periodic_laws.specs.teg_net.Nets.{NetLists}
+use Rattle.periodic_laws.specs.teg_net.Nets.{NetLists, HasEndsInRange}
 use Rattle.periodic_laws.specs.teg_net.Ratios.{Fraction}
 use Rattle.periodic_laws.specs.teg_net.Circuits.{from_of}
 use Rattle.periodic_laws.specs.teg_net.Parts.{to_of}
 use Rattle.periodic_laws.specs.teg_net.ReducedTimes.{reduced_time}
 use Rattle.periodic_laws.specs.teg_net.GreatestRatios.{ratio_at}
 use Rattle.periodic_laws.specs.teg_net.Certificates.{potential_at, IsCertificate}
-use Rattle.periodic_laws.specs.teg_model.LiveRanks.{HasEndsInRange}
 use Rattle.growth_laws.specs.DateLines.{ArePotentialsInto}
 
 -- the quotient by n, rounded down

@@ -6,12 +6,11 @@ use Rattle.periodic_laws.specs.dioid.declared.dates.Date.TheVariants.{Early, At,
 use Rattle.periodic_laws.specs.dioid.Dates.{IsAtMostDate}
 use Rattle.periodic_laws.specs.teg_net.declared.entries.PlaceId.{PlaceId}
 use Rattle.periodic_laws.specs.teg_net.Limits.{greatest_input_date}
-use Rattle.periodic_laws.specs.teg_net.Nets.{NetLists, IsNet, IsInput}
+use Rattle.periodic_laws.specs.teg_net.Nets.{NetLists, IsNet, HasEndsInRange, IsInput}
 use Rattle.periodic_laws.specs.teg_net.Circuits.{from_of, IsLive}
 use Rattle.periodic_laws.specs.teg_net.Parts.{to_of}
 use Rattle.periodic_laws.specs.teg_net.ReadyDates.{ready_date}
 use Rattle.periodic_laws.specs.teg_net.ReducedTimes.{reduced_time}
-use Rattle.periodic_laws.specs.teg_model.LiveRanks.{HasEndsInRange}
 use Rattle.periodic_laws.specs.teg_model.Datings.{IsLeastUnder}
 
 -- the height of the line of transition t at number k: it stands at c plus the potential, and rises by a at each number

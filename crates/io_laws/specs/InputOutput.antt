@@ -3,9 +3,8 @@ use Rattle.std.specs.Prelude.{ℕ, ◌+◌, ◌-◌, ◌<◌, ◌≤◌, ◌≡�
 use Rattle.teg_settle.specs.dioid.declared.dates.Date.{Date}
 use Rattle.teg_settle.specs.dioid.declared.dates.Date.TheVariants.{Early}
 use Rattle.teg_settle.specs.dioid.Dates.{IsAtMostDate, date_product}
-use Rattle.teg_settle.specs.teg_net.Nets.{NetLists, IsInput}
+use Rattle.teg_settle.specs.teg_net.Nets.{NetLists, HasEndsInRange, IsInput}
 use Rattle.teg_settle.specs.teg_net.Circuits.{IsLive}
-use Rattle.teg_settle.specs.teg_model.LiveRanks.{HasEndsInRange}
 use Rattle.teg_settle.specs.teg_model.Datings.{IsLeastUnder}
 use Rattle.teg_settle.specs.settled_laws.SettledForms.{SettledForm, settled_date}
 use Rattle.teg_settle.specs.Transfers.{AreWalkTimes, IsTransferOf}

@@ -4,10 +4,10 @@ use Rattle.dioid.specs.declared.dates.Date.{Date}
 use Rattle.dioid.specs.declared.dates.Date.TheVariants.{Early, At, Never}
 use Rattle.dioid.specs.Dates.{IsAtMostDate, move}
 use Rattle.teg_net.specs.declared.entries.Place.{Place}
-use Rattle.teg_net.specs.Nets.{NetLists, IsInput}
+use Rattle.teg_net.specs.Nets.{NetLists, HasEndsInRange, IsInput}
 use Rattle.teg_net.specs.Circuits.{IsLive}
 use Rattle.teg_model.specs.Systems.{System, available, IsFeasibleIn, IsLeastIn}
-use Rattle.teg_model.specs.LiveRanks.{HaveRanks, HasEndsInRange}
+use Rattle.teg_model.specs.LiveRanks.{HaveRanks}
 use Rattle.settled_laws.specs.SettledForms.{RepeatsAfter}
 use Rattle.teg_model.specs.Datings.{IsFeasibleUnder, IsLeastUnder, extended_places, available_at}
 

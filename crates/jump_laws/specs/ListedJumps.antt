@@ -3,10 +3,9 @@ use Rattle.std.specs.Prelude.{ℕ, ℤ, pos, ◌+◌, ◌-◌, ◌*◌, ◌/◌,
 use Rattle.dioid.specs.declared.dates.Date.{Date}
 use Rattle.teg_net.specs.declared.entries.Again.{Again}
 use Rattle.teg_net.specs.declared.entries.InputList.{InputList}
-use Rattle.teg_net.specs.Nets.{NetLists, IsInput, HasListsByRule}
+use Rattle.teg_net.specs.Nets.{NetLists, HasEndsInRange, IsInput, HasListsByRule}
 use Rattle.teg_net.specs.Inputs.{list_of_input}
 use Rattle.teg_net.specs.Circuits.{IsLive}
-use Rattle.teg_model.specs.LiveRanks.{HasEndsInRange}
 use Rattle.teg_model.specs.Datings.{IsLeastDating, listed_releases}
 use Rattle.settled_laws.specs.SettledForms.{NetSettlesPast}
 use Rattle.jump_laws.specs.Jumps.{MovesTo, MovesUpTo, MovesInTurns, AreInTimeAfter, IsReleasedAfter}

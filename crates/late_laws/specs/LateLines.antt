@@ -1,9 +1,8 @@
 -- Late numbers and lines: past the number at which the line of a row's transition passes under its due dates, none is late.
 use Rattle.std.specs.Prelude.{ℕ, ℤ, pos, Bool, IsTrue, ◌+◌, ◌*◌, ◌<◌, ◌≤◌, ◌≡◌, ◌≤ℤ◌, Some, length}
 use Rattle.forever_laws.specs.dioid.declared.dates.Date.{Date}
-use Rattle.forever_laws.specs.teg_net.Nets.{NetLists}
+use Rattle.forever_laws.specs.teg_net.Nets.{NetLists, HasEndsInRange}
 use Rattle.forever_laws.specs.teg_net.Circuits.{IsLive}
-use Rattle.forever_laws.specs.teg_model.LiveRanks.{HasEndsInRange}
 use Rattle.forever_laws.specs.teg_model.Datings.{IsLeastUnder}
 use Rattle.growth_laws.specs.DateLines.{line_at, ArePotentialsInto, AreStartsBelow}
 use Rattle.forever_laws.specs.due_laws.MeetingDueDates.{inputs_at_zero}

@@ -4,8 +4,7 @@ use Rattle.teg_model.specs.dioid.declared.dates.Date.{Date}
 use Rattle.teg_model.specs.dioid.declared.dates.Date.TheVariants.{At}
 use Rattle.teg_model.specs.dioid.Dates.{IsAtMostDate, delayed}
 use Rattle.teg_model.specs.teg_net.declared.entries.PlaceId.{PlaceId}
-use Rattle.teg_model.specs.LiveRanks.{HasEndsInRange}
-use Rattle.teg_model.specs.teg_net.Nets.{NetLists}
+use Rattle.teg_model.specs.teg_net.Nets.{NetLists, HasEndsInRange}
 use Rattle.teg_model.specs.teg_net.Circuits.{place_at}
 use Rattle.due_laws.specs.LatestDates.{AreLatestDates}
 use Rattle.latest_laws.specs.Floats.{IsAtMostOn}

@@ -2,8 +2,7 @@
 use Rattle.std.specs.Prelude.{ℕ, ◌<◌, ◌≤◌, ◌↔◌, length, Option}
 use Rattle.teg_model.specs.dioid.declared.dates.Date.{Date}
 use Rattle.teg_model.specs.dioid.Dates.{IsAtMostDate}
-use Rattle.teg_model.specs.LiveRanks.{HasEndsInRange}
-use Rattle.teg_model.specs.teg_net.Nets.{NetLists}
+use Rattle.teg_model.specs.teg_net.Nets.{NetLists, HasEndsInRange}
 use Rattle.teg_model.specs.Datings.{IsFeasibleUnder, IsLeastUnder}
 use Rattle.due_laws.specs.MeetingDueDates.{KeepsDues, InputsMeet}
 use Rattle.due_laws.specs.LatestDates.{AreLatestDates}

@@ -2,8 +2,7 @@
 use Rattle.std.specs.Prelude.{ℕ, ◌≤◌, ◌↔◌, Option}
 use Rattle.teg_model.specs.dioid.declared.dates.Date.{Date}
 use Rattle.teg_model.specs.dioid.Dates.{IsAtMostDate, later_of}
-use Rattle.teg_model.specs.LiveRanks.{HasEndsInRange}
-use Rattle.teg_model.specs.teg_net.Nets.{NetLists, IsInput}
+use Rattle.teg_model.specs.teg_net.Nets.{NetLists, HasEndsInRange, IsInput}
 use Rattle.teg_model.specs.teg_net.Circuits.{IsLive}
 use Rattle.due_laws.specs.MeetingDueDates.{AreInputs, InputsMeet, inputs_at_zero}
 use Rattle.due_laws.specs.LatestDates.{AreLatestDates}

@@ -3,10 +3,9 @@ use Rattle.std.specs.Prelude.{ℕ, pos, ◌<◌, ◌≤◌, ◌↔◌, length, O
 use Rattle.teg_model.specs.dioid.declared.dates.Date.{Date}
 use Rattle.teg_model.specs.dioid.declared.dates.Date.TheVariants.{At}
 use Rattle.teg_model.specs.dioid.Dates.{IsAtMostDate}
-use Rattle.teg_model.specs.teg_net.Nets.{NetLists}
+use Rattle.teg_model.specs.teg_net.Nets.{NetLists, HasEndsInRange}
 use Rattle.teg_model.specs.teg_net.Circuits.{IsLive}
 use Rattle.teg_model.specs.teg_net.ReadyDates.{start_date}
-use Rattle.teg_model.specs.LiveRanks.{HasEndsInRange}
 use Rattle.due_laws.specs.MeetingDueDates.{InputsMeet, inputs_at_zero}
 use Rattle.due_laws.specs.LatestDates.{AreLatestDates}
 use Rattle.latest_laws.specs.BackwardSolutions.{AreDueUpTo}

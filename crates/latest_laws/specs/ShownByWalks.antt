@@ -3,8 +3,7 @@ use Rattle.std.specs.Prelude.{ℕ, pos, ◌<◌, ◌≡◌, Option, Some}
 use Rattle.teg_model.specs.dioid.declared.dates.Date.{Date}
 use Rattle.teg_model.specs.dioid.declared.dates.Date.TheVariants.{At}
 use Rattle.teg_model.specs.dioid.Dates.{IsAtMostDate}
-use Rattle.teg_model.specs.LiveRanks.{HasEndsInRange}
-use Rattle.teg_model.specs.teg_net.Nets.{NetLists}
+use Rattle.teg_model.specs.teg_net.Nets.{NetLists, HasEndsInRange}
 use Rattle.teg_model.specs.teg_net.declared.walks.Walk.{Walk}
 use Rattle.teg_model.specs.Datings.{IsFeasibleUnder}
 use Rattle.due_laws.specs.MeetingDueDates.{KeepsDues, InputsMeet}

@@ -4,9 +4,8 @@ use Rattle.dioid_matrix.specs.MatrixStars.{star_of}
 use Rattle.series_ops.specs.dioid.declared.dates.Date.{Date}
 use Rattle.series_ops.specs.series_laws.SeriesForms.{value_at}
 use Rattle.series_ops.specs.declared.gains.Gain.{Gain}
-use Rattle.teg_net.specs.Nets.{NetLists}
+use Rattle.teg_net.specs.Nets.{NetLists, HasEndsInRange}
 use Rattle.teg_net.specs.Circuits.{IsLive}
-use Rattle.teg_settle.specs.teg_model.LiveRanks.{HasEndsInRange}
 use Rattle.teg_settle.specs.teg_model.Datings.{IsLeastUnder}
 use Rattle.teg_settle.specs.periodic_laws.Equations.{gains, gain_stars}
 use Rattle.teg_settle.specs.Transfers.{IsGreatestWalkTime}

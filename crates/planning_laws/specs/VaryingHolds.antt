@@ -3,9 +3,8 @@ use Rattle.std.specs.Prelude.{ℕ, ◌-◌, ◌<◌, ◌≤◌, ◌≡◌, lengt
 use Rattle.teg_model.specs.dioid.declared.dates.Date.{Date}
 use Rattle.teg_model.specs.dioid.Dates.{IsAtMostDate, delayed}
 use Rattle.teg_model.specs.teg_net.declared.entries.Place.{Place}
-use Rattle.teg_model.specs.teg_net.Nets.{NetLists, IsInput}
+use Rattle.teg_model.specs.teg_net.Nets.{NetLists, HasEndsInRange, IsInput}
 use Rattle.teg_model.specs.teg_net.Circuits.{no_place, IsLive}
-use Rattle.teg_model.specs.LiveRanks.{HasEndsInRange}
 use Rattle.teg_model.specs.Datings.{available_at, initial_date, implicit_place, IsFeasibleUnder, IsLeastUnder}
 use Rattle.teg_model.specs.LeastDatings.{AreSameOn, IsTight}
 

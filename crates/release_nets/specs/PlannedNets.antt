@@ -2,9 +2,8 @@
 use Rattle.std.specs.Prelude.{ℕ, ◌+◌, ◌≤◌, ◌<◌, ◌≡◌, ◌⊎◌, All, length, take}
 use Rattle.delay_laws.specs.declared.table.Timetable.{Timetable}
 use Rattle.delay_laws.specs.PlannedTimetables.{IsTableOf, IsWorkable, IsWorkableAt}
-use Rattle.teg_model.specs.LiveRanks.{HasEndsInRange}
 use Rattle.teg_net.specs.Circuits.{IsLive, place_at}
-use Rattle.teg_net.specs.Nets.{NetLists}
+use Rattle.teg_net.specs.Nets.{NetLists, HasEndsInRange}
 use Rattle.release_nets.specs.declared.planned.Unplanned.{Unplanned}
 use Rattle.release_nets.specs.declared.planned.Unplanned.TheVariants.{TooLarge, Unworkable}
 

@@ -1,10 +1,9 @@
 -- The least dating goes on: the rest of it is the least dating of the rest of the system, and of the net that a run leaves (chapter 2).
 use Rattle.std.specs.Prelude.{ℕ, ◌≤◌, List, All}
 use Rattle.teg_model.specs.dioid.declared.dates.Date.{Date}
-use Rattle.teg_net.specs.Nets.{NetLists}
+use Rattle.teg_net.specs.Nets.{NetLists, HasEndsInRange}
 use Rattle.teg_net.specs.Circuits.{IsLive}
 use Rattle.teg_model.specs.Systems.{System, IsLeastIn}
-use Rattle.teg_model.specs.LiveRanks.{HasEndsInRange}
 use Rattle.teg_model.specs.Datings.{IsLeastDating, IsLeastUnder}
 use Rattle.teg_model.specs.LeastDatings.{AreSameOn}
 use Rattle.run_laws.specs.declared.fired.Fired.{Fired}

@@ -1,11 +1,10 @@
 -- Nets whose circuits take no time (chapter 3, cyclicity of ratio 0).
 use Rattle.std.specs.Prelude.{ℕ, ◌<◌, ◌≤◌, ◌≡◌, ◌↔◌, List, length}
 use Rattle.bound_laws.specs.teg_net.declared.entries.PlaceId.{PlaceId}
-use Rattle.bound_laws.specs.teg_net.Nets.{NetLists, IsNet, IsInput}
+use Rattle.bound_laws.specs.teg_net.Nets.{NetLists, IsNet, HasEndsInRange, IsInput}
 use Rattle.bound_laws.specs.teg_net.Circuits.{IsPathBetween, IsCircuit, IsLive, time_of}
 use Rattle.bound_laws.specs.teg_net.GreatestRatios.{IsGreatestRatio, IsAnyPlace}
 use Rattle.bound_laws.specs.teg_net.Ratios.{Fraction}
-use Rattle.bound_laws.specs.teg_model.LiveRanks.{HasEndsInRange}
 use Rattle.bound_laws.specs.settled_laws.SettledForms.{SettledForm, IsSettledFormOf}
 use Rattle.bound_laws.specs.teg_net.Limits.{greatest_hold, most_place_tokens}
 use Rattle.bound_laws.specs.Critical.{AllReadyAtZero, IsStrong}

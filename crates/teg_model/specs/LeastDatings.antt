@@ -5,10 +5,10 @@ use Rattle.dioid.specs.declared.dates.Date.{Date}
 use Rattle.dioid.specs.declared.dates.Date.TheVariants.{At}
 use Rattle.dioid.specs.Dates.{IsAtMostDate}
 use Rattle.teg_net.specs.Limits.{greatest_firing_number}
-use Rattle.teg_net.specs.Nets.{NetLists, IsNet, IsInput}
+use Rattle.teg_net.specs.Nets.{NetLists, IsNet, HasEndsInRange, IsInput}
 use Rattle.teg_net.specs.Circuits.{IsLive}
 use Rattle.teg_model.specs.Systems.{IsLeastIn}
-use Rattle.teg_model.specs.LiveRanks.{IsRanked, HasEndsInRange}
+use Rattle.teg_model.specs.LiveRanks.{IsRanked}
 use Rattle.teg_model.specs.DateBounds.{IsDateWithin, greatest_least_date}
 use Rattle.teg_model.specs.Datings.{IsFeasibleUnder, IsLeastUnder, IsLeastDating, extended_places, available_at, system_of}
 use Rattle.teg_model.specs.WalkDates.{IsGreatestOfWalks}

@@ -2,9 +2,9 @@
 use Rattle.std.specs.Prelude.{ℕ, ◌+◌, ◌*◌, ◌<◌, ◌≤◌, ◌≡◌, length}
 use Rattle.dioid.specs.declared.dates.Date.{Date}
 use Rattle.teg_net.specs.declared.entries.Place.{Place}
-use Rattle.teg_net.specs.Nets.{NetLists}
+use Rattle.teg_net.specs.Nets.{NetLists, HasEndsInRange}
 use Rattle.teg_model.specs.Systems.{System, IsFeasibleIn, IsLeastIn, IsTightIn}
-use Rattle.teg_model.specs.LiveRanks.{AreRanks, HaveRanks, IsRanked, HasEndsInRange}
+use Rattle.teg_model.specs.LiveRanks.{AreRanks, HaveRanks, IsRanked}
 use Rattle.teg_model.specs.Starts.{IsStartIn}
 use Rattle.teg_model.specs.Datings.{system_with}
 use Rattle.teg_model.specs.WalkDates.{IsGreatestOfWalksIn}

@@ -2,12 +2,11 @@
 use Rattle.std.specs.Prelude.{ℕ, ◌+◌, ◌-◌, ◌*◌, ◌<◌, ◌≤◌, ◌≡◌, ◌↔◌, List, length, All}
 use Rattle.teg_model.specs.teg_net.declared.entries.PlaceId.{PlaceId}
 use Rattle.teg_model.specs.teg_net.declared.entries.Place.{Place}
-use Rattle.teg_model.specs.teg_net.Nets.{NetLists}
+use Rattle.teg_model.specs.teg_net.Nets.{NetLists, HasEndsInRange}
 use Rattle.teg_model.specs.teg_net.ReadyDates.{ready_date}
 use Rattle.teg_model.specs.teg_net.Ratios.{Fraction}
 use Rattle.teg_model.specs.teg_net.Circuits.{IsCircuit, IsLive, time_of, tokens_of}
 use Rattle.teg_model.specs.teg_net.GreatestRatios.{IsGreatestRatio, IsAnyPlace}
-use Rattle.teg_model.specs.LiveRanks.{HasEndsInRange}
 use Rattle.delay_laws.specs.declared.table.Timetable.{Timetable}
 use Rattle.delay_laws.specs.PlannedTimetables.{first_planned, IsWorkable}
 
