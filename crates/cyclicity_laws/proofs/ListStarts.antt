@@ -16,7 +16,7 @@ use Rattle.bound_laws.specs.teg_net.ReadyDates.{start_date}
 use Rattle.bound_laws.proofs.teg_net_proofs.Bounds.{date_bound, ready_bounded}
 use Rattle.bound_laws.proofs.teg_net_proofs.InputDates.{dates_by_lists}
 use Rattle.bound_laws.proofs.teg_net_proofs.StartDates.{start_date-within}
-use Rattle.bound_laws.specs.teg_model.Datings.{listed_releases, as_date, at_input}
+use Rattle.bound_laws.specs.teg_model.Datings.{listed_releases, at_input}
 use Rattle.bound_laws.specs.teg_model.Starts.{start_of_firing}
 use Rattle.growth_laws.proofs.teg_model_proofs.OfNet.{input_or_not}
 use Rattle.slope_laws.specs.Slopes.{IsGoingOnTowards}
