@@ -1,6 +1,6 @@
-//! The laws. Each is a function that does nothing when it runs: its contract is the law. Of a net they
-//! ask that its places begin and end at its transitions, and those of its own input lists that their
-//! dates never fall and that each ends or goes on by the rule of a list.
+//! The laws. Each is a function that does nothing when it runs: its contract is the law. Of a net
+//! they ask that its places begin and end at its transitions, and those of its own input lists that
+//! their dates never fall and that each ends or goes on by the rule of a list.
 ghost use Rattle.dioid_matrix.specs.MatrixStars.{StarsAreLeast};
 ghost use Rattle.periodic_laws.specs.Equations.{gains, gain_stars};
 ghost use Rattle.periodic_laws.specs.LinearSystem.{LeastDatingsRepeat, LeastDatingsSolve, LeastInArePeriodic, LiveNetsSettle, PeriodicDatingsSettle, SystemsSettle};

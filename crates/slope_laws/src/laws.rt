@@ -1,6 +1,6 @@
 //! The laws of slopes. Each is a function that does nothing when it runs: its contract is the law.
-//! Of a net they ask that its places begin and end at its transitions, that each input list is of an
-//! input and no two of the same, and that each ends or goes on by the rule of a list.
+//! Of a net they ask that its places begin and end at its transitions, that each input list is of
+//! an input and no two of the same, and that each ends or goes on by the rule of a list.
 ghost use Rattle.slope_laws.specs.SlopesExist.{FormsHaveSlopes, NeversComeFromEndedLists, SettledFormsHaveSlopes};
 
 /// In a live net a date of a transition is `Never` only where an input whose list ends reaches it,
