@@ -12,11 +12,10 @@ use Rattle.teg_net.specs.declared.entries.Place.{Place}
 use Rattle.teg_net.specs.declared.walks.Step.{Step}
 use Rattle.teg_net.specs.declared.walks.Step.TheVariants.{By as by_place, Next as to_next}
 use Rattle.teg_net.specs.declared.walks.Walk.{Walk}
-use Rattle.teg_net.specs.Nets.{NetLists, IsNet, IsPlaceOf}
+use Rattle.teg_net.specs.Nets.{NetLists, HasEndsInRange}
 use Rattle.teg_net.specs.Circuits.{no_place, place_at}
 use Rattle.teg_net.specs.Walks.{Walks, numbers_of, step_time, walk_time}
 use Rattle.date_rows.proofs.teg_model_proofs.Delays.{delayed_twice, delayed_not}
-use Rattle.date_rows.proofs.teg_model_proofs.OfNet.{net_ends}
 use Rattle.date_rows.proofs.teg_model_proofs.WalkSteps.{walk_append, walk_time-append}
 use Rattle.teg_jit.specs.declared.answers.Onward.{Onward}
 use Rattle.teg_jit.specs.declared.answers.Onward.TheVariants.{Due, By, Next}
@@ -76,11 +75,11 @@ step_is a b e = ap (λ o. unwrap_or o a) e
 none_is_no_step : (a : Step) → None ≡ Some a → ⊥
 none_is_no_step a e = subst IsNoStep e tt
 
-pub next_step : (net : NetLists) (plan : PlanDates) (due : ℕ → ℕ → Option ℕ) (t k : ℕ) (steps : List Step) (at count : ℕ) → IsNet net
+pub next_step : (net : NetLists) (plan : PlanDates) (due : ℕ → ℕ → Option ℕ) (t k : ℕ) (steps : List Step) (at count : ℕ) → HasEndsInRange net
     → KeepsSizes plan → IsPlanFor net due plan → WalkedTo net plan t k steps at count
     → (d : ℕ) → latest_at plan at count ≡ At d Next → IsStepTo net plan t k steps to_next at count at (count + 1)
-next_step net plan due t k steps at count ok is for h d here =
-    let rr = ranks_in net (net_ends net ok) for.live in
+next_step net plan due t k steps at count ends is for h d here =
+    let rr = ranks_in net ends for.live in
     let w = for.width in
     let onward : HasOnward net due (dates_of_plan plan) at count (At d Next) = rw here at (rw (← w) at (for.onward at count (rw w at h.at_in) h.from_one)) in
     let same : on_date (pos d) ≡ on_date (pos h.date) = ap date_or_never (sym here) ∙ h.there in
@@ -102,15 +101,14 @@ next_step net plan due t k steps at count ok is for h d here =
       smaller = nearer plan.numbers (rank_bound net) count (count + 1) (rank_in net at) (rank_in net at) h.to_last (rr.below at) (rr.below at) (omega arith) (λ e. absurd (omega arith));
     }
 
-pub place_step : (net : NetLists) (plan : PlanDates) (due : ℕ → ℕ → Option ℕ) (t k : ℕ) (steps : List Step) (at count : ℕ) → IsNet net
+pub place_step : (net : NetLists) (plan : PlanDates) (due : ℕ → ℕ → Option ℕ) (t k : ℕ) (steps : List Step) (at count : ℕ) → HasEndsInRange net
     → KeepsSizes plan → IsPlanFor net due plan → WalkedTo net plan t k steps at count
     → (d : ℕ) (p : PlaceId) → latest_at plan at count ≡ At d (By p) → IsStepTo net plan t k steps (by_place p) at count (place_at net p).to.index (count + (place_at net p).tokens)
-place_step net plan due t k steps at count ok is for h d p here =
-    let rr = ranks_in net (net_ends net ok) for.live in
+place_step net plan due t k steps at count ends is for h d p here =
+    let rr = ranks_in net ends for.live in
     let w = for.width in
     let onward : HasOnward net due (dates_of_plan plan) at count (At d (By p)) = rw here at (rw (← w) at (for.onward at count (rw w at h.at_in) h.from_one)) in
     let place : Place = place_at net p in
-    let own : IsPlaceOf net place = ok.each_place p.index no_place onward.0 in
     let same : on_date (pos h.date) ≡ on_date (pos d) = sym h.there ∙ ap date_or_never here in
     let last : List Step = by_place p ∷ [] in
     let one : walk_time net last ≡ place.hold + 0 = sum_by-cons (step_time net) (by_place p) [] in
@@ -120,7 +118,7 @@ place_step net plan due t k steps at count ok is for h d p here =
     let rises : place.tokens ≡ 0 → rank_in net place.from.index < rank_in net place.to.index = rr.rise p.index no_place onward.0 in
     record {
       walked = record {
-        at_in = rw w own.to_in;
+        at_in = rw w (ends p.index no_place onward.0).1;
         from_one = omega (arith, h.from_one);
         to_last = in_numbers plan place.to.index (count + place.tokens) (d + place.hold) is onward.2;
         date = d + place.hold;
@@ -163,14 +161,14 @@ step_next Free h = absurd (none_is_no_step to_next (sym h))
 step_next (At d o) h = (d, ap (At d) (onward_next o h))
 
 -- a first step by a place, which is one of the net
-pub steps_by : (net : NetLists) (plan : PlanDates) (due : ℕ → ℕ → Option ℕ) (t k : ℕ) (steps : List Step) (at count : ℕ) → IsNet net
+pub steps_by : (net : NetLists) (plan : PlanDates) (due : ℕ → ℕ → Option ℕ) (t k : ℕ) (steps : List Step) (at count : ℕ) → HasEndsInRange net
     → KeepsSizes plan → IsPlanFor net due plan → WalkedTo net plan t k steps at count → (p : PlaceId) → IsFirstStep (latest_at plan at count) (Some (by_place p))
     → (p.index < length net.places) × IsStepTo net plan t k steps (by_place p) at count (place_at net p).to.index (count + (place_at net p).tokens)
-steps_by net plan due t k steps at count ok is for h p step =
+steps_by net plan due t k steps at count ends is for h p step =
     let here = step_by (latest_at plan at count) p step in
     let w = for.width in
     let onward : HasOnward net due (dates_of_plan plan) at count (At here.0 (By p)) = rw here.1 at (rw (← w) at (for.onward at count (rw w at h.at_in) h.from_one)) in
-    (onward.0, place_step net plan due t k steps at count ok is for h here.0 p here.1)
+    (onward.0, place_step net plan due t k steps at count ends is for h here.0 p here.1)
 
 -- ---- the end
 
@@ -197,10 +195,10 @@ numbers_to net (to_next ∷ steps) a s b k h =
     let rest = numbers_to net steps a (s + 1) b k h in
     (more_below s k (numbers_of net (s + 1) steps) (omega (arith, rest.1)) rest.0, omega (arith, rest.1))
 
-pub walk_is_tight : (net : NetLists) (plan : PlanDates) (due : ℕ → ℕ → Option ℕ) (t k : ℕ) (at count : ℕ) (w : Walk) → IsNet net
+pub walk_is_tight : (net : NetLists) (plan : PlanDates) (due : ℕ → ℕ → Option ℕ) (t k : ℕ) (at count : ℕ) (w : Walk)
     → KeepsSizes plan → IsPlanFor net due plan → WalkedTo net plan t k w.steps.items at count
     → t < plan.width → 1 ≤ k → IsFirstStep (latest_at plan at count) None → w.start.index ≡ t → w.number ≡ k → IsTightWalk net due t k (dates_of_plan plan t k) w
-walk_is_tight net plan due t k at count w ok is for h l o last start number =
+walk_is_tight net plan due t k at count w is for h l o last start number =
     let wide = for.width in
     let there = number_there (latest_at plan at count) h.date h.there in
     let is_due : there.0 ≡ Due = no_step there.0 (rw there.1 at last) in
@@ -233,13 +231,13 @@ abbrev LeadsOn : NetLists → PlanDates → (ℕ → ℕ → Option ℕ) → ℕ
 LeadsOn net plan due t k = (steps : List Step) × FollowsPlan net plan t k steps × (b : ℕ) × (n : ℕ) × (d : ℕ) × Walks net t k steps b n
     × (due b n ≡ Some d) × (delayed (walk_time net steps) (dates_of_plan plan t k) ≡ on_date (pos d))
 
-lead : (net : NetLists) (plan : PlanDates) (due : ℕ → ℕ → Option ℕ) → IsNet net → KeepsSizes plan → IsPlanFor net due plan
+lead : (net : NetLists) (plan : PlanDates) (due : ℕ → ℕ → Option ℕ) → HasEndsInRange net → KeepsSizes plan → IsPlanFor net due plan
     → (fuel t k : ℕ) (steps : List Step) (at count : ℕ) → WalkedTo net plan t k steps at count
     → distance plan.numbers (rank_bound net) (rank_in net) at count < fuel → LeadsOn net plan due t k
-lead net plan due ok is for zero t k steps at count h l = absurd (omega (arith, l))
-lead net plan due ok is for (suc fuel) t k steps at count h l =
+lead net plan due ends is for zero t k steps at count h l = absurd (omega (arith, l))
+lead net plan due ends is for (suc fuel) t k steps at count h l =
     let there = number_there (latest_at plan at count) h.date h.there in
-    by_onward (λ s a c w m. lead net plan due ok is for fuel t k s a c w m) there.0 there.1 where
+    by_onward (λ s a c w m. lead net plan due ends is for fuel t k s a c w m) there.0 there.1 where
       by_onward : ((s : List Step) (a c : ℕ) → WalkedTo net plan t k s a c
           → distance plan.numbers (rank_bound net) (rank_in net) a c < fuel → LeadsOn net plan due t k) → (o : Onward)
           → latest_at plan at count ≡ At h.date o → LeadsOn net plan due t k
@@ -248,11 +246,11 @@ lead net plan due ok is for (suc fuel) t k steps at count h l =
           let onward : HasOnward net due (dates_of_plan plan) at count (At h.date Due) = rw e at (rw (← wide) at (for.onward at count (rw wide at h.at_in) h.from_one)) in
           (steps, follows_to_end net plan t k steps at count h (rw e refl), at, count, h.date, h.leads, onward, h.time)
       by_onward again (By p) e =
-          let on = place_step net plan due t k steps at count ok is for h h.date p e in
+          let on = place_step net plan due t k steps at count ends is for h h.date p e in
           again (steps ++ by_place p ∷ []) (place_at net p).to.index (count + (place_at net p).tokens) on.walked (omega (arith, on.smaller, l))
       by_onward again Next e =
-          let on = next_step net plan due t k steps at count ok is for h h.date e in
+          let on = next_step net plan due t k steps at count ends is for h h.date e in
           again (steps ++ to_next ∷ []) at (count + 1) on.walked (omega (arith, on.smaller, l))
 
 pub plans_lead : PlansLead
-plans_lead net ok plan is due for t k l o m h = lead net plan due ok is for (suc (distance plan.numbers (rank_bound net) (rank_in net) t k)) t k [] t k (walk_begins net plan t k l o m h) (omega arith)
+plans_lead net ends plan is due for t k l o m h = lead net plan due ends is for (suc (distance plan.numbers (rank_bound net) (rank_in net) t k)) t k [] t k (walk_begins net plan t k l o m h) (omega arith)

@@ -6,7 +6,7 @@ use Rattle.date_rows.specs.dioid.Dates.{delayed}
 use Rattle.teg_net.specs.declared.entries.TransitionId.{TransitionId}
 use Rattle.teg_net.specs.declared.walks.Step.{Step}
 use Rattle.teg_net.specs.declared.walks.Walk.{Walk}
-use Rattle.teg_net.specs.Nets.{NetLists, IsNet, HasEndsInRange}
+use Rattle.teg_net.specs.Nets.{NetLists, HasEndsInRange}
 use Rattle.teg_net.specs.Circuits.{IsLive}
 use Rattle.teg_net.specs.ReadyDates.{start_date}
 use Rattle.teg_net.specs.Walks.{Walks, walk_time}
@@ -21,7 +21,7 @@ use Rattle.teg_jit.specs.LateRefusals.{KeepsRow, IsFirstLateDue, LateIsRight}
 
 -- from each firing that is not free the steps of the plan lead to one that is due, and their walk is tight
 abbrev pub PlansLead : Type 0
-PlansLead = (net : NetLists) → IsNet net → (plan : PlanDates) → KeepsSizes plan → (due : ℕ → ℕ → Option ℕ) → IsPlanFor net due plan
+PlansLead = (net : NetLists) → HasEndsInRange net → (plan : PlanDates) → KeepsSizes plan → (due : ℕ → ℕ → Option ℕ) → IsPlanFor net due plan
     → (t k : ℕ) → t < plan.width → 1 ≤ k → k ≤ plan.numbers → latest_at plan t k ≢ Free
     → (steps : List Step) × FollowsPlan net plan t k steps × (b : ℕ) × (n : ℕ) × (d : ℕ) × Walks net t k steps b n × (due b n ≡ Some d)
     × (delayed (walk_time net steps) (dates_of_plan plan t k) ≡ on_date (pos d))

@@ -1,6 +1,7 @@
 use Rattle.std.proofs.Common.{◌≡◌, Some, None, refl, arith}
 use Rattle.teg_net.specs.declared.walks.Step.TheVariants.{By as by_place, Next as to_next}
 use Rattle.teg_net.specs.Circuits.{place_at}
+use Rattle.teg_net.proofs.NetRules.{net_ends}
 use Rattle.teg_jit.specs.Plans.{latest_at}
 use Rattle.teg_jit.specs.FirstSteps.{IsFirstStep}
 use Rattle.teg_jit.proofs.Passing.{read_place}
@@ -19,7 +20,7 @@ overflow_add-count c =
     let s = c.requires.stands in
     let step : IsFirstStep (latest_at plan c.loop-step.at.index c.loop-step.count) (Some (by_place c.in-By.id)) = rw (c.latest.ensures.value, c.in-Some.is, c.in-By.is) at c.first_step.ensures in
     let on = steps_by net plan s.0 c.args.transition.index c.args.number c.loop-step.steps.items c.loop-step.at.index
-    c.loop-step.count c.places-places.ensures.rules c.latest.ensures.limits s.1 c.loop-step.invariant c.in-By.id step in
+    c.loop-step.count (net_ends net c.places-places.ensures.rules) c.latest.ensures.limits s.1 c.loop-step.invariant c.in-By.id step in
     let item : c.index-places-id.result ≡ place_at net c.in-By.id =
     read_place net c.places-places.result.now c.in-By.id.index c.index-places-id.result c.places-places.ensures.value on.0 c.index-places-id.is in
     rw item (omega (arith, on.1.walked.to_last, c.latest.ensures.limits.numbers_in))
@@ -35,19 +36,19 @@ loop-step-smaller c =
     let h = c.loop-step.invariant in
     let at = c.loop-step.at.index in
     let count = c.loop-step.count in
-    let ok = c.places-places.ensures.rules in
+    let ends = net_ends net c.places-places.ensures.rules in
     let limits = c.latest.ensures.limits in
     elim c.match-step.branch [
       | in-By w ↦
           let step : IsFirstStep (latest_at plan at count) (Some (by_place w.in-By.id)) = rw (c.latest.ensures.value, c.in-Some.is, w.in-By.is) at c.first_step.ensures in
-          let on = steps_by net plan s.0 c.args.transition.index c.args.number c.loop-step.steps.items at count ok limits s.1 h w.in-By.id step in
+          let on = steps_by net plan s.0 c.args.transition.index c.args.number c.loop-step.steps.items at count ends limits s.1 h w.in-By.id step in
           let item : w.index-places-id.result ≡ place_at net w.in-By.id =
           read_place net c.places-places.result.now w.in-By.id.index w.index-places-id.result c.places-places.ensures.value on.0 w.index-places-id.is in
           rw (w.count-is, item) on.1.smaller
       | in-Next w ↦
           let step : IsFirstStep (latest_at plan at count) (Some to_next) = rw (c.latest.ensures.value, c.in-Some.is, w.in-Next.is) at c.first_step.ensures in
           let here = step_next (latest_at plan at count) step in
-          rw w.count-is (next_step net plan s.0 c.args.transition.index c.args.number c.loop-step.steps.items at count ok limits s.1 h here.0 here.1).smaller
+          rw w.count-is (next_step net plan s.0 c.args.transition.index c.args.number c.loop-step.steps.items at count ends limits s.1 h here.0 here.1).smaller
     ]
 
 pub loop-step-preserved : goal.loop-step-preserved
@@ -58,12 +59,12 @@ loop-step-preserved c =
     let h = c.loop-step.invariant in
     let at = c.loop-step.at.index in
     let count = c.loop-step.count in
-    let ok = c.places-places.ensures.rules in
+    let ends = net_ends net c.places-places.ensures.rules in
     let limits = c.latest.ensures.limits in
     elim c.match-step.branch [
       | in-By w ↦
           let step : IsFirstStep (latest_at plan at count) (Some (by_place w.in-By.id)) = rw (c.latest.ensures.value, c.in-Some.is, w.in-By.is) at c.first_step.ensures in
-          let on = steps_by net plan s.0 c.args.transition.index c.args.number c.loop-step.steps.items at count ok limits s.1 h w.in-By.id step in
+          let on = steps_by net plan s.0 c.args.transition.index c.args.number c.loop-step.steps.items at count ends limits s.1 h w.in-By.id step in
           let item : w.index-places-id.result ≡ place_at net w.in-By.id =
           read_place net c.places-places.result.now w.in-By.id.index w.index-places-id.result c.places-places.ensures.value on.0 w.index-places-id.is in
           rw (c.in_ok-push.ensures.items, w.in-By.is, w.count-is, item) on.1.walked
@@ -71,7 +72,7 @@ loop-step-preserved c =
           let step : IsFirstStep (latest_at plan at count) (Some to_next) = rw (c.latest.ensures.value, c.in-Some.is, w.in-Next.is) at c.first_step.ensures in
           let here = step_next (latest_at plan at count) step in
           rw (c.in_ok-push.ensures.items, w.in-Next.is, w.count-is)
-          (next_step net plan s.0 c.args.transition.index c.args.number c.loop-step.steps.items at count ok limits s.1 h here.0 here.1).walked
+          (next_step net plan s.0 c.args.transition.index c.args.number c.loop-step.steps.items at count ends limits s.1 h here.0 here.1).walked
     ]
 
 pub returns : goal.returns
@@ -81,7 +82,7 @@ returns c =
       tight = λ due for.
           walk_is_tight c.args.net.now c.args.self.now due c.args.transition.index c.args.number c.loop-step.at.index c.loop-step.count
           (record { start = c.args.transition; number = c.args.number; steps = c.loop-step.steps })
-          c.places-places.ensures.rules c.latest.ensures.limits for c.loop-step.invariant c.requires.transition c.requires.number last refl refl;
+          c.latest.ensures.limits for c.loop-step.invariant c.requires.transition c.requires.number last refl refl;
       follows = follows_to_end c.args.net.now c.args.self.now c.args.transition.index c.args.number c.loop-step.steps.items
           c.loop-step.at.index c.loop-step.count c.loop-step.invariant last;
     }
