@@ -108,6 +108,9 @@ too_far nu step within c j k0 at s nexts tq mq times tokens many t q constant n1
     let j_in : j ≤ j * nu = omega (arith, at_least nu j n1, turned_times nu j) in
     omega (arith, j_in, e2, all, many_in, nexts_in, tokens_d, mq_in)
 
+past_itself : (m : ℕ) → suc m ≤ m → ⊥
+past_itself m l = omega (arith, l)
+
 -- where each start either falls behind or is what W says, so is a best walk: it goes round, or W
 pub go_round_or :
     {W : Type 0} (net : NetLists) → HasEndsInRange net → IsLive net → (u x : ℕ → ℕ → Date) → IsLeastUnder net u x
@@ -146,7 +149,7 @@ go_round_or {W} net ends live u x h b k0 nu c step within constant l o n1 s1 w1 
     kept
     (time_straight net (hold_bound net) qs w.from b ends (holds_bounded net) l is.path)
     (tokens_straight net (token_bound net) qs w.from b ends (tokens_bounded net) l is.path) each in
-    absurd (omega arith))
+    absurd (past_itself (d + d + t + d * t) far))
     (λ (other : W). inr other)
     (behind w.from w.number start.at w.from_in w.from_one (path.places, path.path) start.is))
     (tight_or_not net b nu step cs is.rounds)
