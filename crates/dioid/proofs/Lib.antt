@@ -1,3 +1,4 @@
 pub mod AtMost
 pub mod DateOrder
+pub mod DateOrderings
 pub mod Moves

@@ -1,5 +1,7 @@
 -- What the order of dates is.
 use Rattle.std.specs.Prelude.{◌≡◌, ◌↔◌, ◌⊎◌}
+use Rattle.std.specs.Ordering.{MatchOrdering}
+use Rattle.std.specs.declared.cmp.Ordering.{Ordering}
 use Rattle.dioid.specs.Dates.{IsAtMostDate, later_of}
 use Rattle.dioid.specs.DioidAxioms.{IsAtMost}
 use Rattle.dioid.specs.declared.dates.Date.{Date}
@@ -27,3 +29,7 @@ pub record IsOrderOfDates : Type 0 where
   pub antisymmetric : (a b : Date) → IsAtMostDate a b → IsAtMostDate b a → a ≡ b
   pub total : (a b : Date) → IsAtMostDate a b ⊎ IsAtMostDate b a
   pub of_the_sum : (a b : Date) → IsAtMost later_of a b ↔ IsAtMostDate a b
+
+-- the ordering is that of a and b: b is not at most a, they are one date, or a is not at most b
+abbrev pub IsDateOrdering : Ordering → Date → Date → Type 0
+IsDateOrdering order a b = MatchOrdering order (¬ IsAtMostDate b a) (a ≡ b) (¬ IsAtMostDate a b)

@@ -1,14 +1,16 @@
 //! Dates, and the calls on them that take no memory.
 ghost use Rattle.dioid.specs.DateOrder.{IsOrderOfDates};
 
+use std::cmp::Ordering;
 use std::error::Error;
 use std::fmt;
 
 /// A date in the user's unit of time: before every number, a whole number, or never.
 ///
 /// Dates are the complete max-plus dioid (chapters 3 and 4): the sum of two is the later one, their
-/// product adds them, `Early` is zero and `At(0)` is one.
-#[derive(Clone, Copy, Debug, PartialEq, Eq)]
+/// product adds them, `Early` is zero and `At(0)` is one. They come in the order of time, which is
+/// that of the variants and of the numbers: [`Date::compare`] says what `<` and its like tell.
+#[derive(Clone, Copy, Debug, PartialEq, Eq, PartialOrd, Ord)]
 pub enum Date {
     /// Minus infinity: earlier than every number.
     Early,
@@ -38,7 +40,7 @@ impl Error for Misfit {}
 impl Date {
     ghost use Rattle.std.specs.Prelude.{◌≡◌};
     ghost use Rattle.dioid.specs.Dates.{later_of, earlier_of, date_product, DateProductFits, date_left, DateLeftFits, AnswersOrMisfit};
-    ghost use Rattle.dioid.specs.DateOrder.{IsGreaterOf, IsLesserOf};
+    ghost use Rattle.dioid.specs.DateOrder.{IsGreaterOf, IsLesserOf, IsDateOrdering};
 
     /// The later of two dates. Takes no memory.
     pub fn later(self, other: Date) -> Date
@@ -62,6 +64,14 @@ impl Date {
             (Date::At(s), Date::At(t)) => Date::At(if t < s { t } else { s }),
             _ => Date::Early,
         }
+    }
+
+    /// Which of two dates comes first: it is what `cmp` answers, and what `<` and its like go by.
+    /// Takes no memory.
+    pub fn compare(self, other: Date) -> Ordering
+        ensures { IsDateOrdering result self other }
+    {
+        self.cmp(&other)
     }
 
     /// The product of two dates: two numbers are added, `Early` with anything is `Early`, and

@@ -3,6 +3,7 @@ use crate::matrices::{is, square};
 use dioid::{Date, Misfit};
 use dioid_matrix::{Matrix, MatrixRefused};
 use std::alloc::{AllocError, Global};
+use std::cmp::Ordering;
 use std::test::Fail;
 
 // Whether a sum past the greatest date is told with both its dates, and a difference is a date.
@@ -10,6 +11,19 @@ fn keeps_misfits() -> bool {
     let (left, right) = (Date::At(i128::MAX), Date::At(1));
     let is_told = left.add(right) == Err(Misfit { left, right });
     is_told && left.earlier(right) == right && right.less(right) == Ok(Date::At(0))
+}
+
+// Whether dates come in the order of time, by `<` and its like, by `max` and by `compare`.
+fn come_in_order() -> bool {
+    let (early, first, second) = (Date::Early, Date::At(-3), Date::At(2));
+    let is_less = early < first && first < second && second < Date::Never;
+    let is_last = first.max(second) == second && Date::Never.min(second) == second;
+    is_less && is_last && second.compare(first) == Ordering::Greater
+}
+
+#[test]
+fn dates_come_in_order(rt: HostRuntime) {
+    assert!(rt; come_in_order());
 }
 
 // The row of two entries.
