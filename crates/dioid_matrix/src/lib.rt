@@ -4,7 +4,7 @@
 //! Its one contract: a call answers the matrix of the unbounded model exactly where every operation
 //! fits, and otherwise the first one that does not; a star, and `solve_least` by it, gives the
 //! least solution of `x = a x + b`, a residual the greatest `x` with `a x` at most `b`. It stands
-//! on `dioid` alone, and `thiserror` derives the error traits of its refusal.
+//! on `dioid` alone.
 //! Its examples stand in `library_examples`.
 #![tactic(auto)]
 

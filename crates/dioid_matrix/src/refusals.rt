@@ -4,13 +4,13 @@ ghost use Rattle.dioid_matrix.specs.declared.refusals.MatrixRefused.TheVariants.
 
 use dioid::Refused;
 use std::alloc::{AllocError, AllocFailed};
-use thiserror::Error;
+use std::error::Error;
+use std::fmt;
 
 /// Why a call on matrices gives none. Rows, columns and middle indices are counted from 0.
-#[derive(Clone, Copy, Debug, Drop, PartialEq, Eq, Error)]
+#[derive(Clone, Copy, Debug, Drop, PartialEq, Eq)]
 pub enum MatrixRefused {
     /// A list that has not one entry for each row and column.
-    #[error("{given} entries where {wanted} are wanted")]
     Count {
         /// Rows times columns.
         wanted: usize,
@@ -19,7 +19,6 @@ pub enum MatrixRefused {
     },
     /// Sizes that do not go together. A product keeps the left's columns and the right's rows, a
     /// star the columns and the rows, a residual the left's rows and the right's rows.
-    #[error("{left_columns} and {right_rows} do not go together")]
     Shape {
         /// The first of the two sizes.
         left_columns: usize,
@@ -27,7 +26,6 @@ pub enum MatrixRefused {
         right_rows: usize,
     },
     /// The first operation that does not fit, by the rows of the result.
-    #[error("step {step} at row {row} and column {column} is out of range")]
     Range {
         /// In a sum 0, in a product the middle index, in a residual the row of the operands, in a
         /// star the step of the recursion, from 1 to the size and one more.
@@ -38,9 +36,30 @@ pub enum MatrixRefused {
         column: usize,
     },
     /// No memory was found.
-    #[error("out of memory")]
     OutOfMemory,
 }
+
+impl fmt::Display for MatrixRefused {
+    fn fmt<W: fmt::Write>(&self, f: &mut fmt::Formatter<W>) -> fmt::Result {
+        let (first, words, second, tail) = match self {
+            MatrixRefused::Count { wanted, given } => {
+                (*given, "entries where", *wanted, "are wanted")
+            }
+            MatrixRefused::Shape {
+                left_columns,
+                right_rows,
+            } => (*left_columns, "and", *right_rows, "do not go together"),
+            MatrixRefused::Range { step, row, column } => {
+                write!(f, "step {step} at row ")?;
+                (*row, "and column", *column, "is out of range")
+            }
+            MatrixRefused::OutOfMemory => return f.write_str("out of memory"),
+        };
+        write!(f, "{first} {words} {second} {tail}")
+    }
+}
+
+impl Error for MatrixRefused {}
 
 impl From<AllocError> for MatrixRefused {
     ghost from_gives = { λ _ e. e ≡ OutOfMemory };
