@@ -8,7 +8,7 @@ use std::marker::Model;
 /// each row and column.
 ///
 /// Contracts see the sizes, and the entries row after row.
-#[derive(Drop)]
+#[derive(Debug, Drop)]
 pub struct Matrix<D: Dioid> {
     pub(crate) rows: usize,
     pub(crate) columns: usize,

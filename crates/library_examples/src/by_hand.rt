@@ -31,6 +31,15 @@ fn row_of(alloc: Global, entries: &[Date; 2]) -> Result<Matrix<Date>, Fail> {
     Ok(Matrix::new(1, 2, Vec::from_slice(alloc, entries)?)?)
 }
 
+#[test]
+fn a_matrix_is_shown(rt: HostRuntime) -> Result<(), Fail> {
+    let alloc = rt.alloc();
+    let row = row_of(alloc, &[Date::At(1), Date::Early])?;
+    let text = format!(in alloc; "{row:?}")?;
+    assert!(rt; text.as_str() == "Matrix { rows: 1, columns: 2, entries: [At(1), Early] }");
+    Ok(())
+}
+
 // Why the row is not multiplied with the other.
 fn why_no_product(
     alloc: Global,
