@@ -4,7 +4,10 @@ use example_nets::{place, transitions};
 use std::alloc::Global;
 use std::test::Fail;
 use teg_due::{Due, DueRow, LogRow, is_due_of, is_log_of};
-use teg_net::{Names, Net, Place, PlaceEnd, PlaceId, PlacesOf, Ratio, TransitionId, is_net};
+use teg_net::{
+    DateList, InputFault, InputList, Names, Net, Place, PlaceEnd, PlaceFault, PlaceId, PlacesOf,
+    Ratio, TransitionId, input_fault, is_net, place_fault,
+};
 
 // Places of these names between the transitions of these numbers.
 fn places_of(alloc: Global, ends: &[(&str, u32, u32)]) -> Result<Vec<Place>, Fail> {
@@ -40,6 +43,34 @@ fn lists_become_a_net(rt: HostRuntime) -> Result<(), Fail> {
     assert!(rt; are_lists_of_a_net(rt.alloc())?);
     let line = written(rt.alloc(), &net_of(rt.alloc(), &[("busy", 1, 1)])?);
     assert!(rt; line?.as_str() == "in 3/2 1");
+    Ok(())
+}
+
+// The fault of a place from the input to the transition of this number, beside an input and a
+// machine.
+fn fault_of_place(alloc: Global, to: u32) -> Result<Option<PlaceFault>, Fail> {
+    let belt = place(alloc, "belt", 0, to)?;
+    Ok(place_fault(&transitions(alloc)?, &belt))
+}
+
+// The fault of a list of the transition of this number, which has no dates, beside them.
+fn fault_of_list(alloc: Global, transition: u32) -> Result<Option<InputFault>, Fail> {
+    let list = InputList {
+        transition: TransitionId::new(transition),
+        dates: DateList::new(Vec::new(alloc)),
+        again: None,
+    };
+    Ok(input_fault(&transitions(alloc)?, &list))
+}
+
+#[test]
+fn entries_are_tested_alone(rt: HostRuntime) -> Result<(), Fail> {
+    let alloc = rt.alloc();
+    assert!(rt; fault_of_place(alloc, 1)?.is_none());
+    assert!(rt; fault_of_place(alloc, 2)? == Some(PlaceFault::UnknownTo));
+    assert!(rt; fault_of_place(alloc, 0)? == Some(PlaceFault::EntersInput));
+    assert!(rt; fault_of_list(alloc, 0)?.is_none());
+    assert!(rt; fault_of_list(alloc, 1)? == Some(InputFault::NoInput));
     Ok(())
 }
 

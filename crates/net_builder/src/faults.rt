@@ -5,9 +5,9 @@ ghost use Rattle.teg_net.specs.declared.entries.Place.{Place};
 ghost use Rattle.teg_net.specs.NetFaults.{IsNetFault};
 ghost use Rattle.teg_net.specs.Nets.{IsNet, lists_of};
 
-use crate::lists::input_fault;
-use crate::places::place_fault;
-use teg_net::{InputList, NetFault, Place, PlaceId, Transition, TransitionId};
+use teg_net::{
+    InputList, NetFault, Place, PlaceId, Transition, TransitionId, input_fault, place_fault,
+};
 
 // The most transitions of a net.
 const MOST_TRANSITIONS: usize = 400;

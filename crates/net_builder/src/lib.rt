@@ -24,8 +24,6 @@
 
 mod builder;
 mod faults;
-mod lists;
-mod places;
 mod refusal;
 
 pub use builder::NetBuilder;

@@ -7,10 +7,11 @@
 //! Its examples stand in `library_examples`, in `made_nets.rt` and `held_nets.rt`.
 //!
 //! [`Net::checked`] makes a net of lists that a program made, or tells the first rule that they
-//! break and where ([`NetFault`]). [`Names`] finds transitions and places by name, [`PlacesOf`] the
-//! places that leave or enter a transition; both are made once and borrow nothing. The checkers
-//! (`is_net`, `is_path`, `is_circuit`, `is_walk`) are true exactly by their definitions. What
-//! answers on parts and cycle times mean stands here too.
+//! break and where ([`NetFault`]); [`place_fault`] and [`input_fault`] tell that of one entry alone.
+//! [`Names`] finds transitions and places by name, [`PlacesOf`] the places that leave or enter a
+//! transition; both are made once and borrow nothing. The checkers (`is_net`, `is_path`,
+//! `is_circuit`, `is_walk`) are true exactly by their definitions. What answers on parts and cycle
+//! times mean stands here too.
 //!
 //! ## Call it
 //!
@@ -71,5 +72,5 @@ pub use paths::{is_circuit, is_path, time_of, tokens_of};
 pub use places_of::{PlaceEnd, PlacesOf};
 pub use ratios::Ratio;
 pub use rounds::{Choice, Round};
-pub use rules::is_net;
+pub use rules::{input_fault, is_net, place_fault};
 pub use walks::{Step, Walk, is_walk, walk_end, walk_time};

@@ -60,8 +60,10 @@ fn ends_fault(transitions: &[Transition], place: &Place) -> Option<PlaceFault>
     None
 }
 
-// The first rule that the place breaks; none where it may stand in a net of these transitions.
-fn place_fault(transitions: &[Transition], place: &Place) -> Option<PlaceFault>
+/// The first rule that the place breaks, in the order of [`PlaceFault`]; `None` exactly where it may
+/// stand in a net of these transitions. That its name is that of no other place is no rule of a
+/// place alone. It takes no memory, and a step a ready date.
+pub fn place_fault(transitions: &[Transition], place: &Place) -> Option<PlaceFault>
     ensures some { IfSome result (IsPlaceFault (transitions_alone transitions.now) place.now) }
     ensures none { IfNone result (IsPlaceOf (transitions_alone transitions.now) place.now) }
 {
@@ -116,8 +118,10 @@ fn again_fault(dates: &[u64], again: Again) -> Option<InputFault>
     None
 }
 
-// The first rule that the list breaks; none where it may stand in a net of these transitions.
-fn input_fault(transitions: &[Transition], list: &InputList) -> Option<InputFault>
+/// The first rule that the input list breaks, in the order of [`InputFault`]; `None` exactly where it
+/// may stand in a net of these transitions. That its transition has no other list is no rule of a
+/// list alone. It takes no memory, and a step a date.
+pub fn input_fault(transitions: &[Transition], list: &InputList) -> Option<InputFault>
     ensures some { IfSome result (IsInputFault (transitions_alone transitions.now) list.now) }
     ensures none { IfNone result (IsInputOf (transitions_alone transitions.now) list.now) }
 {
