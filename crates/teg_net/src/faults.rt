@@ -70,6 +70,12 @@ pub enum InputFault {
     EarlyNext,
 }
 
+// What is told of an entry whose name is taken.
+const SAME_NAME: &str = "has the name of an earlier one";
+
+// What is told of a second list of one transition.
+const SECOND_LIST: &str = "is of a transition that has an earlier one";
+
 impl PlaceFault {
     // What is told of the place.
     fn text(self) -> &'static str {
@@ -116,27 +122,17 @@ impl fmt::Display for InputFault {
 
 impl fmt::Display for NetFault {
     fn fmt<W: fmt::Write>(&self, f: &mut fmt::Formatter<W>) -> fmt::Result {
-        match self {
-            NetFault::NoTransition => f.write_str("no transition"),
-            NetFault::ManyTransitions => f.write_str("more than 400 transitions"),
-            NetFault::ManyPlaces => f.write_str("more than 4000 places"),
-            NetFault::SameTransition(id) => {
-                write!(f, "transition {} has the name of an earlier one", id.index)
-            }
-            NetFault::SamePlace(id) => {
-                write!(f, "place {} has the name of an earlier one", id.index)
-            }
-            NetFault::BadPlace(id, fault) => write!(f, "place {} {}", id.index, fault.text()),
-            NetFault::SameInput(position) => {
-                write!(
-                    f,
-                    "input list {position} is of a transition that has an earlier one"
-                )
-            }
-            NetFault::BadInput(position, fault) => {
-                write!(f, "input list {position} {}", fault.text())
-            }
-        }
+        let (entry, number, fault) = match self {
+            NetFault::NoTransition => return f.write_str("no transition"),
+            NetFault::ManyTransitions => return f.write_str("more than 400 transitions"),
+            NetFault::ManyPlaces => return f.write_str("more than 4000 places"),
+            NetFault::SameTransition(id) => ("transition", id.index as usize, SAME_NAME),
+            NetFault::SamePlace(id) => ("place", id.index as usize, SAME_NAME),
+            NetFault::BadPlace(id, fault) => ("place", id.index as usize, fault.text()),
+            NetFault::SameInput(position) => ("input list", *position, SECOND_LIST),
+            NetFault::BadInput(position, fault) => ("input list", *position, fault.text()),
+        };
+        write!(f, "{entry} {number} {fault}")
     }
 }
 
