@@ -6,7 +6,7 @@ use std::test::Fail;
 use teg_due::{Due, DueRow, LogRow, is_due_of, is_log_of};
 use teg_net::{
     DateList, InputFault, InputList, Names, Net, Place, PlaceEnd, PlaceFault, PlaceId, PlacesOf,
-    Ratio, TransitionId, input_fault, is_net, place_fault,
+    Ratio, Transition, TransitionId, input_fault, is_net, place_fault,
 };
 
 // Places of these names between the transitions of these numbers.
@@ -71,6 +71,36 @@ fn entries_are_tested_alone(rt: HostRuntime) -> Result<(), Fail> {
     assert!(rt; fault_of_place(alloc, 0)? == Some(PlaceFault::EntersInput));
     assert!(rt; fault_of_list(alloc, 0)?.is_none());
     assert!(rt; fault_of_list(alloc, 1)? == Some(InputFault::NoInput));
+    Ok(())
+}
+
+// Whether two places are equal that have these ends.
+fn are_same(alloc: Global, to: u32, other: u32) -> Result<bool, Fail> {
+    let (belt, second) = (
+        place(alloc, "belt", 0, to)?,
+        place(alloc, "belt", 0, other)?,
+    );
+    Ok(belt == second)
+}
+
+// Whether the first of these transitions comes before the second by its name, and is equal to the
+// first of others alone.
+fn are_compared(own: &[Transition], others: &[Transition]) -> bool {
+    let [input, machine] = own else {
+        return false;
+    };
+    let [same, apart] = others else {
+        return false;
+    };
+    input.name < machine.name && input.name != machine.name && *input == *same && *input != *apart
+}
+
+#[test]
+fn entries_are_compared(rt: HostRuntime) -> Result<(), Fail> {
+    let alloc = rt.alloc();
+    assert!(rt; are_same(alloc, 1, 1)? && !are_same(alloc, 1, 2)?);
+    let (own, others) = (transitions(alloc)?, transitions(alloc)?);
+    assert!(rt; are_compared(&own, &others));
     Ok(())
 }
 

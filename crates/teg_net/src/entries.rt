@@ -1,5 +1,7 @@
 //! The entries of a net: transitions, places and input lists.
-ghost use Rattle.std.specs.Prelude.{◌≡◌, IfOk};
+ghost use Rattle.std.specs.Prelude.{◌≡◌, ◌↔◌, IfOk, IsTrue, nat_eq};
+ghost use Rattle.std.specs.Cmp.{partial_equiv_from_equiv};
+ghost use Rattle.std.specs.Cmp.Lexicographic.{pointwise, nat_list_eq_equiv};
 
 use crate::names::Name;
 use std::alloc::{AllocError, Global};
@@ -61,14 +63,14 @@ impl PlaceId {
 }
 
 /// A transition (chapter 2).
-#[derive(Debug, Drop)]
+#[derive(Debug, Drop, PartialEq, Eq)]
 pub struct Transition {
     pub name: Name,
     pub role: Role,
 }
 
 /// A place with one upstream and one downstream transition (chapter 2).
-#[derive(Debug, Drop)]
+#[derive(Debug, Drop, PartialEq, Eq)]
 pub struct Place {
     pub name: Name,
     /// The upstream transition, which it leaves.
@@ -95,7 +97,7 @@ pub struct Again {
 }
 
 /// Dates in the user's unit, in order of the numbers of firings, or of tokens. Contracts see the
-/// list; it costs no memory beside it.
+/// list, and two are equal where their lists are; it costs no memory beside it.
 #[derive(Debug, Drop)]
 pub struct DateList {
     dates: Vec<u64>,
@@ -107,6 +109,24 @@ impl Model for DateList {
     ghost Value = { List ℕ };
 
     ghost view = { λ l. l.dates.items };
+}
+
+impl PartialEq for DateList {
+    ghost eq = { pointwise nat_eq };
+
+    ghost laws = { partial_equiv_from_equiv nat_list_eq_equiv };
+
+    #[tactic(auto, using(crate::proofs::SameLists::equal_lists_told))]
+    fn eq(&self, other: &DateList) -> bool
+        ensures value { result ≡ pointwise nat_eq self.now other.now }
+        ensures same { IsTrue result ↔ (self.now ≡ other.now) }
+    {
+        self.dates.as_slice() == other.dates.as_slice()
+    }
+}
+
+impl Eq for DateList {
+    ghost laws = { nat_list_eq_equiv };
 }
 
 impl DateList {
@@ -135,7 +155,7 @@ impl DateList {
 
 /// The dates before which an input transition cannot fire: the k-th is that of firing k.
 /// Past the list the dates go on by `again`, or the firing never comes.
-#[derive(Debug, Drop)]
+#[derive(Debug, Drop, PartialEq, Eq)]
 pub struct InputList {
     pub transition: TransitionId,
     /// At most 100,000 dates in the user's unit, each 0 to 10^12, which never fall.
