@@ -5,8 +5,8 @@ use std::alloc::Global;
 use std::test::Fail;
 use teg_due::{Due, DueRow, LogRow, is_due_of, is_log_of};
 use teg_net::{
-    DateList, InputFault, InputList, Names, Net, Place, PlaceEnd, PlaceFault, PlaceId, PlacesOf,
-    Ratio, Transition, TransitionId, input_fault, is_net, place_fault,
+    Circuit, DateList, InputFault, InputList, Names, Net, Place, PlaceEnd, PlaceFault, PlaceId,
+    PlacesOf, Ratio, Step, Transition, TransitionId, Walk, input_fault, is_net, place_fault,
 };
 
 // Places of these names between the transitions of these numbers.
@@ -101,6 +101,35 @@ fn entries_are_compared(rt: HostRuntime) -> Result<(), Fail> {
     assert!(rt; are_same(alloc, 1, 1)? && !are_same(alloc, 1, 2)?);
     let (own, others) = (transitions(alloc)?, transitions(alloc)?);
     assert!(rt; are_compared(&own, &others));
+    Ok(())
+}
+
+// The circuit of the places of these numbers.
+fn circuit_of(alloc: Global, numbers: &[u32]) -> Result<Circuit, Fail> {
+    let mut places = Vec::new(alloc);
+    for number in numbers {
+        places.push(PlaceId::new(*number))?;
+    }
+    Ok(Circuit { places })
+}
+
+// The walk from the first firing of the input by the place of this number.
+fn walk_by(alloc: Global, place: u32) -> Result<Walk, Fail> {
+    Ok(Walk {
+        start: TransitionId::new(0),
+        number: 1,
+        steps: vec![in alloc; Step::By(PlaceId::new(place))]?,
+    })
+}
+
+#[test]
+fn circuits_and_walks_are_compared(rt: HostRuntime) -> Result<(), Fail> {
+    let alloc = rt.alloc();
+    let (circuit, same) = (circuit_of(alloc, &[0, 1])?, circuit_of(alloc, &[0, 1])?);
+    let turned = circuit_of(alloc, &[1, 0])?;
+    assert!(rt; circuit == same && circuit != turned);
+    let (walk, same, other) = (walk_by(alloc, 0)?, walk_by(alloc, 0)?, walk_by(alloc, 1)?);
+    assert!(rt; walk == same && walk != other);
     Ok(())
 }
 

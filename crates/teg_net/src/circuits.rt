@@ -7,8 +7,9 @@ use crate::entries::PlaceId;
 use crate::net::Net;
 
 /// A circuit of the net's own places (chapter 2), as the numbers of its places in order.
-/// A reported circuit begins with the place that leaves its lowest numbered transition.
-#[derive(Debug, Drop)]
+/// A reported circuit begins with the place that leaves its lowest numbered transition, so that two
+/// that are reported are equal where they go through the same places in the same turn.
+#[derive(Debug, Drop, PartialEq, Eq)]
 pub struct Circuit {
     pub places: Vec<PlaceId>,
 }

@@ -18,7 +18,7 @@ pub enum Step {
 }
 
 /// A walk over firings, from a firing of a transition on.
-#[derive(Debug, Drop)]
+#[derive(Debug, Drop, PartialEq, Eq)]
 pub struct Walk {
     pub start: TransitionId,
     /// The number of the firing, from 1.
