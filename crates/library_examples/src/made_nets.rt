@@ -104,6 +104,20 @@ fn entries_are_compared(rt: HostRuntime) -> Result<(), Fail> {
     Ok(())
 }
 
+#[test]
+fn nets_are_compared(rt: HostRuntime) -> Result<(), Fail> {
+    let alloc = rt.alloc();
+    let mut net = net_of(alloc, &[("busy", 1, 1)])?;
+    let copy = net.copy(alloc)?;
+    assert!(rt; net == copy);
+    let busy = PlaceId::new(0);
+    if net.contains_place(busy) {
+        net.set_hold(busy, 7);
+    }
+    assert!(rt; net != copy);
+    Ok(())
+}
+
 // The circuit of the places of these numbers.
 fn circuit_of(alloc: Global, numbers: &[u32]) -> Result<Circuit, Fail> {
     let mut places = Vec::new(alloc);

@@ -8,7 +8,8 @@ use std::marker::Model;
 /// at most 4,000 places with names that are distinct among transitions and among places, places
 /// within their limits whose ends are transitions of the net and of which none enters an input,
 /// with a ready date for each of their tokens or none,
-/// and at most one list for each input transition, whose dates never fall.
+/// and at most one list for each input transition, whose dates never fall. Two nets are equal where
+/// their lists are, entry by entry and in order.
 #[derive(Debug, Drop)]
 pub struct Net {
     transitions: Vec<Transition>,
@@ -24,6 +25,33 @@ impl Model for Net {
     ghost view = { λ n. lists_of n.transitions.items n.places.items n.inputs.items };
 
     ghost invariant = { λ n. IsNet (lists_of n.transitions.items n.places.items n.inputs.items) };
+}
+
+impl PartialEq for Net {
+    ghost use Rattle.std.specs.Cmp.{and_per, on_per};
+    ghost use Rattle.std.specs.Cmp.Lexicographic.{pointwise, lists_per};
+    ghost use Rattle.std.specs.Ordering.{eq_of_both, on};
+    ghost use Rattle.teg_net.specs.Nets.{NetLists};
+    ghost use Rattle.teg_net.specs.contracts.entries.TransitionPartialEq.TheImpl.{eq-value as transition_eq};
+    ghost use Rattle.teg_net.specs.contracts.entries.TransitionPartialEq.TheImpl.Laws.{laws-law as transition_laws};
+    ghost use Rattle.teg_net.specs.contracts.entries.PlacePartialEq.TheImpl.{eq-value as place_eq};
+    ghost use Rattle.teg_net.specs.contracts.entries.PlacePartialEq.TheImpl.Laws.{laws-law as place_laws};
+    ghost use Rattle.teg_net.specs.contracts.entries.InputListPartialEq.TheImpl.{eq-value as input_eq};
+    ghost use Rattle.teg_net.specs.contracts.entries.InputListPartialEq.TheImpl.Laws.{laws-law as input_laws};
+
+    ghost eq = { eq_of_both (on (λ (n : NetLists). n.transitions) (pointwise transition_eq.it))
+        (eq_of_both (on (λ (n : NetLists). n.places) (pointwise place_eq.it))
+        (on (λ (n : NetLists). n.inputs) (pointwise input_eq.it))) };
+
+    ghost laws = { and_per (on_per (λ (n : NetLists). n.transitions) (lists_per transition_laws))
+        (and_per (on_per (λ (n : NetLists). n.places) (lists_per place_laws))
+        (on_per (λ (n : NetLists). n.inputs) (lists_per input_laws))) };
+
+    fn eq(&self, other: &Net) -> bool {
+        self.transitions.as_slice() == other.transitions.as_slice()
+            && self.places.as_slice() == other.places.as_slice()
+            && self.inputs.as_slice() == other.inputs.as_slice()
+    }
 }
 
 impl Net {
