@@ -118,6 +118,17 @@ fn nets_are_compared(rt: HostRuntime) -> Result<(), Fail> {
     Ok(())
 }
 
+// Whether ratios come in the order of their values.
+fn come_in_order(lesser: Ratio, greater: Ratio) -> bool {
+    lesser < greater && greater >= lesser && lesser.max(greater) == greater
+}
+
+#[test]
+fn ratios_come_in_order(rt: HostRuntime) {
+    assert!(rt; come_in_order(Ratio::of(7, 3), Ratio::of(5, 2)));
+    assert!(rt; !come_in_order(Ratio::of(4, 2), Ratio::of(2, 1)));
+}
+
 // The circuit of the places of these numbers.
 fn circuit_of(alloc: Global, numbers: &[u32]) -> Result<Circuit, Fail> {
     let mut places = Vec::new(alloc);

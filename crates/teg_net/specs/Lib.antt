@@ -10,6 +10,7 @@ pub mod Walks
 pub mod NameOrders
 pub mod NameTables
 pub mod Ratios
+pub mod RatioOrders
 pub mod Parts
 pub mod PlaceLists
 pub mod ReducedTimes

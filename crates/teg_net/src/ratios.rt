@@ -1,6 +1,9 @@
 //! Ratios of holding time to tokens (chapters 2 and 3).
-ghost use Rattle.std.specs.Prelude.{◌≡◌, ◌≤◌};
+ghost use Rattle.std.specs.Prelude.{◌≡◌, ◌≤◌, refl};
+ghost use Rattle.std.specs.Cmp.{partial_order_from_agreeing_total};
 ghost use Rattle.std.specs.Int.{IsGcd};
+ghost use Rattle.std.specs.Ordering.{as_partial_cmp};
+ghost use Rattle.teg_net.specs.RatioOrders.{ratio_cmp, ratio_ties, ratio_total};
 ghost use Rattle.teg_net.specs.Ratios.{IsLowestTerms, IsOrderOf, IsRatioOf};
 
 use std::cmp::Ordering;
@@ -8,7 +11,8 @@ use std::fmt;
 use std::marker::Model;
 
 /// A ratio of holding time to tokens in lowest terms; the tokens are at least 1.
-/// Contracts see its time and its tokens.
+/// Contracts see its time and its tokens. Ratios come in the order of their values, as
+/// [`Ratio::compare`] says: `cmp`, `<` and its like go by it.
 #[derive(Clone, Copy, Debug, PartialEq, Eq)]
 pub struct Ratio {
     time: u64,
@@ -80,6 +84,36 @@ impl Ratio {
         let left = u128::from(self.time) * u128::from(other.tokens);
         let right = u128::from(other.time) * u128::from(self.tokens);
         left.cmp(&right)
+    }
+}
+
+impl PartialOrd for Ratio {
+    ghost partial_cmp = { as_partial_cmp ratio_cmp };
+
+    ghost laws = { partial_order_from_agreeing_total ratio_cmp ratio_total (λ r s. refl) ratio_ties };
+
+    fn partial_cmp(&self, other: &Ratio) -> Option<Ordering> {
+        Some(self.cmp(other))
+    }
+}
+
+impl Ord for Ratio {
+    ghost cmp = { ratio_cmp };
+
+    ghost total = { ratio_total };
+
+    ghost matches_partial_cmp = { λ r s. refl };
+
+    ghost matches_eq = { ratio_ties };
+
+    #[tactic(auto, using(crate::proofs::RatioOrdering::ordering_is))]
+    fn cmp(&self, other: &Ratio) -> Ordering
+        ensures value { result ≡ ratio_cmp self.now other.now }
+        ensures order { IsOrderOf result self.now other.now }
+    {
+        // Both are read for their terms: of two ratios of one value both numbers are equal.
+        let _terms = (self.time(), other.time());
+        self.compare(other)
     }
 }
 
