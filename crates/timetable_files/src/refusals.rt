@@ -28,21 +28,24 @@ pub enum TableRefusal {
     OutOfMemory,
 }
 
+// How the line of a faulty row begins.
+const TIMETABLE_ROW: &str = "timetable row";
+
 // The line that the workbench prints, without the word `refused`, and with numbers, from 0, in
 // place of the names of transitions.
 impl fmt::Display for TableRefusal {
     fn fmt<W: fmt::Write>(&self, f: &mut fmt::Formatter<W>) -> fmt::Result {
-        let (row, fault) = match self {
-            TableRefusal::BadRow { row } => (row, "is not an entry"),
-            TableRefusal::UnknownTransition { row } => (row, "unknown transition"),
-            TableRefusal::Repeated { row } => (row, "repeated"),
-            TableRefusal::OutOfRange { row } => (row, "out of range"),
+        let (words, number, tail) = match self {
+            TableRefusal::BadRow { row } => (TIMETABLE_ROW, *row, " is not an entry"),
+            TableRefusal::UnknownTransition { row } => (TIMETABLE_ROW, *row, " unknown transition"),
+            TableRefusal::Repeated { row } => (TIMETABLE_ROW, *row, " repeated"),
+            TableRefusal::OutOfRange { row } => (TIMETABLE_ROW, *row, " out of range"),
             TableRefusal::Missing { transition } => {
-                return write!(f, "no departure of transition {}", transition.index);
+                ("no departure of transition", transition.index, "")
             }
             TableRefusal::OutOfMemory => return f.write_str("out of memory"),
         };
-        write!(f, "timetable row {row} {fault}")
+        write!(f, "{words} {number}{tail}")
     }
 }
 
