@@ -51,19 +51,20 @@ pub enum JitRefusal {
 
 impl fmt::Display for JitRefusal {
     fn fmt<W: fmt::Write>(&self, f: &mut fmt::Formatter<W>) -> fmt::Result {
-        match self {
+        let (transition, number, due, least) = match self {
             JitRefusal::Late {
                 transition,
                 number,
                 due,
                 least,
                 ..
-            } => {
-                write!(f, "late transition {} firing {number}", transition.index)?;
-                write!(f, " due {due} least {least}")
-            }
-            JitRefusal::OutOfMemory => f.write_str("out of memory"),
-        }
+            } => (transition.index, *number, *due, *least),
+            JitRefusal::OutOfMemory => return f.write_str("out of memory"),
+        };
+        write!(
+            f,
+            "late transition {transition} firing {number} due {due} least {least}"
+        )
     }
 }
 
