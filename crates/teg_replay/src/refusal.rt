@@ -25,21 +25,22 @@ pub enum FireRefusal {
 
 impl fmt::Display for FireRefusal {
     fn fmt<W: fmt::Write>(&self, f: &mut fmt::Formatter<W>) -> fmt::Result {
-        match self {
-            FireRefusal::Illegal {
-                place,
-                ready: Some(ready),
-            } => write!(f, "illegal place {} ready at {ready}", place.index),
-            FireRefusal::Illegal { place, ready: None } => {
-                write!(f, "illegal place {} never ready", place.index)
+        let (cause, date) = match self {
+            FireRefusal::Illegal { place, ready } => {
+                write!(f, "illegal place {} ", place.index)?;
+                match ready {
+                    Some(ready) => ("ready at", *ready),
+                    None => return f.write_str("never ready"),
+                }
             }
-            FireRefusal::BackInTime { last } => write!(f, "back in time behind {last}"),
-            FireRefusal::BeforeRelease {
-                release: Some(release),
-            } => write!(f, "before release at {release}"),
-            FireRefusal::BeforeRelease { release: None } => f.write_str("never released"),
-            FireRefusal::OutOfMemory => f.write_str("out of memory"),
-        }
+            FireRefusal::BackInTime { last } => ("back in time behind", u128::from(*last)),
+            FireRefusal::BeforeRelease { release } => match release {
+                Some(release) => ("before release at", *release),
+                None => return f.write_str("never released"),
+            },
+            FireRefusal::OutOfMemory => return f.write_str("out of memory"),
+        };
+        write!(f, "{cause} {date}")
     }
 }
 
