@@ -25,22 +25,21 @@ pub enum DelayRefusal {
 // place of the names of places.
 impl fmt::Display for DelayRefusal {
     fn fmt<W: fmt::Write>(&self, f: &mut fmt::Formatter<W>) -> fmt::Result {
-        match self {
+        let (words, number, tail) = match self {
             DelayRefusal::TooLarge {
                 transitions,
                 places,
             } => {
-                write!(f, "timetable of {transitions} transitions")?;
-                write!(f, " and {places} places")
+                write!(f, "timetable of {transitions} transitions ")?;
+                ("and", *places, " places")
             }
             DelayRefusal::Unworkable { place } => {
-                write!(f, "place {} does not fit the timetable", place.index)
+                ("place", place.index, " does not fit the timetable")
             }
-            DelayRefusal::TooLong { limit } => {
-                write!(f, "too long: no settled form within {limit}")
-            }
-            DelayRefusal::OutOfMemory => f.write_str("out of memory"),
-        }
+            DelayRefusal::TooLong { limit } => ("too long: no settled form within", *limit, ""),
+            DelayRefusal::OutOfMemory => return f.write_str("out of memory"),
+        };
+        write!(f, "{words} {number}{tail}")
     }
 }
 
