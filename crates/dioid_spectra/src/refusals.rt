@@ -30,25 +30,17 @@ pub enum NoSpectrum {
 
 impl fmt::Display for NoSpectrum {
     fn fmt<W: fmt::Write>(&self, f: &mut fmt::Formatter<W>) -> fmt::Result {
-        match self {
-            NoSpectrum::NotSquare => write!(f, "the matrix is not square"),
-            NoSpectrum::Never { row, column } => {
-                write!(f, "row {row} and column {column} is never")
-            }
-            NoSpectrum::Far { row, column } => {
-                write!(f, "row {row} and column {column} is past 10^18")
-            }
-            NoSpectrum::Wide { row, column } => {
-                write!(
-                    f,
-                    "row {row} and column {column} is too far above the least number"
-                )
-            }
-            NoSpectrum::NoNumber => write!(f, "no entry is a number"),
-            NoSpectrum::Reducible => write!(f, "some row does not reach some other"),
-            NoSpectrum::NoNet { fault } => fault.fmt(f),
-            NoSpectrum::OutOfMemory => write!(f, "no memory was found"),
-        }
+        let (row, column, fault) = match self {
+            NoSpectrum::NotSquare => return f.write_str("the matrix is not square"),
+            NoSpectrum::Never { row, column } => (*row, *column, "never"),
+            NoSpectrum::Far { row, column } => (*row, *column, "past 10^18"),
+            NoSpectrum::Wide { row, column } => (*row, *column, "too far above the least number"),
+            NoSpectrum::NoNumber => return f.write_str("no entry is a number"),
+            NoSpectrum::Reducible => return f.write_str("some row does not reach some other"),
+            NoSpectrum::NoNet { fault } => return fault.fmt(f),
+            NoSpectrum::OutOfMemory => return f.write_str("no memory was found"),
+        };
+        write!(f, "row {row} and column {column} is {fault}")
     }
 }
 
