@@ -24,25 +24,20 @@ pub enum NotLeft {
 
 impl fmt::Display for NotLeft {
     fn fmt<W: fmt::Write>(&self, f: &mut fmt::Formatter<W>) -> fmt::Result {
-        match self {
-            NotLeft::Unpaid { place } => write!(
-                f,
-                "place {} gave tokens that it had not",
-                place.index
+        let (entry, number, fault) = match self {
+            NotLeft::Unpaid { place } => ("place", place.index, "gave tokens that it had not"),
+            NotLeft::ManyTokens { place } => {
+                ("place", place.index, "is left more than 1000 tokens")
+            }
+            NotLeft::FarInput { transition } => (
+                "input",
+                transition.index,
+                "has no short list of dates from now on",
             ),
-            NotLeft::ManyTokens { place } => write!(
-                f,
-                "place {} is left more than 1000 tokens",
-                place.index
-            ),
-            NotLeft::FarInput { transition } => write!(
-                f,
-                "input {} has no short list of dates from now on",
-                transition.index
-            ),
-            NotLeft::NoNet { fault } => fault.fmt(f),
-            NotLeft::OutOfMemory => f.write_str("out of memory"),
-        }
+            NotLeft::NoNet { fault } => return fault.fmt(f),
+            NotLeft::OutOfMemory => return f.write_str("out of memory"),
+        };
+        write!(f, "{entry} {number} {fault}")
     }
 }
 
