@@ -232,6 +232,13 @@ fn refusals_have_lines(rt: HostRuntime) {
     assert!(rt; reads(alloc, missing, "no departure of transition 1"));
     let unworkable = DelayRefusal::Unworkable { place };
     assert!(rt; reads(alloc, unworkable, "place 1 does not fit the timetable"));
+    let large = DelayRefusal::TooLarge {
+        transitions: 201,
+        places: 3,
+    };
+    assert!(rt; reads(alloc, large, "timetable of 201 transitions and 3 places"));
+    let long = DelayRefusal::TooLong { limit: 9 };
+    assert!(rt; reads(alloc, long, "too long: no settled form within 9"));
     let falls = EndlessRefusal::Falls { row: 1 };
     assert!(rt; reads(alloc, falls, "due row 1 falls"));
     let late = ForeverRefusal::Late {

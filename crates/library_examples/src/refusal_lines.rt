@@ -1,4 +1,5 @@
 //! The lines of refusals, as a program prints them.
+use dioid_matrix::MatrixRefused;
 use example_nets::says;
 use scheduler_loop::Scheduler;
 use std::alloc::Global;
@@ -24,6 +25,27 @@ fn refusals_have_lines(rt: HostRuntime) -> Result<(), Fail> {
     assert!(rt; says(alloc, LiveNet::new(alloc, net), line));
     assert!(rt; says(alloc, Scheduler::new(alloc, NO_TOKEN), line));
     Ok(())
+}
+
+#[test]
+fn refused_matrices_have_lines(rt: HostRuntime) {
+    let alloc = rt.alloc();
+    let count = Err::<u8, MatrixRefused>(MatrixRefused::Count {
+        wanted: 4,
+        given: 3,
+    });
+    assert!(rt; says(alloc, count, "3 entries where 4 are wanted"));
+    let shape = Err::<u8, MatrixRefused>(MatrixRefused::Shape {
+        left_columns: 2,
+        right_rows: 1,
+    });
+    assert!(rt; says(alloc, shape, "2 and 1 do not go together"));
+    let range = Err::<u8, MatrixRefused>(MatrixRefused::Range {
+        step: 1,
+        row: 0,
+        column: 2,
+    });
+    assert!(rt; says(alloc, range, "step 1 at row 0 and column 2 is out of range"));
 }
 
 // How many places the file has.
