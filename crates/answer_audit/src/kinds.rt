@@ -6,7 +6,7 @@ use crate::question::Beside;
 use crate::words::{line_at, word_at};
 
 /// An answer that is shown on the net alone.
-#[derive(Clone, Copy, Debug, PartialEq, Eq)]
+#[derive(Clone, Copy)]
 pub enum Alone {
     /// `check`: the net is live.
     Live,
@@ -27,7 +27,7 @@ pub enum Alone {
 }
 
 /// What an answer is.
-#[derive(Clone, Copy, Debug, PartialEq, Eq)]
+#[derive(Clone, Copy)]
 pub enum Kind {
     /// One that is shown on the net alone.
     OfNet(Alone),

@@ -10,7 +10,7 @@ use teg_net::{Label, OutOfMemory};
 const GREATEST_PERIOD: u64 = 1_000_000;
 
 /// What an answer was asked with beside the net, by the names of files.
-#[derive(Debug, Drop)]
+#[derive(Drop)]
 pub enum Beside {
     /// Nothing.
     Nothing,
@@ -21,7 +21,7 @@ pub enum Beside {
 }
 
 /// An answer, its net, and what it was asked with, by the names of files.
-#[derive(Debug, Drop)]
+#[derive(Drop)]
 pub struct Question {
     pub net: Label,
     pub answer: Label,

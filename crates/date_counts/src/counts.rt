@@ -50,7 +50,7 @@ fn count_below(settled: &Settled, transition: TransitionId, limit: u64, end: u64
 }
 
 // A number of steps, and what they leave of a limit.
-#[derive(Clone, Copy, Debug, PartialEq, Eq)]
+#[derive(Clone, Copy)]
 pub(crate) struct Rounds {
     pub(crate) count: u64,
     pub(crate) rest: u64,

@@ -22,7 +22,7 @@ pub struct Line {
 }
 
 // The time of places of the net without that of one of them, and how often they pass it.
-#[derive(Clone, Copy, Debug)]
+#[derive(Clone, Copy)]
 pub(crate) struct Sums {
     pub(crate) rest: u64,
     pub(crate) passes: u64,

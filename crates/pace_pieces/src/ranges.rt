@@ -12,7 +12,7 @@ use teg_net::{OutOfMemory, PlaceId, holds_keep_circuits};
 use whatif::bottleneck_with_hold;
 
 // A holding time, and the line of a circuit that has the greatest ratio there.
-#[derive(Debug, Drop)]
+#[derive(Drop)]
 pub(crate) struct BestLine {
     pub(crate) hold: u64,
     pub(crate) line: Line,

@@ -6,7 +6,7 @@ ghost use Rattle.teg_net.specs.Limits.{greatest_circuit_time, most_circuit_token
 use teg_net::{Net, PlaceId, Ratio, time_of, tokens_of};
 
 // The holding time and the tokens of a circuit.
-#[derive(Clone, Copy, Debug, PartialEq, Eq)]
+#[derive(Clone, Copy)]
 pub(crate) struct CircuitSums {
     pub(crate) time: u128,
     pub(crate) tokens: u128,

@@ -8,7 +8,7 @@ use teg_net::{Net, OutOfMemory, PlaceEnd, PlaceId, PlacesOf, TransitionId};
 
 // The places that leave each transition, and how many at the end of each list are passed over for
 // good: they have tokens, or lead to transitions with a rank.
-#[derive(Debug, Drop)]
+#[derive(Drop)]
 pub(crate) struct Exits {
     leaving: PlacesOf,
     passed: Vec<usize>,

@@ -7,7 +7,7 @@ use std::alloc::{AllocError, Global};
 use teg_net::{Net, PlaceId};
 
 // A place, with the transitions at which it starts and ends.
-#[derive(Clone, Copy, Debug, Drop)]
+#[derive(Clone, Copy, Drop)]
 pub(crate) struct Ending {
     pub(crate) start: usize,
     pub(crate) end: usize,

@@ -11,7 +11,7 @@ use std::alloc::{AllocError, Global};
 use teg_net::{Net, Place, PlaceId, Ratio};
 
 // A place whose reduced time at the ratio is raised by so much.
-#[derive(Clone, Copy, Debug, Drop)]
+#[derive(Clone, Copy, Drop)]
 pub(crate) struct Raised {
     pub(crate) ratio: Ratio,
     pub(crate) place: PlaceId,

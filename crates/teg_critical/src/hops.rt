@@ -10,7 +10,7 @@ use std::alloc::{AllocError, Global};
 use teg_net::{Net, Place, PlaceId};
 
 // How many places lead to a transition, and the last of them.
-#[derive(Clone, Copy, Debug, PartialEq, Eq)]
+#[derive(Clone, Copy)]
 pub(crate) struct Hop {
     pub(crate) count: usize,
     pub(crate) last: PlaceId,

@@ -13,7 +13,7 @@ use std::alloc::{AllocError, Global};
 use teg_net::{CycleAnswer, Net, PartAnswer, Place, PlaceId, Potential, Ratio, TransitionId};
 
 // What a place loses against the greatest ratio, times `scale`, the tokens of its part's ratio.
-#[derive(Clone, Copy, Debug, PartialEq, Eq)]
+#[derive(Clone, Copy)]
 pub(crate) struct Loss {
     pub(crate) amount: u128,
     pub(crate) scale: u64,

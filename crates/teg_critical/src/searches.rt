@@ -17,7 +17,7 @@ use std::collections::BinaryHeap;
 use teg_net::{Net, PlaceId, PlacesOf, TransitionId};
 
 // A net, what its places lose, and the places that leave each of its transitions.
-#[derive(Debug, Drop)]
+#[derive(Drop)]
 pub(crate) struct NetLosses<'a> {
     pub(crate) net: &'a Net,
     pub(crate) losses: &'a [Option<Loss>],

@@ -8,7 +8,7 @@ use std::cmp::Ordering;
 use teg_net::{PartAnswer, Ratio};
 
 // The best part so far.
-#[derive(Clone, Copy, Debug, PartialEq, Eq)]
+#[derive(Clone, Copy)]
 pub(crate) struct BestPart {
     pub(crate) part: usize,
     pub(crate) ratio: Ratio,

@@ -7,7 +7,7 @@ use teg_net::{Net, PlaceId};
 
 // A place with its key: the number of its upstream transition by 1,001, plus its tokens, which are
 // at most 1,000.
-#[derive(Clone, Copy, Debug, Drop)]
+#[derive(Clone, Copy, Drop)]
 pub(crate) struct Marked {
     pub(crate) key: u64,
     pub(crate) place: PlaceId,

@@ -11,7 +11,7 @@ use teg_net::{PlaceId, Ratio};
 
 // The followers of each transition, the members whose policy places start there, but for the root:
 // the highest numbered one, and for each member the next lower one that has the same start.
-#[derive(Debug, Drop)]
+#[derive(Drop)]
 pub(crate) struct Followers {
     pub(crate) highest: Vec<Option<usize>>,
     pub(crate) lower: Vec<Option<usize>>,

@@ -11,7 +11,7 @@ use teg_net::{Net, Place, PlaceId};
 
 // The places of a part, in order of number, and for each transition the rank of the first of them
 // that leaves it.
-#[derive(Debug, Drop)]
+#[derive(Drop)]
 pub(crate) struct InnerPlaces {
     pub(crate) ids: Vec<PlaceId>,
     pub(crate) exits: Vec<usize>,
@@ -19,7 +19,7 @@ pub(crate) struct InnerPlaces {
 
 // A part of a net: the net, the number of each transition's part, that of this one, its places in
 // order of number, and for each transition the rank of the first of them that leaves it.
-#[derive(Debug, Drop)]
+#[derive(Drop)]
 pub(crate) struct Part<'a> {
     pub(crate) net: &'a Net,
     pub(crate) parts: &'a [u32],

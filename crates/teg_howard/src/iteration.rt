@@ -123,7 +123,7 @@ fn answer_of(alloc: Global, round: &Round) -> Result<PartAnswer, AllocError>
 }
 
 // Where the rounds of a part stand: the latest one, and the policy that it gives.
-#[derive(Debug, Drop)]
+#[derive(Drop)]
 struct Iteration {
     inner: InnerPlaces,
     policy: Vec<PlaceId>,

@@ -14,7 +14,7 @@ use std::alloc::{AllocError, Global};
 use teg_net::{Net, PlaceId};
 
 // A circuit of a policy, with its sums.
-#[derive(Debug, Drop)]
+#[derive(Drop)]
 pub(crate) struct FoundCircuit {
     pub(crate) places: Vec<PlaceId>,
     pub(crate) time: u64,

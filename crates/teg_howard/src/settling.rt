@@ -16,7 +16,7 @@ use std::alloc::{AllocError, Global};
 use teg_net::{Choice, Circuit, Net, PlaceId, Ratio, Round, TransitionId};
 
 // A round, and the members' potentials by transition.
-#[derive(Debug, Drop)]
+#[derive(Drop)]
 pub(crate) struct RoundState {
     pub(crate) round: Round,
     pub(crate) values: Vec<Option<i128>>,

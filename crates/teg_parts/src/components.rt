@@ -58,7 +58,7 @@ fn give_root(onward: &[bool], back: &[bool], found: &mut [Option<u32>], root: u3
 }
 
 // The places along which one may go from each transition, and those against which one may.
-#[derive(Debug, Drop)]
+#[derive(Drop)]
 struct BothWays {
     onward: PlacesAlong,
     back: PlacesAlong,

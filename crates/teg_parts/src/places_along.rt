@@ -18,7 +18,7 @@ pub(crate) fn far_end(near: PlaceEnd, place: &Place) -> usize
 
 // Of each transition the places along which one may go from it: onward where one goes off at the
 // transition that a place leaves, and else back.
-#[derive(Debug, Drop)]
+#[derive(Drop)]
 pub(crate) struct PlacesAlong {
     pub(crate) near: PlaceEnd,
     places: PlacesOf,

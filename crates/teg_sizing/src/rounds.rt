@@ -14,14 +14,14 @@ use teg_net::{Net, Place, PlaceId, Ratio};
 
 // What is told of a transition: the greatest value of the paths that end there, none where there
 // is none; and their last place, where they are not those of the round before.
-#[derive(Clone, Copy, Debug, PartialEq, Eq)]
+#[derive(Clone, Copy)]
 pub(crate) struct ValueCell {
     pub(crate) value: Option<i128>,
     pub(crate) by: Option<PlaceId>,
 }
 
 // What is asked: a net, a target ratio, and the place that the rounds leave out.
-#[derive(Debug, Drop)]
+#[derive(Drop)]
 pub(crate) struct Asked<'a> {
     pub(crate) net: &'a Net,
     pub(crate) target: Ratio,
@@ -29,7 +29,7 @@ pub(crate) struct Asked<'a> {
 }
 
 // What a round tells of each transition. Contracts see the list.
-#[derive(Debug, Drop)]
+#[derive(Drop)]
 pub(crate) struct ValueRound {
     cells: Vec<ValueCell>,
 }

@@ -12,7 +12,7 @@ use std::alloc::{AllocError, Global};
 use teg_net::{Net, PlaceId, Ratio, TransitionId};
 
 // The circuit of greatest value among those that pass a place, and that value.
-#[derive(Debug, Drop)]
+#[derive(Drop)]
 pub(crate) struct Through {
     pub(crate) value: i128,
     pub(crate) places: Vec<PlaceId>,

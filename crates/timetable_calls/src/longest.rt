@@ -12,7 +12,7 @@ use teg_net::{Circuit, CycleAnswer, Net, OutOfMemory, PartAnswer, Ratio};
 use teg_parts::split;
 
 // A circuit and its ratio.
-#[derive(Debug, Drop)]
+#[derive(Drop)]
 pub(crate) struct Busiest {
     pub(crate) ratio: Ratio,
     pub(crate) circuit: Circuit,
