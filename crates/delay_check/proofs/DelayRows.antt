@@ -8,6 +8,7 @@ use Rattle.dioid.specs.declared.dates.Date.TheVariants.{Early}
 use Rattle.dating_certificates.specs.CheckedRows.{date_in_rows}
 use Rattle.dating_certificates.specs.SettledRows.{form_by_rows}
 use Rattle.delay_laws.specs.declared.table.Timetable.{Timetable}
+use Rattle.delay_laws.specs.DelayOutcomes.{IsRecovered}
 use Rattle.delay_laws.specs.Delays.{IsFormOfDelays}
 use Rattle.delay_laws.specs.PlannedTimetables.{planned}
 use Rattle.delay_laws.specs.SettlingLaws.{natural_of_date}
@@ -18,7 +19,7 @@ use Rattle.teg_net.specs.declared.entries.PlaceId.{PlaceId}
 use Rattle.teg_net.specs.Nets.{NetLists}
 use Rattle.teg_text.specs.Lines.{written}
 use Rattle.delay_check.specs.DelayRows.{delay_by_rows}
-use Rattle.delay_check.specs.ShownDelays.{TellsKept, kept_lines}
+use Rattle.delay_check.specs.ShownDelays.{TellsKept, TellsRecovered, kept_lines, recovered_lines}
 
 -- the date that a form by rows tells at a number that the rows have
 date_by_rows : (width : ℕ) (dates : List Date) (after turn : ℕ) (steps : List ℤ) (i k : ℕ) → i < width → 1 ≤ k → k ≤ after + turn
@@ -48,7 +49,7 @@ pub as_wide : (net : NetLists) (period : ℕ) (table : Timetable) (wide : ℕ) (
 as_wide net period table wide dates after turn steps form =
     sym (length-map-range_with_len (λ t. map (date_in_rows wide dates t) (range_with_len 1 (after + turn))) 0 wide) ∙ form.3.stands.sizes.rows_are
 
--- a text of the delays that such a form tells
+-- a text of the delays that such a form tells, as those that a circuit keeps
 pub tells_kept : (net : NetLists) (period : ℕ) (table : Timetable) (text : List ℕ) (circuit : List PlaceId) (width : ℕ) (dates : List Date) (after turn : ℕ) (steps : List ℤ)
     → IsPlannedNet net period table → IsFormOfDelays net period table (form_by_rows width dates after turn steps)
     → text ≡ written (kept_lines net after turn circuit (delay_by_rows width dates after turn steps period table)) → TellsKept net period table text circuit
@@ -57,5 +58,19 @@ tells_kept net period table text circuit width dates after turn steps h form tol
   delay_by_rows width dates after turn steps period table,
   form,
   (forms_tell_delays net h.ends period table h.workable (form_by_rows width dates after turn steps) form).0.left,
+  told,
+)
+
+-- the same, as those that are over past a number
+pub tells_recovered : (net : NetLists) (period : ℕ) (table : Timetable) (text : List ℕ) (last width : ℕ) (dates : List Date) (after turn : ℕ) (steps : List ℤ)
+    → IsPlannedNet net period table → IsFormOfDelays net period table (form_by_rows width dates after turn steps)
+    → IsRecovered net (delay_by_rows width dates after turn steps period table) last
+    → text ≡ written (recovered_lines net after turn last (delay_by_rows width dates after turn steps period table)) → TellsRecovered net period table text last
+tells_recovered net period table text last width dates after turn steps h form over told = (
+  form_by_rows width dates after turn steps,
+  delay_by_rows width dates after turn steps period table,
+  form,
+  (forms_tell_delays net h.ends period table h.workable (form_by_rows width dates after turn steps) form).0.left,
+  over,
   told,
 )

@@ -1,3 +1,5 @@
 mod DelayRows
 mod Given
+mod LastDelays
 mod Passing
+mod Texts

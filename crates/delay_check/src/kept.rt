@@ -1,37 +1,20 @@
 //! The witness of `teg timetable` where delays stay: a circuit without spare time.
-ghost use Rattle.std.specs.Prelude.{◌≡◌, ◌+◌, ◌*◌, ◌<◌, ◌≤◌, Contains, IfOk, IfSome, IsTrue, length, slice_index_or};
-ghost use Rattle.dating_certificates.specs.SettledRows.{form_by_rows};
-ghost use Rattle.delay_laws.specs.Delays.{IsFormOfDelays};
-ghost use Rattle.delay_laws.specs.PlannedTimetables.{IsTableOf};
-ghost use Rattle.release_nets.specs.PlannedNets.{greatest_period};
+ghost use Rattle.std.specs.Prelude.{◌≡◌, ◌+◌, ◌<◌, ◌≤◌, Contains, IfOk, IfSome, IsTrue, length, slice_index_or};
 ghost use Rattle.teg_net.specs.Circuits.{AreInRange, from_of};
 ghost use Rattle.teg_net.specs.declared.entries.PlaceId.{PlaceId};
 ghost use Rattle.teg_text.specs.Lines.{written};
 ghost use Rattle.delay_check.specs.DelayRows.{delay_by_rows};
 ghost use Rattle.delay_check.specs.ShownDelays.{AreSomewhereLeft, IsShownKept, KeepsWhatIsLeft, TellsKept, kept_lines};
 
+use crate::form_rows::{are_form_rows, is_asked, rows_of};
 use crate::left::left_somewhere;
 use crate::spread_text::{Rows, text_by_rows};
-use crate::told_delays::{ToldDelays, delays_in};
-use dating_certificates::check_shortest;
-use delay_laws::{Timetable, is_table_of, shows_kept, tight_circuits_keep_delays};
-use dioid::Date;
-use release_nets::{Planned, release_net};
+use crate::told_delays::{ToldKept, kept_in};
+use delay_laws::{Timetable, shows_kept, tight_circuits_keep_delays};
+use release_nets::Planned;
 use std::alloc::{AllocError, Global};
 use teg_net::{Circuit, Net, OutOfMemory, PlaceId, is_circuit};
 use witness_check::{begins_lowest, is_seen_live};
-
-// The greatest period of a timetable.
-const GREATEST_PERIOD: u64 = 1_000_000;
-
-// Whether the timetable is one of the net, and the period keeps its limits.
-fn is_asked(net: &Net, period: u64, table: &Timetable) -> bool
-    ensures some { IsTrue result → 1 ≤ period }
-    ensures period { IsTrue result → period ≤ greatest_period }
-    ensures table { IsTrue result → IsTableOf net.now table.now }
-{
-    1 <= period && period <= GREATEST_PERIOD && is_table_of(net, table)
-}
 
 // Whether one of the transitions that the places leave is late where so much is left.
 fn is_late(net: &Net, left: &[u64], places: &[PlaceId]) -> bool
@@ -65,34 +48,6 @@ fn keeps_delays(planned: &Planned<'_>, left: &[u64], places: &[PlaceId]) -> bool
         return false;
     }
     is_late(net, left, places)
-}
-
-// Whether these are rows and steps by which the delays of the timetable settle.
-fn are_form_rows(alloc: Global, planned: &Planned<'_>, rows: &Rows<'_>) -> Result<bool, OutOfMemory>
-    requires { rows.now.width
-        ≡ length planned.now.net.now.transitions + length planned.now.net.now.transitions }
-    ensures { IfOk result (λ yes. IsTrue yes → IsFormOfDelays planned.now.net.now
-        planned.now.period planned.now.table.now (form_by_rows rows.now.width rows.now.dates.now
-        rows.now.after rows.now.turn rows.now.steps.now)) }
-{
-    let derived = release_net(alloc, planned)?;
-    let (after, turn) = (rows.after, rows.turn);
-    let is_form = check_shortest(alloc, &derived, after, turn, rows.dates, rows.steps)?;
-    Ok(is_form)
-}
-
-// How many dates of each transition rows of this width tell, where they have them.
-fn count_of(width: usize, after: u64, turn: u64, dates: &[Date]) -> Option<u64>
-    ensures count { IfSome result (λ count. count ≡ after + turn) }
-    ensures rows { IfSome result (λ count. count * width ≤ length dates.now) }
-{
-    let count = after.checked_add(turn)?;
-    let cells = (count as usize).checked_mul(width)?;
-    if cells <= dates.len() {
-        Some(count)
-    } else {
-        None
-    }
 }
 
 // Whether the whole text is that of the delays of these rows, which the circuit keeps.
@@ -140,7 +95,7 @@ fn tells_rows(
 fn tells_delays(
     alloc: Global,
     planned: &Planned<'_>,
-    told: &ToldDelays,
+    told: &ToldKept,
     text: &str,
 ) -> Result<bool, OutOfMemory>
     requires { AreInRange planned.now.net.now told.now.circuit.places.items }
@@ -149,20 +104,12 @@ fn tells_delays(
 {
     let transitions = planned.net.transitions().len();
     let width = transitions + transitions;
-    let cells = told.dates(alloc, planned)?;
-    let dates = cells.as_slice();
-    let step = i128::from(planned.period).saturating_mul(i128::from(told.turn));
-    let steps = vec![in alloc; step; width]?;
-    let Some(count) = count_of(width, told.after, told.turn, dates) else {
+    let spread = &told.spread;
+    let dates = spread.dates(alloc, planned)?;
+    let steps = spread.steps(alloc, planned.period, width)?;
+    let (after, turn) = (spread.after, spread.turn);
+    let Some(rows) = rows_of(width, after, turn, dates.as_slice(), steps.as_slice()) else {
         return Ok(false);
-    };
-    let rows = Rows {
-        after: told.after,
-        turn: told.turn,
-        width,
-        count,
-        dates,
-        steps: steps.as_slice(),
     };
     let tells = tells_rows(alloc, planned, &rows, &told.circuit, text)?;
     Ok(tells)
@@ -172,7 +119,7 @@ fn tells_delays(
 fn shows(
     alloc: Global,
     planned: &Planned<'_>,
-    told: &ToldDelays,
+    told: &ToldKept,
     text: &str,
 ) -> Result<bool, OutOfMemory>
     ensures { IfOk result (λ yes. IsTrue yes → IsShownKept planned.now.net.now planned.now.period
@@ -211,7 +158,7 @@ pub fn shown_kept(
     ensures { IfOk result (λ shown. IfSome shown (λ circuit.
         IsShownKept net.now period table.now text.now circuit.places.items)) }
 {
-    let Some(told) = delays_in(alloc, net, text)? else {
+    let Some(told) = kept_in(alloc, net, text)? else {
         return Ok(None);
     };
     if !is_asked(net, period, table) {

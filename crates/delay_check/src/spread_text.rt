@@ -1,4 +1,4 @@
-//! The text of delays that are kept, by rows of dates.
+//! The texts of delays that are kept, and of delays that are over, by rows of dates.
 ghost use Rattle.std.specs.Prelude.{◌≡◌, ◌+◌, ◌-◌, ◌*◌, ◌<◌, ◌≤◌, ◌++◌, ◌∷◌, [], IfOk, codes, length, slice_index_or, string_bytes};
 ghost use Rattle.dioid.specs.declared.dates.Date.TheVariants.{At, Early};
 ghost use Rattle.delay_laws.specs.PlannedTimetables.{planned as planned_at};
@@ -7,7 +7,7 @@ ghost use Rattle.teg_net.specs.Circuits.{AreInRange};
 ghost use Rattle.teg_text.specs.Lines.{line_then, written};
 ghost use Rattle.teg_text.specs.WordsOfNames.{circuit_line, name_of_transition, settled_words};
 ghost use Rattle.delay_check.specs.DelayRows.{delay_by_rows};
-ghost use Rattle.delay_check.specs.ShownDelays.{delays_line, delays_lines, kept_lines};
+ghost use Rattle.delay_check.specs.ShownDelays.{delays_line, delays_lines, kept_lines, recovered_line, recovered_lines};
 
 use dioid::Date;
 use release_nets::Planned;
@@ -63,7 +63,7 @@ fn date_at(dates: &[Date], width: usize, index: usize, before: u64) -> Date
 }
 
 // The delay of the transition at the number behind so many others.
-fn delay_at(planned: &Planned<'_>, rows: &Rows<'_>, index: usize, before: u64) -> u128
+pub(crate) fn delay_at(planned: &Planned<'_>, rows: &Rows<'_>, index: usize, before: u64) -> u128
     requires index { index < length planned.now.net.now.transitions }
     requires wide { index < rows.now.width }
     requires before { before < rows.now.count }
@@ -156,6 +156,42 @@ pub(crate) fn text_by_rows(
         planned.now.table.now))) }
 {
     let mut text = first_lines(alloc, planned.net, rows.after, rows.turn, circuit)?;
+    push_lines(&mut text, planned, rows)?;
+    Ok(text)
+}
+
+// Appends the line that no delay is left past this number.
+fn push_recovered(text: &mut String, last: u64) -> Result<(), AllocError>
+    ensures { IfOk result (λ _. string_bytes text.new ≡ string_bytes text.old
+        ++ written (recovered_line last ∷ [])) }
+{
+    write!(text, "recovered after {last}\n")
+}
+
+// The lines before those of the delays, where they are over past this number.
+fn recovered_first(alloc: Global, after: u64, turn: u64, last: u64) -> Result<String, AllocError>
+    ensures { IfOk result (λ text. string_bytes text ≡ line_then (settled_words after turn) []
+        ++ written (recovered_line last ∷ [])) }
+{
+    let mut text = String::new(alloc);
+    push_settled(&mut text, after, turn)?;
+    push_recovered(&mut text, last)?;
+    Ok(text)
+}
+
+// The whole text of the delays of these rows, as those that are over past this number.
+pub(crate) fn recovered_text(
+    alloc: Global,
+    planned: &Planned<'_>,
+    rows: &Rows<'_>,
+    last: u64,
+) -> Result<String, AllocError>
+    requires { length planned.now.net.now.transitions ≤ rows.now.width }
+    ensures { IfOk result (λ text. string_bytes text ≡ written (recovered_lines planned.now.net.now
+        rows.now.after rows.now.turn last (delay_by_rows rows.now.width rows.now.dates.now
+        rows.now.after rows.now.turn rows.now.steps.now planned.now.period planned.now.table.now))) }
+{
+    let mut text = recovered_first(alloc, rows.after, rows.turn, last)?;
     push_lines(&mut text, planned, rows)?;
     Ok(text)
 }

@@ -6,14 +6,27 @@ use std::alloc::{AllocError, Global};
 use teg_net::{Circuit, Net};
 use witness_check::{places_named, settled_in_line};
 
-// A number, a period, the circuit, and the delays of each transition up to the end of the first
-// period, one transition after another.
+// A number, a period, and the delays of each transition up to the end of the first period, one
+// transition after another.
 #[derive(Drop)]
 pub(crate) struct ToldDelays {
     pub(crate) after: u64,
     pub(crate) turn: u64,
-    pub(crate) circuit: Circuit,
     delays: Vec<u64>,
+}
+
+// Delays that a circuit keeps.
+#[derive(Drop)]
+pub(crate) struct ToldKept {
+    pub(crate) circuit: Circuit,
+    pub(crate) spread: ToldDelays,
+}
+
+// Delays that are over past a number.
+#[derive(Drop)]
+pub(crate) struct ToldRecovered {
+    pub(crate) last: u64,
+    pub(crate) spread: ToldDelays,
 }
 
 // The delays of a line of so many.
@@ -39,23 +52,15 @@ fn push_delays(
     Ok(true)
 }
 
-// What the text tells; none where a line is none of its lines.
-pub(crate) fn delays_in(
+// The delays that these lines tell behind the first one of the text; none where a line is none of
+// its lines.
+fn delays_in(
     alloc: Global,
     net: &Net,
-    text: &str,
+    first: &str,
+    lines: &[&str],
 ) -> Result<Option<ToldDelays>, AllocError> {
-    let mut lines = text.lines();
-    let Some((after, turn)) = settled_in_line(alloc, lines.next().unwrap_or(""))? else {
-        return Ok(None);
-    };
-    if lines.next() != Some("kept") {
-        return Ok(None);
-    }
-    let Some(words) = lines.next().unwrap_or("").strip_prefix("circuit") else {
-        return Ok(None);
-    };
-    let Some(places) = places_named(alloc, net, words)? else {
+    let Some((after, turn)) = settled_in_line(alloc, first)? else {
         return Ok(None);
     };
     let count = after.saturating_add(turn) as usize;
@@ -71,9 +76,55 @@ pub(crate) fn delays_in(
     Ok(Some(ToldDelays {
         after,
         turn,
-        circuit: Circuit { places },
         delays,
     }))
+}
+
+// What the text tells of delays that are kept; none where a line is none of its lines.
+pub(crate) fn kept_in(
+    alloc: Global,
+    net: &Net,
+    text: &str,
+) -> Result<Option<ToldKept>, AllocError> {
+    let lines: Vec<&str> = text.lines().collect(alloc)?;
+    let [first, "kept", circuit, told @ ..] = lines.as_slice() else {
+        return Ok(None);
+    };
+    let Some(words) = circuit.strip_prefix("circuit") else {
+        return Ok(None);
+    };
+    let Some(places) = places_named(alloc, net, words)? else {
+        return Ok(None);
+    };
+    let Some(spread) = delays_in(alloc, net, first, told)? else {
+        return Ok(None);
+    };
+    Ok(Some(ToldKept {
+        circuit: Circuit { places },
+        spread,
+    }))
+}
+
+// What the text tells of delays that are over; none where a line is none of its lines.
+pub(crate) fn recovered_in(
+    alloc: Global,
+    net: &Net,
+    text: &str,
+) -> Result<Option<ToldRecovered>, AllocError> {
+    let lines: Vec<&str> = text.lines().collect(alloc)?;
+    let [first, second, told @ ..] = lines.as_slice() else {
+        return Ok(None);
+    };
+    let Some(number) = second.strip_prefix("recovered after ") else {
+        return Ok(None);
+    };
+    let Ok(last) = number.parse::<u64>() else {
+        return Ok(None);
+    };
+    let Some(spread) = delays_in(alloc, net, first, told)? else {
+        return Ok(None);
+    };
+    Ok(Some(ToldRecovered { last, spread }))
 }
 
 // The most tokens of a place, and at least 1.
@@ -127,6 +178,18 @@ impl ToldDelays {
             dates.push(Date::At(planned.saturating_add(delay)))?;
         }
         Ok(())
+    }
+
+    // The step of each of so many rows: a planned period for each number of the told one.
+    pub(crate) fn steps(
+        &self,
+        alloc: Global,
+        period: u64,
+        width: usize,
+    ) -> Result<Vec<i128>, AllocError> {
+        let step = i128::from(period).saturating_mul(i128::from(self.turn));
+        let steps = vec![in alloc; step; width]?;
+        Ok(steps)
     }
 
     // The dates, row after row: those of the transitions, and their releases.

@@ -1,0 +1,80 @@
+//! The rows by which the delays of a timetable settle: that the timetable is one of the net, and
+//! that the rows tell the form.
+ghost use Rattle.std.specs.Prelude.{◌≡◌, ◌+◌, ◌*◌, ◌≤◌, IfOk, IfSome, IsTrue, length};
+ghost use Rattle.dating_certificates.specs.SettledRows.{form_by_rows};
+ghost use Rattle.delay_laws.specs.Delays.{IsFormOfDelays};
+ghost use Rattle.delay_laws.specs.PlannedTimetables.{IsTableOf};
+ghost use Rattle.release_nets.specs.PlannedNets.{greatest_period};
+
+use crate::spread_text::Rows;
+use dating_certificates::check_shortest;
+use delay_laws::{Timetable, is_table_of};
+use dioid::Date;
+use release_nets::{Planned, release_net};
+use std::alloc::Global;
+use teg_net::{Net, OutOfMemory};
+
+// The greatest period of a timetable.
+const GREATEST_PERIOD: u64 = 1_000_000;
+
+// Whether the timetable is one of the net, and the period keeps its limits.
+pub(crate) fn is_asked(net: &Net, period: u64, table: &Timetable) -> bool
+    ensures some { IsTrue result → 1 ≤ period }
+    ensures period { IsTrue result → period ≤ greatest_period }
+    ensures table { IsTrue result → IsTableOf net.now table.now }
+{
+    1 <= period && period <= GREATEST_PERIOD && is_table_of(net, table)
+}
+
+// Whether these are rows and steps by which the delays of the timetable settle.
+pub(crate) fn are_form_rows(
+    alloc: Global,
+    planned: &Planned<'_>,
+    rows: &Rows<'_>,
+) -> Result<bool, OutOfMemory>
+    requires { rows.now.width
+        ≡ length planned.now.net.now.transitions + length planned.now.net.now.transitions }
+    ensures { IfOk result (λ yes. IsTrue yes → IsFormOfDelays planned.now.net.now
+        planned.now.period planned.now.table.now (form_by_rows rows.now.width rows.now.dates.now
+        rows.now.after rows.now.turn rows.now.steps.now)) }
+{
+    let derived = release_net(alloc, planned)?;
+    let (after, turn) = (rows.after, rows.turn);
+    let is_form = check_shortest(alloc, &derived, after, turn, rows.dates, rows.steps)?;
+    Ok(is_form)
+}
+
+// How many dates of each transition rows of this width tell, where they have them.
+fn count_of(width: usize, after: u64, turn: u64, dates: &[Date]) -> Option<u64>
+    ensures count { IfSome result (λ count. count ≡ after + turn) }
+    ensures rows { IfSome result (λ count. count * width ≤ length dates.now) }
+{
+    let count = after.checked_add(turn)?;
+    let cells = (count as usize).checked_mul(width)?;
+    if cells <= dates.len() {
+        Some(count)
+    } else {
+        None
+    }
+}
+
+// Rows of this width with these dates and steps, where the dates are enough.
+pub(crate) fn rows_of<'t>(
+    width: usize,
+    after: u64,
+    turn: u64,
+    dates: &'t [Date],
+    steps: &'t [i128],
+) -> Option<Rows<'t>>
+    ensures { IfSome result (λ rows. rows.width ≡ width) }
+{
+    let count = count_of(width, after, turn, dates)?;
+    Some(Rows {
+        after,
+        turn,
+        width,
+        count,
+        dates,
+        steps,
+    })
+}
