@@ -102,7 +102,7 @@ def questions(net, folder):
         yield ["jit", net, late], [late]
     table = f"{TOP}/examples/railway_late.csv"
     if net.endswith("/railway.toml"):
-        for period in ("24", "30"):
+        for period in ("24", "30", "32"):
             yield ["timetable", net, period, table], [period, table]
     elif transitions:
         plan = written(f"{base}.plan.csv", [*(f"{name},0" for name in transitions), f"{transitions[0]},2,7"])

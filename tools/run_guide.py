@@ -18,10 +18,10 @@ Each file of examples/ is named by a command of the guide, a script of examples/
 that takes a net alone, by the usage, answers for each net there: with status 0, or, where the net is refused, as `check`
 does.
 
-With --witnesses each answer of `check`, `list`, `cycle`, `dates`, `slack`, `size` and `jit` that a command of the guide
-asks for, and of `timetable` each whose delays are kept, is handed to the program witness_runner that `rt ci` leaves, which
-has to tell it as shown, and then with one number of it made greater by one, or of a circuit that stands without numbers
-with the last place left out, which has to be told as not shown or refuted.
+With --witnesses each answer of `check`, `list`, `cycle`, `dates`, `slack`, `size`, `jit` and `timetable` that a command of
+the guide asks for is handed to the program witness_runner that `rt ci` leaves, which has to tell it as shown, and then with
+one number of it made greater by one, or of a circuit that stands without numbers or keeps delays with the last place left
+out, which has to be told as not shown or refuted.
 
 A difference is told. The last line is 'N passed, M failed', and the exit status 0 where some passed and none failed.
 """
@@ -84,8 +84,8 @@ def raised(line):
 
 def changed(text):
     """The answer with a number made greater by one, the last of a line: of the table of latest dates in each line that tells
-    a date, of settled dates, lists and slacks in each line, and else in the first line that has one. The circuit of delays
-    that are kept, and one that stands alone, loses its last place; that there is no circuit is told twice."""
+    a date, of settled dates, delays that die out, lists and slacks in each line, and else in the first line that has one. The
+    circuit of delays that are kept, and one that stands alone, loses its last place; that there is no circuit is told twice."""
     lines = text.splitlines(keepends=True)
     numbered = [at for at, line in enumerate(lines) if re.search(r" \d+\b", line)]
     if KEPT.match(text):
@@ -110,7 +110,7 @@ def odd_witnesses(command, folder):
     for asked in ASKS.findall(command):
         words = asked.split()
         text = run(words, folder)[1]
-        if not text.startswith(CLAIMS) or words[1] == "timetable" and not KEPT.match(text):
+        if not text.startswith(CLAIMS):
             continue
         further = {"jit": words[3:], "timetable": words[3:5]}
         files = [words[2], "answer.txt", *further.get(words[1], [])]

@@ -15,7 +15,7 @@ use Rattle.dating_check.specs.FirstLate.{IsShownFirstLate}
 use Rattle.dating_check.specs.ShownForms.{IsShownSettled}
 use Rattle.dating_check.specs.ShownTables.{IsShownTable}
 use Rattle.dating_check.specs.declared.settled.ShownSettled.{ShownSettled}
-use Rattle.delay_check.specs.ShownDelays.{IsShownKept}
+use Rattle.delay_check.specs.ShownDelays.{IsShownKept, IsShownRecovered}
 use Rattle.answer_check.specs.NoCircuits.{IsShownNoCircuit}
 use Rattle.answer_check.specs.ShownDates.{IsShownDate}
 use Rattle.answer_check.specs.ShownLists.{IsShownList}
@@ -52,6 +52,11 @@ IsShownDateOf net text = (shown : ShownDate) × IsShownDate net text shown
 -- the text tells the delays that are left of this timetable, which departs again every `period`, and a circuit that keeps some
 abbrev pub IsShownKeptFor : NetLists → ℕ → List ℕ → Timetable → Type 0
 IsShownKeptFor net period text table = (circuit : List PlaceId) × IsShownKept net period table text circuit
+
+-- the text tells the delays that are left of this timetable, which departs again every `period`, and the least number after which there
+-- is none
+abbrev pub IsShownRecoveredFor : NetLists → ℕ → List ℕ → Timetable → Type 0
+IsShownRecoveredFor net period text table = (last : ℕ) × IsShownRecovered net period table text last
 
 -- what is found of an answer that says this is so: it is shown only where it is, and refuted only where the net is live and it is not
 abbrev pub IsFound : NetLists → Type 0 → Finding → Type 0

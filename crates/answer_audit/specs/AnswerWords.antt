@@ -5,7 +5,7 @@ use Rattle.std.specs.Str.Lines.{lines}
 use Rattle.answer_audit.specs.declared.kinds.Alone.{Alone}
 use Rattle.answer_audit.specs.declared.kinds.Alone.TheVariants.{Live, Deadlock, Listed, NoCircuit, Slack, Cycle, Settled, Size}
 use Rattle.answer_audit.specs.declared.kinds.Kind.{Kind}
-use Rattle.answer_audit.specs.declared.kinds.Kind.TheVariants.{OfNet, Plan, LateRow, OneDate, Kept}
+use Rattle.answer_audit.specs.declared.kinds.Kind.TheVariants.{OfNet, Plan, LateRow, OneDate, Kept, Recovered}
 use Rattle.answer_audit.specs.declared.question.Beside.{Beside}
 use Rattle.answer_audit.specs.declared.question.Beside.TheVariants.{Nothing, File, Timetable}
 
@@ -54,9 +54,17 @@ told_with_file first =
     else (if bytes_eq first (codes "date") then Some OneDate
     else None))
 
--- an answer that was asked with a timetable: delays that are kept
+-- an answer that was asked with a timetable and begins with `settled`, by the first word of its second line: delays that are kept, or
+-- that die out
+abbrev pub delays_told : List ℕ → Option Kind
+delays_told below =
+    if bytes_eq below (codes "kept") then Some Kept
+    else (if bytes_eq below (codes "recovered") then Some Recovered
+    else None)
+
+-- an answer that was asked with a timetable
 abbrev pub told_with_table : (first below : List ℕ) → Option Kind
-told_with_table first below = if bytes_eq first (codes "settled") && bytes_eq below (codes "kept") then Some Kept else None
+told_with_table first below = if bytes_eq first (codes "settled") then delays_told below else None
 
 -- an answer that tells no circuit without tokens, by what it was asked with
 abbrev pub told_beside : Beside → (first second below : List ℕ) → Option Kind

@@ -6,14 +6,14 @@ use Rattle.std.specs.Str.Lines.{lines}
 use Rattle.csv_records.specs.Records.{most_file_bytes}
 use Rattle.teg_net.specs.Nets.{NetLists}
 use Rattle.teg_outside.specs.Shelves.{ShelfState}
-use Rattle.answer_audit.specs.AnswerFindings.{IsFound, IsShownAlone, IsShownPlanFor, IsShownLateFor, IsShownDateOf, IsShownKeptFor}
+use Rattle.answer_audit.specs.AnswerFindings.{IsFound, IsShownAlone, IsShownPlanFor, IsShownLateFor, IsShownDateOf, IsShownKeptFor, IsShownRecoveredFor}
 use Rattle.answer_audit.specs.AnswerWords.{kind_of_text}
 use Rattle.answer_audit.specs.AuditFiles.{OpensFileOf, SaysNetOf, SaysText, SaysDue, SaysTable, most_answer_bytes}
 use Rattle.answer_audit.specs.Claims.{claims_text}
 use Rattle.answer_audit.specs.declared.finding.Finding.{Finding}
 use Rattle.answer_audit.specs.declared.finding.Finding.TheVariants.{NoChecker}
 use Rattle.answer_audit.specs.declared.kinds.Kind.{Kind}
-use Rattle.answer_audit.specs.declared.kinds.Kind.TheVariants.{OfNet, Plan, LateRow, OneDate, Kept}
+use Rattle.answer_audit.specs.declared.kinds.Kind.TheVariants.{OfNet, Plan, LateRow, OneDate, Kept, Recovered}
 use Rattle.answer_audit.specs.declared.question.Beside.{Beside}
 use Rattle.answer_audit.specs.declared.question.Beside.TheVariants.{File, Timetable}
 use Rattle.answer_audit.specs.declared.question.Question.{Question}
@@ -60,6 +60,12 @@ FindsKept net (Timetable period name) text old new found =
     FindsByFile net (SaysTable net) (IsShownKeptFor net period text) name most_file_bytes old new found
 FindsKept net beside text old new found = FindsNoChecker old new found
 
+-- what is found of delays that die out, by the timetable
+abbrev pub FindsRecovered : NetLists → Beside → List ℕ → ShelfState → ShelfState → Option Finding → Type 0
+FindsRecovered net (Timetable period name) text old new found =
+    FindsByFile net (SaysTable net) (IsShownRecoveredFor net period text) name most_file_bytes old new found
+FindsRecovered net beside text old new found = FindsNoChecker old new found
+
 -- what is found of an answer of this kind
 abbrev pub FindsOf : NetLists → Beside → Option Kind → List ℕ → ShelfState → ShelfState → Option Finding → Type 0
 FindsOf net beside None text old new found = FindsNoChecker old new found
@@ -68,6 +74,7 @@ FindsOf net beside (Some Plan) text old new found = FindsPlan net beside text ol
 FindsOf net beside (Some LateRow) text old new found = FindsLate net beside text old new found
 FindsOf net beside (Some OneDate) text old new found = FindsDate net beside text old new found
 FindsOf net beside (Some Kept) text old new found = FindsKept net beside text old new found
+FindsOf net beside (Some Recovered) text old new found = FindsRecovered net beside text old new found
 
 -- what is told where this is found of an answer of this kind, and its lines
 abbrev pub told_by : Option Kind → List (List ℕ) → Option Finding → Option (Finding × List ℕ)

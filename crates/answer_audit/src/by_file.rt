@@ -1,16 +1,16 @@
 //! What is found of an answer that was asked with a file: a function for each kind.
 ghost use Rattle.std.specs.Prelude.{IfOk};
 ghost use Rattle.csv_records.specs.Records.{most_file_bytes};
-ghost use Rattle.answer_audit.specs.AnswerFindings.{IsFound, IsShownDateOf, IsShownKeptFor, IsShownLateFor, IsShownPlanFor};
+ghost use Rattle.answer_audit.specs.AnswerFindings.{IsFound, IsShownDateOf, IsShownKeptFor, IsShownLateFor, IsShownPlanFor, IsShownRecoveredFor};
 ghost use Rattle.answer_audit.specs.AuditFiles.{SaysDue, SaysTable, SaysText, most_answer_bytes};
-ghost use Rattle.answer_audit.specs.Audits.{FindsByFile, FindsDate, FindsKept, FindsLate, FindsPlan};
+ghost use Rattle.answer_audit.specs.Audits.{FindsByFile, FindsDate, FindsKept, FindsLate, FindsPlan, FindsRecovered};
 
 use crate::files::{open_due, open_table, open_text};
 use crate::finding::Finding;
 use crate::question::Beside;
 use answer_check::shown_date;
 use dating_check::{refutes_table, shown_first_late, shown_table};
-use delay_check::shown_kept;
+use delay_check::{shown_kept, shown_recovered};
 use delay_laws::Timetable;
 use std::alloc::Global;
 use teg_due::Due;
@@ -205,6 +205,61 @@ pub(crate) fn find_kept<S: Shelf>(
     match beside {
         Beside::Timetable { period, name } => {
             kept_by_file(alloc, net, *period, name.as_str(), text, shelf)
+        }
+        _ => Ok(Some(Finding::NoChecker)),
+    }
+}
+
+// Of `timetable`, which delays are left, and that they die out.
+fn recovered_finding(
+    alloc: Global,
+    net: &Net,
+    period: u64,
+    table: &Timetable,
+    text: &str,
+) -> Result<Finding, OutOfMemory>
+    ensures { IfOk result (IsFound net.now (IsShownRecoveredFor net.now period text.now table.now)) }
+{
+    match shown_recovered(alloc, net, period, table, text)? {
+        Some(_) => Ok(Finding::Shown),
+        None => Ok(Finding::NotShown),
+    }
+}
+
+// The same by the timetable's file of this name.
+fn recovered_by_file<S: Shelf>(
+    alloc: Global,
+    net: &Net,
+    period: u64,
+    name: &str,
+    text: &str,
+    shelf: &mut S,
+) -> Result<Option<Finding>, OutOfMemory>
+    ensures { IfOk result (FindsByFile net.now (SaysTable net.now)
+        (IsShownRecoveredFor net.now period text.now)
+        name.now most_file_bytes (S.state shelf.old) (S.state shelf.new)) }
+{
+    let Some(table) = open_table(alloc, net, name, shelf)? else {
+        return Ok(None);
+    };
+    let finding = recovered_finding(alloc, net, period, &table, text)?;
+    Ok(Some(finding))
+}
+
+// The same by what it was asked with.
+pub(crate) fn find_recovered<S: Shelf>(
+    alloc: Global,
+    net: &Net,
+    beside: &Beside,
+    text: &str,
+    shelf: &mut S,
+) -> Result<Option<Finding>, OutOfMemory>
+    ensures { IfOk result (FindsRecovered net.now beside.now text.now
+        (S.state shelf.old) (S.state shelf.new)) }
+{
+    match beside {
+        Beside::Timetable { period, name } => {
+            recovered_by_file(alloc, net, *period, name.as_str(), text, shelf)
         }
         _ => Ok(Some(Finding::NoChecker)),
     }

@@ -120,10 +120,11 @@ fn finish<W: Sink>(out: &mut W, ending: Result<Ending, OutOfMemory>) -> AuditSta
 /// due file of `jit`, the list of dates of `date`, the period and the file of `timetable`. Between
 /// two questions stands `--`; `-` is standard input. Each file is read once, in this order, and that
 /// which an answer was asked with only where its kind wants it. Of an answer its first line is
-/// written, of a table of latest dates each line that tells a date, and of delays that are kept that
-/// line and the circuit, each behind what is found of it; of one that is not read with its files,
-/// that this is so. The gravest of all is how the call ends. The text is whole before its first byte
-/// is written, so nothing is written where no memory is found.
+/// written, of a table of latest dates each line that tells a date, of delays that are kept that line
+/// and the circuit, and of delays that die out the line that says so, each behind what is found of
+/// it; of one that is not read with its files, that this is so. The gravest of all is how the call
+/// ends. The text is whole before its first byte is written, so nothing is written where no memory
+/// is found.
 ///
 /// What it promises is `AuditsWords` (`specs/AuditCalls.antt`): `shown` is written of an answer only
 /// where its text is what that kind of answer says of the net that its file says (`IsShownAlone` and

@@ -21,6 +21,7 @@ fn is_claim(kind: Option<Kind>, index: usize, line: &str) -> bool
     match kind {
         Some(Kind::Plan) => !is_free(line),
         Some(Kind::Kept) => 1 <= index && index <= 2,
+        Some(Kind::Recovered) => index == 1,
         _ => index == 0,
     }
 }

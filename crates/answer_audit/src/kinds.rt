@@ -1,6 +1,6 @@
 //! What an answer is, by its first words and by what it was asked with.
 ghost use Rattle.std.specs.Prelude.{◌≡◌, map};
-ghost use Rattle.answer_audit.specs.AnswerWords.{is_deadlock_told, kind_of_lines, kind_told, none_told, of_net, pace_told, told_alone, told_beside, told_with_file, told_with_table};
+ghost use Rattle.answer_audit.specs.AnswerWords.{delays_told, is_deadlock_told, kind_of_lines, kind_told, none_told, of_net, pace_told, told_alone, told_beside, told_with_file, told_with_table};
 
 use crate::question::Beside;
 use crate::words::{line_at, word_at};
@@ -39,6 +39,8 @@ pub enum Kind {
     OneDate,
     /// `timetable`: delays that are kept.
     Kept,
+    /// `timetable`: delays that die out.
+    Recovered,
 }
 
 // Whether the answer tells a circuit without tokens.
@@ -105,14 +107,24 @@ fn told_with_file(first: &str) -> Option<Kind>
     }
 }
 
+// An answer that was asked with a timetable and begins with `settled`.
+fn delays_told(below: &str) -> Option<Kind>
+    ensures { result ≡ delays_told below.now }
+{
+    match below {
+        "kept" => Some(Kind::Kept),
+        "recovered" => Some(Kind::Recovered),
+        _ => None,
+    }
+}
+
 // An answer that was asked with a timetable.
 fn told_with_table(first: &str, below: &str) -> Option<Kind>
     ensures { result ≡ told_with_table first.now below.now }
 {
-    if first == "settled" && below == "kept" {
-        Some(Kind::Kept)
-    } else {
-        None
+    match first {
+        "settled" => delays_told(below),
+        _ => None,
     }
 }
 

@@ -22,7 +22,7 @@ path material 1 by feed saw 1 by to_drill drill 1 by drill_free drill 2 by to_sh
 ";
 
 // The files of the shelf, by name.
-const FILES: [(&str, &str); 29] = [
+const FILES: [(&str, &str); 32] = [
     (
         "loop",
         "transition = [{ name = \"a\" }, { name = \"b\" }]
@@ -117,6 +117,18 @@ place = [
         "settled after 2 period 1\nkept\ncircuit south_down south_up\ndelays North 10 0 0\ndelays Centre>North 0 1 3\ndelays Centre>South 0 5 5\ndelays South 0 5 5\n",
     ),
     (
+        "over",
+        "settled after 3 period 1\nrecovered after 3\ndelays North 10 0 0 0\ndelays Centre>North 0 0 0 0\ndelays Centre>South 0 3 1 0\ndelays South 0 3 1 0\n",
+    ),
+    (
+        "over later",
+        "settled after 3 period 1\nrecovered after 4\ndelays North 10 0 0 0\ndelays Centre>North 0 0 0 0\ndelays Centre>South 0 3 1 0\ndelays South 0 3 1 0\n",
+    ),
+    (
+        "no fit",
+        "refused: place north_up does not fit the timetable\n",
+    ),
+    (
         "other delay",
         "settled after 2 period 1\nkept\ncircuit south_down south_up\ndelays North 10 0 0\ndelays Centre>North 0 1 4\ndelays Centre>South 0 5 5\ndelays South 0 5 5\n",
     ),
@@ -125,7 +137,7 @@ place = [
 // The words of a call, how it ends, and what it writes.
 type Call<'a> = (&'a [&'a str], AuditStatus, &'a str);
 
-const CALLS: [Call<'static>; 38] = [
+const CALLS: [Call<'static>; 43] = [
     (&["loop", "live"], AuditStatus::Shown, "shown live\n"),
     (
         &["loop", "other counts"],
@@ -253,6 +265,31 @@ const CALLS: [Call<'static>; 38] = [
         &["railway", "other delay", "30", "table"],
         AuditStatus::NotShown,
         "not shown kept\nnot shown circuit south_down south_up\n",
+    ),
+    (
+        &["railway", "over", "32", "table"],
+        AuditStatus::Shown,
+        "shown recovered after 3\n",
+    ),
+    (
+        &["railway", "over", "30", "table"],
+        AuditStatus::NotShown,
+        "not shown recovered after 3\n",
+    ),
+    (
+        &["railway", "over later", "32", "table"],
+        AuditStatus::NotShown,
+        "not shown recovered after 4\n",
+    ),
+    (
+        &["railway", "over", "32", "nowhere"],
+        AuditStatus::NotRead,
+        "not read over\n",
+    ),
+    (
+        &["railway", "no fit", "24", "table"],
+        AuditStatus::NoChecker,
+        "no checker refused: place north_up does not fit the timetable\n",
     ),
     (
         &["loop", "nowhere"],

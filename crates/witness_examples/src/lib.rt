@@ -1,6 +1,6 @@
 //! Examples of `dating_check`, `delay_check` and `answer_check`: texts of the guide that show their
-//! dates, latest dates, late rows and delays that stay, and the same texts with a digit changed,
-//! which show nothing; of `release_nets`, by the dates of such a net; and whole calls of
+//! dates, latest dates, late rows, and delays that stay or die out, and the same texts with a digit
+//! changed, which show nothing; of `release_nets`, by the dates of such a net; and whole calls of
 //! `answer_audit`. The crate has tests alone; those of the other answers stand in `library_examples`.
 #![tactic(auto)]
 
@@ -14,6 +14,8 @@ mod kept_delays;
 mod late_rows;
 #[cfg(test)]
 mod planned_nets;
+#[cfg(test)]
+mod recovered_delays;
 #[cfg(test)]
 mod settled_texts;
 #[cfg(test)]

@@ -4,10 +4,11 @@
 //! that `teg check`, `list`, `cycle`, `dates`, `date`, `slack`, `size`, `jit` or `timetable` printed
 //! of it, for `jit` the due file, for `date` what `teg list` printed of at least as many firings, and
 //! for `timetable` its period and its file. It prints the first line of the answer, of a table of
-//! latest dates each line that tells a date, and of delays that are kept that line and the circuit,
-//! each behind what is found of it: `shown`, `refuted`, `not shown` or `no checker`. Further
-//! questions may follow, each behind `--`; of one whose file is not read, or says no net, text or
-//! rows, it prints `not read` and the name of the answer. `-` is standard input.
+//! latest dates each line that tells a date, of delays that are kept that line and the circuit, and
+//! of delays that die out the line that says so, each behind what is found of it: `shown`,
+//! `refuted`, `not shown` or `no checker`. Further questions may follow, each behind `--`; of one
+//! whose file is not read, or says no net, text or rows, it prints `not read` and the name of the
+//! answer. `-` is standard input.
 //!
 //! It ends with status 0 where all is shown, and else with that of the gravest: 2 where words ask
 //! nothing, 5 where a file is not read, 1 where an answer is refuted, 3 where one is not shown, 4
@@ -20,7 +21,8 @@
 //! each slack; of `size`, that the number is the least that is enough; of `dates`, that its form is
 //! the settled form; of latest dates, that the table is a plan, with a step that attains each date;
 //! of `late`, that its row is the first that comes late, and when; of `kept`, that the circuit keeps
-//! delays, with the number, the period and all lines of delays. Of the other lines it tells nothing.
+//! delays, and of `recovered`, the least number after which none is left, both with the number, the
+//! period and all lines of delays. Of the other lines it tells nothing.
 //!
 //! It stands on `answer_audit` and `teg_outside`.
 #![tactic(auto)]
