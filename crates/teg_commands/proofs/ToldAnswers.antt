@@ -8,9 +8,9 @@ use Rattle.std.proofs.lemmas.Int.{ints}
 use Rattle.std.proofs.lemmas.List.Elements.{All-cons, All-nil}
 use Rattle.std.proofs.lemmas.Option.{slice_get_past}
 use Rattle.due_laws.proofs.LatestDates.{walk_ends_in}
-use Rattle.teg_report.proofs.teg_settle_proofs.teg_model_proofs.LiveRanks.{live_ranks}
-use Rattle.teg_report.proofs.teg_settle_proofs.teg_model_proofs.NetBound.{least_keeps_bound}
-use Rattle.teg_report.proofs.teg_settle_proofs.teg_model_proofs.OfNet.{net_ends}
+use Rattle.teg_settle.proofs.teg_model_proofs.LiveRanks.{live_ranks}
+use Rattle.teg_settle.proofs.teg_model_proofs.NetBound.{least_keeps_bound}
+use Rattle.teg_settle.proofs.teg_model_proofs.OfNet.{net_ends}
 use Rattle.teg_report.specs.dioid.declared.dates.Date.{Date}
 use Rattle.teg_report.specs.dioid.declared.dates.Date.TheVariants.{Early, Never, At as on_date}
 use Rattle.teg_net.specs.Limits.{greatest_firing_number}
@@ -79,7 +79,7 @@ use Rattle.teg_report.specs.teg_lines.RoundLines.{IsRunKept}
 use Rattle.teg_report.specs.Series.{IsParseKept, IsSeriesRefusalKept}
 use Rattle.teg_report.specs.teg_lines.Widths.{IsWord32}
 use Rattle.teg_report.proofs.teg_lines_proofs.Certified.{certificate_told}
-use Rattle.teg_report.proofs.teg_settle_proofs.teg_loops_proofs.Through.{pass_back}
+use Rattle.teg_settle.proofs.teg_loops_proofs.Through.{pass_back}
 use Rattle.teg_sizing.specs.SizingTexts.{SaidSizing, SizingSaid, NoPlaceSaid, IsSizingSaid, IsSizingTold, said_lines, told_sizing}
 use Rattle.teg_sizing.proofs.Reading.{circuit_in_net}
 use Rattle.teg_timetable.specs.delay_laws.declared.table.Timetable.{Timetable}

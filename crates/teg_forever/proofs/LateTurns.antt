@@ -14,7 +14,7 @@ use Rattle.teg_net.specs.Circuits.{IsLive}
 use Rattle.forever_laws.specs.teg_model.DateBounds.{IsDateWithin, greatest_least_date}
 use Rattle.forever_laws.specs.settled_laws.SettledForms.{SettledForm, IsSettledFormOf, settled_date, step_of_form}
 use Rattle.forever_laws.proofs.settled_laws_proofs.Telling.{form_tells}
-use Rattle.teg_settle.specs.KeptForms.{IsFormKept}
+use Rattle.teg_settle.specs.settled_forms.KeptForms.{IsFormKept}
 use Rattle.endless_due.specs.declared.row.EndlessRow.{EndlessRow}
 use Rattle.endless_due.specs.EndlessRows.{IsEndlessRow}
 use Rattle.forever_laws.specs.Late.{NoneLateTo, NoneLate, IsLeastLate}

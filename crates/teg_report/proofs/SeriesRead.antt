@@ -9,7 +9,7 @@ use Rattle.dioid.specs.declared.dates.Date.TheVariants.{Early, At, Never}
 use Rattle.series_form.specs.NumberBounds.{IsSeries, IsSmallDate}
 use Rattle.series_form.specs.declared.forms.SeriesRefused.{SeriesRefused}
 use Rattle.series_form.specs.declared.forms.SeriesRefused.TheVariants.{TooLong, TooGreat, OutOfMemory as NoRoom}
-use Rattle.teg_settle.specs.series_laws.SeriesForms.{Form as SeriesForm}
+use Rattle.series_laws.specs.SeriesForms.{Form as SeriesForm}
 use Rattle.teg_calc.specs.declared.refusals.ParseRefused.{ParseRefused}
 use Rattle.teg_calc.specs.declared.refusals.ParseRefused.TheVariants.{Syntax, TooDeep, OutOfMemory as NoText}
 use Rattle.teg_calc.specs.Printing.{series_line}

@@ -6,7 +6,7 @@ use Rattle.std.specs.Prelude.{⊤}
 use Rattle.std.proofs.lemmas.Bool.{and_from}
 use Rattle.std.proofs.lemmas.List.{length-append}
 use Rattle.dioid.specs.declared.dates.Date.{Date}
-use Rattle.teg_settle.specs.settled_laws.SettledForms.{SettledForm, row_of, step_of_form}
+use Rattle.settled_forms.specs.settled_laws.SettledForms.{SettledForm, row_of, step_of_form}
 use Rattle.teg_net.specs.Nets.{NetLists, IsNet}
 use Rattle.teg_report.specs.SettledTexts.{is_from, row_dates_in, row_step_in, times_to_in, times_from_in, AreTimesKept, AreTimesToKept, IsSettledKept}
 use Rattle.teg_report.specs.SettledTexts.{AreTimesIn, TimesFrom, TimesTo, from_line, from_lines, output_count, row_words, settled_line, settled_lines}

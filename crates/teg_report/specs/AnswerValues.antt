@@ -10,9 +10,9 @@ use Rattle.teg_net.specs.declared.entries.PlaceId.{PlaceId}
 use Rattle.teg_net.specs.declared.entries.TransitionId.{TransitionId}
 use Rattle.teg_net.specs.Ratios.{Fraction}
 use Rattle.teg_reader.specs.declared.refusals.ReadRefusal.{ReadRefusal}
-use Rattle.teg_settle.specs.settled_laws.SettledForms.{SettledForm}
+use Rattle.settled_forms.specs.settled_laws.SettledForms.{SettledForm}
 use Rattle.series_form.specs.declared.forms.SeriesRefused.{SeriesRefused}
-use Rattle.teg_settle.specs.series_laws.SeriesForms.{Form as SeriesForm}
+use Rattle.series_laws.specs.SeriesForms.{Form as SeriesForm}
 use Rattle.teg_calc.specs.declared.refusals.ParseRefused.{ParseRefused}
 use Rattle.teg_report.specs.declared.answer.Failure.{Failure}
 use Rattle.teg_report.specs.declared.answer.Which.{Which}

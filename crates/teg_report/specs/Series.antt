@@ -6,7 +6,7 @@ use Rattle.series_form.specs.declared.forms.SeriesRefused.TheVariants.{TooLong, 
 use Rattle.teg_calc.specs.declared.refusals.ParseRefused.{ParseRefused}
 use Rattle.teg_calc.specs.declared.refusals.ParseRefused.TheVariants.{Syntax, TooDeep, OutOfMemory}
 use Rattle.teg_text.specs.Lines.{phrase}
-use Rattle.teg_settle.specs.series_laws.SeriesForms.{Form as SeriesForm}
+use Rattle.series_laws.specs.SeriesForms.{Form as SeriesForm}
 use Rattle.teg_text.specs.WordReading.{word, stands_at, number_in, signed_in, date_of_word}
 use Rattle.std.specs.Int.RustNames.{unsigned_abs}
 use Rattle.teg_text.specs.ValueWords.{IsDate}

@@ -1,7 +1,7 @@
 -- That the text of an answer tells it, and which facts make sure of it.
 use Rattle.std.specs.Prelude.{ℕ, ◌≡◌, List, length, Option, Some, None}
 use Rattle.series_form.specs.NumberBounds.{IsSeries}
-use Rattle.teg_settle.specs.series_laws.SeriesForms.{Form as SeriesForm}
+use Rattle.series_laws.specs.SeriesForms.{Form as SeriesForm}
 use Rattle.teg_net.specs.declared.answers.CycleAnswer.{CycleAnswer}
 use Rattle.teg_net.specs.declared.entries.PlaceId.{PlaceId}
 use Rattle.teg_net.specs.Certificates.{IsCertificate}

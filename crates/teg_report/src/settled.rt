@@ -2,7 +2,7 @@
 //! its outputs.
 ghost use Rattle.std.specs.Prelude.{◌≡◌, ◌++◌, ◌∷◌, ◌<◌, ◌^◌, [], All, IfOk, length, map, string_bytes};
 ghost use Rattle.std.specs.Int.RustNames.{unsigned_abs};
-ghost use Rattle.teg_settle.specs.settled_laws.SettledForms.{row_of, step_of_form};
+ghost use Rattle.settled_forms.specs.settled_laws.SettledForms.{row_of, step_of_form};
 ghost use Rattle.teg_report.specs.AnswerMeanings.{times_from, times_to};
 ghost use Rattle.teg_report.specs.SettledTexts.{AreTimesIn, AreTimesKept, AreTimesToKept, IsSettledKept, from_line, from_lines, output_count, row_words, settled_line, settled_lines, to_line, transfer_lines};
 ghost use Rattle.teg_lines.specs.Widths.{IsWord64};
@@ -12,10 +12,10 @@ ghost use Rattle.teg_text.specs.ValueWords.{IsDate};
 
 use crate::answer::{TransferFrom, TransferLine};
 use dioid::Date;
+use settled_forms::Settled;
 use std::alloc::{AllocError, Global};
 use teg_lines::{LineOf, push_each};
 use teg_net::{Net, OutOfMemory, Role, TransitionId};
-use teg_settle::Settled;
 use teg_text::push_dates;
 
 // Ends a line with dates and the step by which they go on.

@@ -4,7 +4,7 @@ use Rattle.std.specs.Option.{option_map}
 use Rattle.std.specs.List.{before_first, after_first}
 use Rattle.teg_report.specs.date_rows.DateTables.{most_numbers}
 use Rattle.teg_net.specs.Limits.{greatest_firing_number, greatest_target_time, most_target_tokens}
-use Rattle.teg_report.specs.teg_settle.LimitRefusals.{greatest_limit}
+use Rattle.teg_settle.specs.LimitRefusals.{greatest_limit}
 use Rattle.teg_timetable.specs.release_nets.PlannedNets.{greatest_period}
 use Rattle.teg_words.specs.NumberWords.{number_of_word}
 use Rattle.teg_words.specs.CommandLineWords.{Given, given_of}

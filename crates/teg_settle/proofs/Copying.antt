@@ -14,9 +14,9 @@ use Rattle.periodic_laws.proofs.settled_laws_proofs.Shortest.{tail_on}
 use Rattle.periodic_laws.proofs.settled_laws_proofs.Telling.{form_tells}
 use Rattle.date_rows.specs.DateTables.{TableDates, date_at}
 use Rattle.teg_settle.specs.declared.releases.Repetition.{Repetition}
-use Rattle.teg_settle.specs.KeptForms.{IsFormKept}
+use Rattle.settled_forms.specs.KeptForms.{IsFormKept}
 use Rattle.teg_settle.specs.Copies.{AreShownDates}
-use Rattle.teg_settle.specs.Stored.{stored_form}
+use Rattle.settled_forms.specs.Stored.{stored_form}
 use Rattle.teg_settle.specs.ComparedRows.{read_step, IsToldBy}
 
 -- a fact of each element and of one more

@@ -11,7 +11,6 @@ pub mod OwnForms
 pub mod Reaching
 pub mod Transferring
 mod Numbering
-mod Spreading
 mod ReachedPart
 mod PartTold
 pub mod WalkForms

@@ -3,7 +3,8 @@ use Rattle.std.proofs.Common.{ℕ, ◌+◌, ◌<◌, ◌≤◌, ◌≡◌, Bool,
 use Rattle.std.proofs.lemmas.Bool.{cases_lt, false≢true}
 use Rattle.std.proofs.lemmas.List.{get_or_append_left, get_or_default}
 use Rattle.std.proofs.Math.Seq.{get_or-append_seam}
-use Rattle.teg_settle.specs.Reached.{is_marked, IsNumbering}
+use Rattle.settled_forms.specs.Spread.{is_marked}
+use Rattle.teg_settle.specs.Reached.{IsNumbering}
 
 -- a fact of all numbers below one, and of one more
 up_to : (P : ℕ → Type 0) (n : ℕ) → ((u : ℕ) → u < n → P u) → P n → (u : ℕ) → u < n + 1 → P u

@@ -10,7 +10,7 @@ use Rattle.teg_settle.specs.declared.releases.Releases.{Releases}
 use Rattle.teg_settle.specs.Alone.{IsReleasedAlone}
 use Rattle.teg_settle.specs.ComparedRows.{IsLeastForm, LeastSettlesPast}
 use Rattle.teg_settle.specs.Reached.{IsPartFrom}
-use Rattle.teg_settle.specs.Spread.{IsSpreadOut}
+use Rattle.settled_forms.specs.Spread.{IsSpreadOut}
 use Rattle.teg_settle.specs.Transfers.{IsTransferOf, TransferSettlesPast}
 use Rattle.teg_settle.proofs.ReachedPart.{part_is_live, part_input, told_by, told_least, told_shortest, repeats_in_part}
 use Rattle.teg_settle.proofs.Transferring.{alone_here, alone_times, input_within}

@@ -28,10 +28,11 @@ use Rattle.periodic_laws.specs.settled_laws.SettledForms.{SettledForm, settled_l
 use Rattle.teg_settle.specs.declared.releases.Tokens.TheVariants.{Absent}
 use Rattle.teg_settle.specs.Alone.{alone, released_alone}
 use Rattle.teg_settle.specs.InitialReleases.{initial_by}
-use Rattle.teg_settle.specs.Reached.{is_marked, begins_marked, IsReachClosed, AreThose, IsNumbering, ReachLeadsOn, places_from, renumbered}
-use Rattle.teg_settle.specs.Spread.{IsSpreadOut}
+use Rattle.settled_forms.specs.Spread.{is_marked}
+use Rattle.teg_settle.specs.Reached.{begins_marked, IsReachClosed, AreThose, IsNumbering, ReachLeadsOn, places_from, renumbered}
+use Rattle.settled_forms.specs.Spread.{IsSpreadOut}
 use Rattle.teg_settle.proofs.Releasing.{got}
-use Rattle.teg_settle.proofs.Spreading.{spread_sizes}
+use Rattle.settled_forms.proofs.Spreading.{spread_sizes}
 
 filter_short : {X : Type 0} (p : X → Bool) (xs : List X) → length (filter p xs) ≤ length xs
 filter_short p [] = omega arith

@@ -1,5 +1,3 @@
-pub mod KeptForms
-pub mod Stored
 pub mod ShownForms
 pub mod LimitRefusals
 pub mod InitialReleases
@@ -14,7 +12,6 @@ pub mod Transfers
 pub mod Alone
 pub mod Reached
 pub mod Spans
-pub mod Spread
 pub mod LeastDates
 pub mod Steps
 pub mod SlopesOfNets
@@ -31,3 +28,4 @@ pub use Rattle.periodic_laws.specs.teg_model as teg_model
 pub use Rattle.periodic_laws.specs.settled_laws as settled_laws
 pub use Rattle.periodic_laws.specs as periodic_laws
 pub use Rattle.date_rows.specs as date_rows
+pub use Rattle.settled_forms.specs as settled_forms

@@ -1,14 +1,11 @@
 -- Working definitions of the part of a net that the walks from an input reach.
-use Rattle.std.specs.Prelude.{ℕ, Bool, false, ◌<◌, ◌≤◌, ◌≡◌, List, [], length, map, All, IsTrue, slice_index, slice_index_or}
+use Rattle.std.specs.Prelude.{ℕ, Bool, ◌<◌, ◌≤◌, ◌≡◌, List, [], length, map, All, IsTrue, slice_index, slice_index_or}
 use Rattle.std.specs.List.{filter}
 use Rattle.teg_net.specs.declared.entries.Place.{Place}
 use Rattle.teg_net.specs.declared.entries.Transition.{Transition}
 use Rattle.teg_net.specs.Nets.{NetLists}
+use Rattle.settled_forms.specs.Spread.{is_marked}
 use Rattle.teg_settle.specs.declared.reached.Part.{Part}
-
--- whether transition t is marked
-abbrev pub is_marked : List Bool → ℕ → Bool
-is_marked marks t = slice_index_or marks t false
 
 -- whether the place begins at a marked transition
 abbrev pub begins_marked : List Bool → Place → Bool

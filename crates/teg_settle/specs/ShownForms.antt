@@ -5,7 +5,7 @@ use Rattle.dioid.specs.declared.dates.Date.{Date}
 use Rattle.periodic_laws.specs.settled_laws.SettledForms.{SettledForm}
 use Rattle.date_rows.specs.DateTables.{TableDates, date_at}
 use Rattle.teg_settle.specs.declared.releases.Repetition.{Repetition}
-use Rattle.teg_settle.specs.KeptForms.{IsFormKept}
+use Rattle.settled_forms.specs.KeptForms.{IsFormKept}
 
 -- the dates of transition t up to number `count`
 abbrev pub shown_dates : TableDates → ℕ → ℕ → List Date

@@ -9,7 +9,7 @@ ghost use Rattle.teg_settle.specs.Steps.{AreOwnReleases};
 use crate::asked::{Asked, ready_tokens};
 use crate::releases::Releases;
 use crate::search::{Found, MOST_ROWS, grow, seen};
-use crate::settled::Settled;
+use crate::settled::settled_of;
 use crate::shown::SettledDates;
 use date_rows::{PlaceOrder, Rows};
 use periodic_laws::least_datings_repeat;
@@ -61,7 +61,7 @@ pub fn settle(alloc: Global, net: &Net, live: &Live) -> Result<Settled, OutOfMem
 {
     let releases = Releases::of_net(alloc, net)?;
     let found = found(alloc, net, live, &releases)?;
-    Ok(Settled::of_found(alloc, net, &releases, &found)?)
+    Ok(settled_of(alloc, net, &releases, &found)?)
 }
 
 /// The form of [`settle`], for callers that ask for some of its dates: it keeps the rows of the

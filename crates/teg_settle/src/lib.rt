@@ -54,7 +54,6 @@
 #![tactic(auto)]
 
 mod asked;
-mod back;
 mod endless;
 mod laws;
 mod limited;
@@ -78,6 +77,6 @@ pub use limited::{settle_dates_within, settle_within, transfer};
 pub use one_date::{DateOrRows, date_of, date_within};
 pub use refusals::SettleRefusal;
 pub use releases::{Releases, Repetition};
-pub use settled::Settled;
+pub use settled_forms::Settled;
 pub use shown::SettledDates;
 pub use step::{own_releases, shown_form};

@@ -15,9 +15,10 @@ use crate::reached::part_from;
 use crate::refusals::SettleRefusal;
 use crate::releases::Releases;
 use crate::search::{Found, search};
-use crate::settled::Settled;
+use crate::settled::settled_of;
 use crate::shown::SettledDates;
 use date_rows::Rows;
+use settled_forms::Settled;
 use std::alloc::Global;
 use teg_check::{Live, ranks_of};
 use teg_net::{Net, OutOfMemory, TransitionId};
@@ -80,7 +81,7 @@ pub fn settle_within(
         most,
     };
     let found = found_within(alloc, &asked, limit)?;
-    Ok(Settled::of_found(alloc, net, &releases, &found)?)
+    Ok(settled_of(alloc, net, &releases, &found)?)
 }
 
 /// The form of [`settle_within`], for callers that ask for some of its dates: it keeps the rows of
@@ -146,6 +147,6 @@ pub fn transfer(
         most,
     };
     let found = found_within(alloc, &asked, limit)?;
-    let form = Settled::of_found(alloc, &part.net, &releases, &found)?;
+    let form = settled_of(alloc, &part.net, &releases, &found)?;
     Ok(form.spread(alloc, &part.marks, &part.new)?)
 }

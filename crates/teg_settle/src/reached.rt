@@ -3,8 +3,10 @@
 ghost use Rattle.std.specs.Prelude.{◌≡◌, ◌<◌, ◌≤◌, length, All, IfOk, IsTrue};
 ghost use Rattle.teg_net.specs.Limits.{most_transitions};
 ghost use Rattle.teg_net.specs.Nets.{IsInput, IsNet};
-ghost use Rattle.teg_settle.specs.Reached.{IsReachClosed, AreThose, IsNumbering, IsPartFrom, begins_marked, is_marked, places_from, renumbered};
+ghost use Rattle.settled_forms.specs.Spread.{is_marked};
+ghost use Rattle.teg_settle.specs.Reached.{IsReachClosed, AreThose, IsNumbering, IsPartFrom, begins_marked, places_from, renumbered};
 
+use settled_forms::is_marked;
 use std::alloc::{AllocError, Global};
 use teg_net::{DateList, Name, Net, OutOfMemory, Place, Transition, TransitionId};
 
@@ -21,18 +23,6 @@ pub(crate) struct Part {
 struct Numbers {
     old: Vec<u32>,
     new: Vec<u32>,
-}
-
-// Whether the transition is marked.
-pub(crate) fn is_marked(marks: &[bool], transition: TransitionId) -> bool
-    ensures { result ≡ is_marked marks.now transition.index }
-{
-    let index = transition.index as usize;
-    if index < marks.len() {
-        marks[index]
-    } else {
-        false
-    }
 }
 
 // Marks where the places lead that begin at marked transitions, in one pass.

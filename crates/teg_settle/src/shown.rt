@@ -2,16 +2,16 @@
 ghost use Rattle.std.specs.Prelude.{◌≡◌, ◌<◌, ◌≤◌, ◌+◌, IfOk, length};
 ghost use Rattle.teg_net.specs.Limits.{greatest_firing_number};
 ghost use Rattle.periodic_laws.specs.settled_laws.SettledForms.{settled_date, row_date, settled_length, step_of_form};
-ghost use Rattle.teg_settle.specs.KeptForms.{IsFormKept};
+ghost use Rattle.settled_forms.specs.KeptForms.{IsFormKept};
 ghost use Rattle.teg_settle.specs.ComparedRows.{IsLeastForm};
 ghost use Rattle.teg_settle.specs.ShortestForms.{IsFound};
 
-use crate::back::{back_from, moved};
 use crate::releases::{Releases, Repetition};
 use crate::search::Found;
 use crate::window::steps_of;
 use date_rows::Rows;
 use dioid::Date;
+use settled_forms::{back_from, moved};
 use std::alloc::{AllocError, Global};
 use std::marker::Model;
 use teg_net::{Net, TransitionId};

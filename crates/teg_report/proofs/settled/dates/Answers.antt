@@ -1,7 +1,7 @@
 use Rattle.std.proofs.Common.{rules, ◌≡◌, ◌<◌, ◌^◌, [], ◌++◌, List, All, ℕ, length, map, unsigned_abs, pos, refl, subst, ap, sym, ◌∙◌, string_bytes, arith}
 use Rattle.std.proofs.lemmas.List.{get_or_default}
 use Rattle.std.specs.List.{range_with_len}
-use Rattle.teg_settle.specs.settled_laws.SettledForms.{row_of, step_of_form}
+use Rattle.settled_forms.specs.settled_laws.SettledForms.{row_of, step_of_form}
 use Rattle.teg_report.specs.SettledTexts.{settled_line}
 use Rattle.teg_text.specs.Lines.{line_then, written}
 use Rattle.teg_text.specs.WordsOfNames.{settled_words}

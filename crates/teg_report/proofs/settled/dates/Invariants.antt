@@ -1,6 +1,6 @@
 use Rattle.std.proofs.Common.{ℕ, ◌<◌, ◌^◌, ◌≡◌, ◌++◌, [], All, unsigned_abs, string_bytes}
 use Rattle.std.specs.List.{flat_map, range_with_len}
-use Rattle.teg_settle.specs.settled_laws.SettledForms.{row_of, step_of_form}
+use Rattle.settled_forms.specs.settled_laws.SettledForms.{row_of, step_of_form}
 use Rattle.teg_report.specs.SettledTexts.{settled_line}
 use Rattle.teg_text.specs.Lines.{line_then}
 use Rattle.teg_text.specs.ValueWords.{IsDate}

@@ -1,6 +1,6 @@
 use Rattle.std.proofs.Common.{rules, ◌≡◌, [], ◌++◌, List, ℕ, ℤ, codes, ap, ap₂, ◌∙◌, append_assoc, string_bytes}
 use Rattle.dioid.specs.declared.dates.Date.{Date}
-use Rattle.teg_settle.specs.settled_laws.SettledForms.{row_of, step_of_form}
+use Rattle.settled_forms.specs.settled_laws.SettledForms.{row_of, step_of_form}
 use Rattle.teg_report.specs.SettledTexts.{row_words}
 use Rattle.teg_text.specs.Lines.{further_then}
 use Rattle.teg_text.specs.WordsOfNames.{name_of_transition}

@@ -8,9 +8,9 @@ returns-in_err-found-clause-too_long c =
     rw (why.1, why.2) (own_refusal c.args.net.now c.in_ok-releases.releases c.in_ok-releases.ensures c.args.limit _ c.in_err-found.ensures.too_long)
 
 pub returns-clause-form : goal.returns-clause-form
-returns-clause-form c = own_form c.args.net.now c.in_ok-releases.releases c.in_ok-releases.ensures _ c.in_ok-of_found.ensures.form
+returns-clause-form c = own_form c.args.net.now c.in_ok-releases.releases c.in_ok-releases.ensures _ c.in_ok-settled_of.ensures.form
 
 pub returns-clause-slopes : goal.returns-clause-slopes
 returns-clause-slopes c =
     own_slopes c.args.net.now c.in_ok-releases.releases c.in_ok-releases.ensures c.args.live.now c.in_ok-found.ensures.found.ready.1.is_net c.requires.stands _
-    c.in_ok-of_found.ensures.form
+    c.in_ok-settled_of.ensures.form

@@ -1,7 +1,8 @@
 use Rattle.std.proofs.Common.{◌<◌, ◌≤◌, ◌≡◌, All, IsTrue, sym, ◌∙◌, arith, ⊎_elim}
 use Rattle.std.proofs.lemmas.Bool.{cases_lt}
 use Rattle.std.proofs.lemmas.List.{get_or_read}
-use Rattle.teg_settle.specs.Reached.{begins_marked, is_marked}
+use Rattle.settled_forms.specs.Spread.{is_marked}
+use Rattle.teg_settle.specs.Reached.{begins_marked}
 use Rattle.teg_settle.proofs.reached.are_closed.Goals as goal
 
 pub loop-place-preserved : goal.loop-place-preserved

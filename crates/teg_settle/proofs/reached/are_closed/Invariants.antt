@@ -1,6 +1,7 @@
 use Rattle.std.proofs.Common.{ℕ, ◌<◌, IsTrue, length, get_or}
 use Rattle.teg_net.specs.declared.entries.Place.{Place}
-use Rattle.teg_settle.specs.Reached.{begins_marked, is_marked}
+use Rattle.settled_forms.specs.Spread.{is_marked}
+use Rattle.teg_settle.specs.Reached.{begins_marked}
 use Rattle.teg_settle.proofs.reached.are_closed.Given as goal
 
 abbrev pub invariant-loop-place : goal.invariant-loop-place

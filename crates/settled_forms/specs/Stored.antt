@@ -1,8 +1,8 @@
 -- Settled forms in memory, of which several transitions may share a row and a step.
 use Rattle.std.specs.Prelude.{ℕ, ℤ, pos, ◌<◌, ◌≡◌, List, [], All, length, map, slice_index_or}
 use Rattle.dioid.specs.declared.dates.Date.{Date}
-use Rattle.periodic_laws.specs.settled_laws.SettledForms.{SettledForm}
-use Rattle.teg_settle.specs.KeptForms.{IsFormKept}
+use Rattle.settled_laws.specs.SettledForms.{SettledForm}
+use Rattle.settled_forms.specs.KeptForms.{IsFormKept}
 
 -- the form with this number and this period in which each transition has the row and the step of the number that is its own
 abbrev pub stored_form : ℕ → ℕ → List (List Date) → List ℤ → List ℕ → SettledForm

@@ -10,12 +10,11 @@ use Rattle.dioid.specs.declared.dates.Date.{Date}
 use Rattle.dioid.specs.declared.dates.Date.TheVariants.{Early}
 use Rattle.dioid.specs.Dates.{move}
 use Rattle.teg_net.specs.Limits.{most_transitions}
-use Rattle.periodic_laws.specs.teg_model.DateBounds.{IsDateWithin, greatest_least_date}
-use Rattle.periodic_laws.specs.settled_laws.SettledForms.{SettledForm, settled_length, row_of, row_date, step_of_form, periods_past, settled_date, HasSizes}
-use Rattle.teg_settle.specs.Stored.{IsStored, stored_form}
-use Rattle.teg_settle.specs.KeptForms.{IsFormKept}
-use Rattle.teg_settle.specs.Reached.{is_marked}
-use Rattle.teg_settle.specs.Spread.{IsSpreadOut}
+use Rattle.settled_laws.specs.teg_model.DateBounds.{IsDateWithin, greatest_least_date}
+use Rattle.settled_laws.specs.SettledForms.{SettledForm, settled_length, row_of, row_date, step_of_form, periods_past, settled_date, HasSizes}
+use Rattle.settled_forms.specs.Stored.{IsStored, stored_form}
+use Rattle.settled_forms.specs.KeptForms.{IsFormKept}
+use Rattle.settled_forms.specs.Spread.{is_marked, IsSpreadOut}
 
 all_early : (n i : ℕ) → get_or (replicate n Early) i Early ≡ Early
 all_early n i =

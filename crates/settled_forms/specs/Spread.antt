@@ -1,8 +1,11 @@
--- Working definitions of a settled form of a part of a net, told of the whole net.
-use Rattle.std.specs.Prelude.{ℕ, pos, Bool, ◌<◌, ◌≡◌, if◌then◌else◌, List, length, replicate, slice_index}
+-- A settled form of a part of a net, told of the whole net.
+use Rattle.std.specs.Prelude.{ℕ, pos, Bool, false, ◌<◌, ◌≡◌, if◌then◌else◌, List, length, replicate, slice_index, slice_index_or}
 use Rattle.dioid.specs.declared.dates.Date.TheVariants.{Early}
-use Rattle.periodic_laws.specs.settled_laws.SettledForms.{SettledForm, settled_length, row_of, step_of_form}
-use Rattle.teg_settle.specs.Reached.{is_marked}
+use Rattle.settled_laws.specs.SettledForms.{SettledForm, settled_length, row_of, step_of_form}
+
+-- whether transition t is marked
+abbrev pub is_marked : List Bool → ℕ → Bool
+is_marked marks t = slice_index_or marks t false
 
 -- each marked transition has the row and the step of its new number, and each other one has no dates
 pub record IsSpreadOut (marks : List Bool) (new : List ℕ) (f g : SettledForm) : Type 0 where

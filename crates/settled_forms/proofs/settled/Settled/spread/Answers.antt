@@ -1,7 +1,7 @@
 use Rattle.std.proofs.Common.{◌≡◌, ◌+◌, length, replicate, rules}
 use Rattle.dioid.specs.declared.dates.Date.TheVariants.{Early}
-use Rattle.teg_settle.proofs.Spreading.{spread_stored}
-use Rattle.teg_settle.proofs.settled.Settled.spread.Goals as goal
+use Rattle.settled_forms.proofs.Spreading.{spread_stored}
+use Rattle.settled_forms.proofs.settled.Settled.spread.Goals as goal
 
 pub invariant_of-settled : goal.invariant_of-settled
 invariant_of-settled c =

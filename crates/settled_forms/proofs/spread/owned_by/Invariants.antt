@@ -1,6 +1,6 @@
 use Rattle.std.proofs.Common.{ℕ, ◌≡◌, ◌<◌, cond, length, get_or}
-use Rattle.teg_settle.specs.Reached.{is_marked}
-use Rattle.teg_settle.proofs.settled.owned_by.Given as goal
+use Rattle.settled_forms.specs.Spread.{is_marked}
+use Rattle.settled_forms.proofs.spread.owned_by.Given as goal
 
 abbrev pub invariant-loop-index : goal.invariant-loop-index
 invariant-loop-index l = record {

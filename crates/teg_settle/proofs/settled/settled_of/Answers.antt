@@ -2,7 +2,7 @@ use Rattle.std.proofs.Common.{arith}
 use Rattle.std.proofs.lemmas.List.{length-map}
 use Rattle.teg_settle.proofs.Copying.{copied, copy_kept, own_in}
 use Rattle.teg_settle.proofs.Limiting.{found_told, found_form}
-use Rattle.teg_settle.proofs.settled.Settled.of_found.Goals as goal
+use Rattle.teg_settle.proofs.settled.settled_of.Goals as goal
 
 pub table_of-requires : goal.table_of-requires
 table_of-requires c =
@@ -12,8 +12,8 @@ table_of-requires c =
 pub steps_of-requires : goal.steps_of-requires
 steps_of-requires c = record { window = (found_told c.args.net.now c.args._releases.now c.args.found.now c.requires.found).1.window }
 
-pub invariant_of-result : goal.invariant_of-result
-invariant_of-result c =
+pub stored-requires : goal.stored-requires
+stored-requires c =
     let net = c.args.net.now in
     let f = c.args.found.now in
     let told = found_told net c.args._releases.now f c.requires.found in
