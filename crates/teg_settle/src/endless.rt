@@ -13,6 +13,7 @@ use crate::settled::settled_of;
 use crate::shown::SettledDates;
 use date_rows::{PlaceOrder, Rows};
 use periodic_laws::least_datings_repeat;
+use settled_forms::Settled;
 use std::alloc::Global;
 use teg_check::Live;
 use teg_net::{Net, OutOfMemory};
