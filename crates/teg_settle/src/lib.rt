@@ -14,11 +14,11 @@
 //!
 //! Rows of dates are made until they show a form: in its last period no step falls along a place,
 //! the dates before move alike, and so do the releases of the inputs. The crate stands on
-//! `date_rows` for rows, on `periodic_laws` for that there is a settled form, on `slope_laws` for
-//! its slopes, on `settled_laws` for what settled forms are and what rows tell, on `teg_check` for
-//! ranks, on `teg_model` for datings, on `teg_net` for nets, on `dioid` for dates, and on
-//! `thiserror`. Its examples stand in `library_examples`, in `chapters_plans.rt`, and in
-//! `date_examples`, in `one_dates.rt` and `own_rows.rt`.
+//! `settled_forms` for the form in memory, on `date_rows` for rows, on `periodic_laws` for that
+//! there is a settled form, on `slope_laws` for its slopes, on `settled_laws` for what settled forms
+//! are and what rows tell, on `teg_check` for ranks, on `teg_model` for datings, on `teg_net` for
+//! nets, on `dioid` for dates, and on `thiserror`. Its examples stand in `library_examples`, in
+//! `chapters_plans.rt`, and in `date_examples`, in `one_dates.rt` and `own_rows.rt`.
 //!
 //! ## How it works
 //!
