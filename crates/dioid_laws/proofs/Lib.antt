@@ -8,3 +8,5 @@ pub mod Squares
 pub mod StarFacts
 pub mod StarResidualFacts
 pub mod Totals
+pub mod TurnedSquares
+pub mod Turnings

@@ -5,6 +5,7 @@ ghost use Rattle.dioid_laws.specs.Commuting.{ProductsCommute};
 ghost use Rattle.dioid_laws.specs.DioidOrder.{IsOrderOfSums};
 ghost use Rattle.dioid_laws.specs.Feedback.{EquationsAreSolvedByResiduals, FeedbackLaws};
 ghost use Rattle.dioid_laws.specs.ResidualIdentities.{ResidualIdentities};
+ghost use Rattle.dioid_laws.specs.RightHand.{RightResidualLaws, RightStarLaws, square_right};
 ghost use Rattle.dioid_laws.specs.SquareMatrices.{SquaresAreDioid, SquaresHaveResiduals, SquaresHaveStars, square_dioid, square_residuals, square_stars};
 ghost use Rattle.dioid_laws.specs.StarIdentities.{StarIdentities};
 ghost use Rattle.dioid_laws.specs.StarResiduals.{StarResiduals};
@@ -23,7 +24,8 @@ pub fn sums_are_ordered<D: Dioid>()
 /// `(a + b)* = a* (b a*)*` (chapter 4).
 ///
 /// They follow from one side: that `a* b` is the least `x` with `a x + b` at most `x`. That `b a*`
-/// is the least `x` with `x a + b` at most `x` does not follow, and is not claimed.
+/// is the least `x` with `x a + b` at most `x` does not follow of every dioid; where products
+/// commute it does, of matrices too, by `stars_act_on_the_right`.
 pub fn stars_are_lawful<D: Kleene>()
     ensures { StarIdentities D.Dioid D.Kleene.own }
 {}
@@ -93,4 +95,27 @@ pub fn equations_are_solved_by_residuals<D: Residuated>()
     ensures elements { EquationsAreSolvedByResiduals D.Dioid D.Residuated.own }
     ensures squares { (n : ℕ) → EquationsAreSolvedByResiduals (square_dioid D.Dioid n)
         (square_residuals D.Dioid D.Residuated.own n) }
+{}
+
+/// Stars on the right, of elements and of square matrices, where the products of the elements
+/// commute, though those of the matrices do not: `b a*` is the least `x` with `x a + b` at most `x`,
+/// and `a a*` is `a* a` (chapter 4). Of dates, `a* b` has the greatest weights of walks that end by
+/// `b`, and `b a*` those of walks that begin by it.
+///
+/// It follows from the left by changing rows and columns about, which changes the factors of a
+/// product about.
+pub fn stars_act_on_the_right<D: Kleene>()
+    ensures elements { ProductsCommute D.Dioid → RightStarLaws D.Dioid D.Kleene.own }
+    ensures squares { ProductsCommute D.Dioid → (n : ℕ) → RightStarLaws (square_dioid D.Dioid n)
+        (square_stars D.Dioid D.Kleene.own n) }
+{}
+
+/// Residuals on the right, where the products of the elements commute: of square matrices `b/a` is
+/// the greatest `x` with `x a` at most `b`, `b/(a c)` is `(b/c)/a`, and `(a\b)/c` is `a\(b/c)`; of
+/// elements `b/a` is `a\b` (chapter 4). It is the residual of the matrices with rows and columns
+/// changed about, as `right_residual` of `matrix_values` answers it.
+pub fn residuals_divide_on_the_right<D: Residuated>()
+    ensures elements { ProductsCommute D.Dioid → RightResidualLaws D.Dioid D.Residuated.own D.Residuated.own.left }
+    ensures squares { ProductsCommute D.Dioid → (n : ℕ) → RightResidualLaws (square_dioid D.Dioid n)
+        (square_residuals D.Dioid D.Residuated.own n) (square_right D.Dioid D.Residuated.own n) }
 {}
