@@ -73,7 +73,7 @@ pub round_of : (net : NetLists) (part_of : List ℕ) (part a b : ℕ) (v : ℕ �
 round_of net part_of part a b v h t f = record { not_empty = f.critical.circuit.not_empty; closed = f.round; inside = f.critical.inside; attains = f.critical.attains }
 
 -- no path in the part lifts its end above the potential there
-no_path_above : (net : NetLists) (part_of : List ℕ) (part a b : ℕ) (v : ℕ → ℤ) → AreTightPotentials net part_of part a b v
+pub no_path_above : (net : NetLists) (part_of : List ℕ) (part a b : ℕ) (v : ℕ → ℤ) → AreTightPotentials net part_of part a b v
     → (ps : List PlaceId) (s t : ℕ) → IsPathBetween net s ps t → All (IsPlaceOfPart net part_of part) ps → (reduced_time_of net a b ps +ℤ v s) ≤ℤ v t
 no_path_above net part_of part a b v h ps s t path inside = above_along net a b v ps s t (λ i d l. h.none_above (get_or ps i d) (inside i d l)) path
 
@@ -100,7 +100,7 @@ spanned net part_of part a b v h t m =
 
 module _ (net : NetLists) (part_of : List ℕ) (part a b s t : ℕ) (l : AreInOneCriticalPart net part_of part a b s t) where
   -- there and back no reduced time is left
-  nought : (reduced_time_of net a b l.there +ℤ reduced_time_of net a b l.back) ≡ pos 0
+  pub nought : (reduced_time_of net a b l.there +ℤ reduced_time_of net a b l.back) ≡ pos 0
   nought =
       let w = weight_is net a b (l.there ++ l.back) in
       let sum = weight-append net a b l.there l.back in
@@ -114,7 +114,7 @@ module _ (net : NetLists) (part_of : List ℕ) (part a b s t : ℕ) (l : AreInOn
   inside_back = all_right (IsPlaceOfPart net part_of part) l.there l.back l.round.inside
 
   -- tight potentials rise by what the way there has
-  rises : (v : ℕ → ℤ) → AreTightPotentials net part_of part a b v → v t ≡ (reduced_time_of net a b l.there +ℤ v s)
+  pub rises : (v : ℕ → ℤ) → AreTightPotentials net part_of part a b v → v t ≡ (reduced_time_of net a b l.there +ℤ v s)
   rises v h =
       let up = no_path_above net part_of part a b v h l.there s t l.to inside_there in
       let down = no_path_above net part_of part a b v h l.back t s l.from inside_back in

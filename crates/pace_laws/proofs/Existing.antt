@@ -110,6 +110,12 @@ begun_from net part_of part ends strong r s m g = (
   λ t i. (sum_or net part_of part ends strong r.time r.tokens s m (none_gains net part_of part r g) t).1 i,
 )
 
+-- what begins a path in the part that is not empty is a member
+pub first_member : (net : NetLists) (part_of : List ℕ) (part : ℕ) (ps : List PlaceId) (s t : ℕ) → 0 < length ps → IsPathBetween net s ps t
+    → All (IsPlaceOfPart net part_of part) ps → IsMember part_of part s
+first_member net part_of part [] s t l path all = absurd (omega arith)
+first_member net part_of part (p ∷ ps) s t l path all = subst (λ (z : ℕ). IsMember part_of part z) path.1 (all 0 p (omega arith)).from_member
+
 pub exist : TightPotentialsExist
 exist net part_of part r ends strong g =
     let c : List PlaceId = g.attained.0 in
@@ -118,12 +124,9 @@ exist net part_of part r ends strong g =
     let a : ℕ = r.time in
     let b : ℕ = r.tokens in
     let s : ℕ = round.closed.0 in
-    exist_from net part_of part ends strong a b s (first_member c s s round.not_empty round.closed.1 inside)
+    exist_from net part_of part ends strong a b s (first_member net part_of part c s s round.not_empty round.closed.1 inside)
     (none_gains net part_of part r g)
-    c round.not_empty round.closed.1 inside g.attained.3 where
-      first_member : (ps : List PlaceId) (s t : ℕ) → 0 < length ps → IsPathBetween net s ps t → All (IsPlaceOfPart net part_of part) ps → IsMember part_of part s
-      first_member [] s t l path all = absurd (omega arith)
-      first_member (p ∷ ps) s t l path all = subst (λ (z : ℕ). IsMember part_of part z) path.1 (all 0 p (omega arith)).from_member
+    c round.not_empty round.closed.1 inside g.attained.3
 
 pub just_at : TightJustAtTheRatio
 just_at net part_of part t a b ends live strong m some = (λ w. tell_the_ratio net part_of part t a b w.0 live m some w.1, λ g. exist net part_of part (record { time = a; tokens = b }) ends strong g)

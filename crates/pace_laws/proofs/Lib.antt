@@ -6,4 +6,5 @@ pub mod Tight
 pub mod Existing
 pub mod Searching
 pub mod Ratios
+pub mod Bases
 pub mod Eigenspace

@@ -1,5 +1,5 @@
 -- All tight potentials of a part, its eigenspace: those that begin at critical transitions span it (chapter 3).
-use Rattle.std.specs.Prelude.{ℕ, ℤ, ◌*◌, ◌<◌, ◌≡◌, ◌⊎◌, ◌+ℤ◌, ◌≤ℤ◌, List, ◌++◌, length, All}
+use Rattle.std.specs.Prelude.{ℕ, ℤ, ◌*◌, ◌<◌, ◌≡◌, ◌↔◌, ◌⊎◌, ◌+ℤ◌, ◌≤ℤ◌, List, ◌++◌, length, All, Contains}
 use Rattle.teg_net.specs.declared.entries.PlaceId.{PlaceId}
 use Rattle.teg_net.specs.Nets.{NetLists}
 use Rattle.teg_net.specs.Ratios.{Fraction}
@@ -94,3 +94,25 @@ OneCriticalPartTellsAll =
     (net : NetLists) (part_of : List ℕ) (part a b m : ℕ) (v w : ℕ → ℤ) → IsMember part_of part m
     → ((s t : ℕ) → IsCriticalTransition net part_of part a b s → IsCriticalTransition net part_of part a b t → AreInOneCriticalPart net part_of part a b s t)
     → AreTightPotentials net part_of part a b v → AreTightPotentials net part_of part a b w → (n : ℤ) × ((t : ℕ) → IsMember part_of part t → v t ≡ (w t +ℤ n))
+
+-- the potentials are the greatest of those that begin at these transitions, each moved by the number of where it begins: none of
+-- these comes above, and each member has one that it meets
+pub record AreGreatestFrom (net : NetLists) (part_of : List ℕ) (part a b : ℕ) (starts : List ℕ) (moved : ℕ → ℤ) (v : ℕ → ℤ) : Type 0 where
+  pub none_above : (s t : ℕ) (z : ℤ) → Contains starts s → IsGreatestPathTime net part_of part a b s t z → (z +ℤ moved s) ≤ℤ v t
+  pub met : (t : ℕ) → IsMember part_of part t → (s : ℕ) × Contains starts s × (z : ℤ) × IsGreatestPathTime net part_of part a b s t z × (v t ≡ (z +ℤ moved s))
+
+-- those that begin at a critical transition are the greatest of others, moved in any way, only where one of these begins in its
+-- critical part: none can be left out
+abbrev pub NoneCanBeLeftOut : Type 0
+NoneCanBeLeftOut =
+    (net : NetLists) (part_of : List ℕ) (part a b s : ℕ) (starts : List ℕ) (moved v : ℕ → ℤ) → IsCriticalTransition net part_of part a b s
+    → AreBegunAt net part_of part a b s v → AreGreatestFrom net part_of part a b starts moved v
+    → (u : ℕ) × Contains starts u × AreInOneCriticalPart net part_of part a b s u
+
+-- so transitions span all tight potentials of a strong part just where each critical part has one of them
+abbrev pub OneOfEachPartSpans : Type 0
+OneOfEachPartSpans =
+    (net : NetLists) (part_of : List ℕ) (part : ℕ) (r : Fraction) (starts : List ℕ) → EndsBelow net (length net.transitions) → AreStrong net part_of
+    → IsGreatestRatio net (IsPlaceOfPart net part_of part) r
+    → ((v : ℕ → ℤ) → AreTightPotentials net part_of part r.time r.tokens v → (moved : ℕ → ℤ) × AreGreatestFrom net part_of part r.time r.tokens starts moved v)
+    ↔ ((s : ℕ) → IsCriticalTransition net part_of part r.time r.tokens s → (u : ℕ) × Contains starts u × AreInOneCriticalPart net part_of part r.time r.tokens s u)

@@ -1,6 +1,6 @@
 //! The laws of the pace. Each is a function that does nothing when it runs: its contract is the
 //! law.
-ghost use Rattle.pace_laws.specs.Eigenspaces.{BegunPotentialsAreTight, BegunPotentialsExist, CriticalPartsMoveAsOne, GreaterPotentialsAreTight, MovedPotentialsAreTight, OneBeginsForEachPart, OneCriticalPartTellsAll, PotentialsAreSpanned};
+ghost use Rattle.pace_laws.specs.Eigenspaces.{BegunPotentialsAreTight, BegunPotentialsExist, CriticalPartsMoveAsOne, GreaterPotentialsAreTight, MovedPotentialsAreTight, NoneCanBeLeftOut, OneBeginsForEachPart, OneCriticalPartTellsAll, OneOfEachPartSpans, PotentialsAreSpanned};
 ghost use Rattle.pace_laws.specs.RatiosExist.{NetsHaveRatios, PartsHaveRatios, StrongPartsHaveAPace};
 ghost use Rattle.pace_laws.specs.SlowerNets.{LiveBySlower, SlowerNetsHaveMore, SlowerPartsHaveMore};
 ghost use Rattle.pace_laws.specs.TightPotentials.{BestPotentialsAreTight, CriticalPlacesAreTight, CriticalTransitionsTell, TightJustAtTheRatio, TightPotentialsArePaced, TightPotentialsExist, TightPotentialsTellTheRatio, TightRatiosAreOne};
@@ -85,4 +85,17 @@ pub fn critical_parts_tell_potentials()
     ensures as_one { CriticalPartsMoveAsOne }
     ensures begun { OneBeginsForEachPart }
     ensures one { OneCriticalPartTellsAll }
+{}
+
+/// The eigenspace has a basis: potentials that begin at a critical transition are not the greatest
+/// of others, however these are moved, that begin outside of its critical part (`left_out`). So
+/// transitions span all tight potentials of a strong part just where each critical part has one of
+/// them (`each`), and the least number that does is that of the critical parts (chapter 3).
+///
+/// Two transitions with a place from each to itself that holds for 1, and from each to the other
+/// that holds for 0, all of one token, have two critical parts at the ratio 1: 0, -1 begins at the
+/// first, -1, 0 at the second, and neither is the other moved.
+pub fn critical_parts_are_a_basis()
+    ensures left_out { NoneCanBeLeftOut }
+    ensures each { OneOfEachPartSpans }
 {}
