@@ -1,4 +1,5 @@
 pub mod Comparing
+pub mod FillingUp
 pub mod Gathering
 pub mod Living
 pub mod Numbering

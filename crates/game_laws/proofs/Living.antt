@@ -110,7 +110,7 @@ past_given dates (Some a) k some e =
     (λ (q : nat_le k (length dates) ≡ false). let at = rw q at e in cc)
     (cases_Bool (nat_le k (length dates)))
 
-found_given : (test : InputList → Bool) (ls : List InputList) (k : ℕ) → All (λ l. l.again ≢ None) ls → date_by_list (find test ls) k ≢ None
+pub found_given : (test : InputList → Bool) (ls : List InputList) (k : ℕ) → All (λ l. l.again ≢ None) ls → date_by_list (find test ls) k ≢ None
 found_given test [] k on e = cc
 found_given test (l ∷ ls) k on e =
     ⊎_elim
@@ -121,7 +121,7 @@ found_given test (l ∷ ls) k on e =
 given : (net : NetLists) (t k : ℕ) → NoInputListEnds net → input_date net t k ≢ None
 given net t k on e = found_given (λ l. eqb l.transition.index t) net.inputs k on e
 
-delayed_never : (n : ℕ) (d : Date) → delayed n d ≡ Never → d ≡ Never
+pub delayed_never : (n : ℕ) (d : Date) → delayed n d ≡ Never → d ≡ Never
 delayed_never n Early e = absurd (at_most_is Never Early (sym e))
 delayed_never n (At z) e = absurd (at_most_is Never (delayed n (At z)) (sym e))
 delayed_never n Never e = e
@@ -131,7 +131,7 @@ never_given None e = refl
 never_given (Some d) e = absurd (at_most_is Never (At (pos d)) (sym e))
 
 -- a start that is never is the release of an input
-never_start : (net : NetLists) (a s : ℕ) → start_of_firing net (listed_releases net) a s ≡ Never → input_date net a s ≡ None
+pub never_start : (net : NetLists) (a s : ℕ) → start_of_firing net (listed_releases net) a s ≡ Never → input_date net a s ≡ None
 never_start net a s start =
     let ready : Date = At (pos (start_date net a s)) in
     let release : Date = at_input net a (listed_releases net a s) Early in

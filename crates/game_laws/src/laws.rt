@@ -4,7 +4,7 @@ ghost use Rattle.game_laws.specs.DatesByTheGame.{LeastDatesAreEarliest, NeverIsI
 ghost use Rattle.game_laws.specs.EarliestRunsExist.{EachRankHasAnEarliestRun, EarliestRunsAreAlike, EarliestRunsAreFirst, EarliestRunsAreOne, EarliestRunsAreWhole, EarliestRunsExist};
 ghost use Rattle.game_laws.specs.FiringOutcomes.{EarliestDatesExist, FiringsAreLegalOrFail};
 ghost use Rattle.game_laws.specs.LiveByTheGame.{FiringEachShowsLife, LiveNetsFireOn, TokenFreeCircuitsNeverFire};
-ghost use Rattle.game_laws.specs.TokensOnCircuits.{PlacesHoldWithinCircuits, TokensOnCircuitsStay};
+ghost use Rattle.game_laws.specs.TokensOnCircuits.{PlacesFillUp, PlacesHoldWithinCircuits, TokensOnCircuitsStay};
 
 /// Each firing of a transition of the net may follow a run, or fails in one of the three ways, so
 /// that nothing else keeps one back: a token that is not there, a date that goes back, a release
@@ -30,6 +30,15 @@ pub fn tokens_on_circuits_stay()
 /// hold any number.
 pub fn places_hold_within_circuits()
     ensures { PlacesHoldWithinCircuits }
+{}
+
+/// Places fill up: in a live net of which no input list ends some legal run fills a place with the
+/// fewest tokens of a circuit through it, and one on no circuit with any number (chapter 2). So with
+/// `places_hold_within_circuits` that number is just the room that its buffer needs: where what
+/// takes from the place stands still, what fills it goes on until the loop is full. An input whose
+/// list ends may leave it empty.
+pub fn places_fill_up()
+    ensures { PlacesFillUp }
 {}
 
 /// No legal run has a firing of a transition on a circuit without tokens; so a net is live if some
