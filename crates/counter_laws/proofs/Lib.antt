@@ -1,3 +1,5 @@
+pub mod Lowered
 pub mod Solving
+pub mod Greatest
 pub mod Counting
 pub mod CountedRuns

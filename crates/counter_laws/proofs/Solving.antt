@@ -1,5 +1,5 @@
--- The counters of a least dating are the greatest counts within the tokens and the releases.
-use Rattle.std.proofs.Common.{ℕ, zero, suc, ◌+◌, ◌-◌, ◌*◌, ◌<◌, ◌≤◌, ◌≡◌, Option, Some, None, true, false, length, get_or, refl, ap, arith, ⊎_elim}
+-- The counters of a least dating are the least of the tokens and the releases.
+use Rattle.std.proofs.Common.{ℕ, zero, suc, ◌+◌, ◌-◌, ◌<◌, ◌≤◌, ◌≡◌, Option, Some, None, true, false, length, get_or, refl, arith, ⊎_elim}
 use Rattle.std.specs.Prelude.{pos, negsuc, nat_le, All}
 use Rattle.std.proofs.lemmas.Bool.{cases_lt, cases_Bool}
 use Rattle.std.proofs.lemmas.Bool.Decides.{nat_tests}
@@ -15,22 +15,20 @@ use Rattle.teg_model.specs.teg_net.Circuits.{no_place}
 use Rattle.teg_model.specs.teg_net.ReadyDates.{ready_date}
 use Rattle.teg_model.specs.Datings.{implicit_place, available_at, initial_date}
 use Rattle.teg_model.specs.LeastDatings.{IsTight}
-use Rattle.teg_model.specs.LiveRanks.{AreRanks}
 use Rattle.teg_model.proofs.DateFunctions.{Dating}
-use Rattle.teg_model.proofs.LeastOver.{falls}
-use Rattle.teg_model.proofs.LiveRanks.{live_is_ranked}
-use Rattle.teg_model.proofs.OfNet.{all_extended_in, tight_of_least}
+use Rattle.teg_model.proofs.OfNet.{all_extended_in}
 use Rattle.teg_model.proofs.Tokens.{available_after, available_first, implicit_after, place_keeps, not_before_zero}
-use Rattle.counter_laws.specs.Counters.{IsUpTo, and_more, tokens_by, AreReadyBy, IsUpToLeast, AreWithinLeast}
+use Rattle.counter_laws.specs.Counters.{IsUpTo, and_more, tokens_by, AreReadyBy, IsUpToLeast}
+use Rattle.counter_laws.proofs.Lowered.{wait_for_no_more}
 use Rattle.dating_laws.proofs.SlowerNets.{climb}
-use Rattle.counter_laws.specs.CounterEquations.{AreCounted, CountersAreLeastOfTokens, CountersAreGreatest}
+use Rattle.counter_laws.specs.CounterEquations.{AreCounted, CountersAreLeastOfTokens}
 
-abbrev Counts : Type 0
+abbrev pub Counts : Type 0
 Counts = ℕ → ℕ → Option ℕ
 
 -- ---- counts
 
-up_to_lower : (j k : ℕ) (o : Option ℕ) → j ≤ k → IsUpTo k o → IsUpTo j o
+pub up_to_lower : (j k : ℕ) (o : Option ℕ) → j ≤ k → IsUpTo k o → IsUpTo j o
 up_to_lower j k None l h = tt
 up_to_lower j k (Some n) l h = omega (arith, l, h)
 
@@ -66,7 +64,7 @@ tokens_up c p d k h =
     (cases_Bool (nat_le p.hold d)))
     (cases_lt p.tokens k)
 
-tokens_from : (c : Counts) (p : Place) (d k : ℕ) → IsUpTo k (tokens_by c p d) → IsCounted c p d k
+pub tokens_from : (c : Counts) (p : Place) (d k : ℕ) → IsUpTo k (tokens_by c p d) → IsCounted c p d k
 tokens_from c p d k h = λ l.
     ⊎_elim
     (λ (test : nat_le p.hold d ≡ true). let in' : p.hold ≤ d = grind (arith, nat_tests) in (in', less_up p.tokens k (c p.from.index (d - p.hold)) (rw test at h)))
@@ -84,18 +82,18 @@ held_back h d (At (pos z)) first l =
 held_back h d (At (negsuc z)) first l = absurd (omega (arith, ints, first))
 held_back h d Never first l = absurd l
 
-held_on : (h d : ℕ) (a : Date) → h ≤ d → IsAtMostDate a (At (pos (d - h))) → IsAtMostDate (delayed h a) (At (pos d))
+pub held_on : (h d : ℕ) (a : Date) → h ≤ d → IsAtMostDate a (At (pos (d - h))) → IsAtMostDate (delayed h a) (At (pos d))
 held_on h d a l low =
     let there : IsAtMostDate (delayed h (At (pos (d - h)))) (At (pos d)) = omega (arith, ints, l) in
     at_most_trans (delayed h a) (delayed h (At (pos (d - h)))) (At (pos d)) (delayed_rises h a (At (pos (d - h))) low) there
 
-ready_at_zero : (p : Place) (k d : ℕ) → length p.ready ≡ 0 → IsAtMostDate (initial_date p k) (At (pos d))
+pub ready_at_zero : (p : Place) (k d : ℕ) → length p.ready ≡ 0 → IsAtMostDate (initial_date p k) (At (pos d))
 ready_at_zero p k d e =
     let zero' : ready_date p k ≡ 0 = get_or_past p.ready (k - 1) 0 (omega (arith, e)) in
     omega (arith, ints, zero')
 
 -- the token of the implicit place comes with the firing before
-own_token : (x : Dating) (s k d : ℕ) → 1 ≤ k → ((j : ℕ) → suc j ≡ k → 1 ≤ j → IsAtMostDate (x s j) (At (pos d))) → IsAtMostDate (available_at x (implicit_place s) k) (At (pos d))
+pub own_token : (x : Dating) (s k d : ℕ) → 1 ≤ k → ((j : ℕ) → suc j ≡ k → 1 ≤ j → IsAtMostDate (x s j) (At (pos d))) → IsAtMostDate (available_at x (implicit_place s) k) (At (pos d))
 own_token x s zero d o before = absurd (omega (arith, o))
 own_token x s (suc zero) d o before = ready_at_zero (implicit_place s) 1 d refl
 own_token x s (suc (suc j)) d o before = rw (implicit_after initial_date x s j) (before (suc j) refl (omega arith))
@@ -186,33 +184,9 @@ module _ (net : NetLists) (u x : Dating) (r c : Counts) (h : AreCounted net u x 
       (h.ends i e m).0 (d - (get_or net.places i e).hold) (suc n - (get_or net.places i e).tokens) (omega (arith, q))).1 w)
       (λ j e one. let same : j ≡ n = omega (arith, e) in rw same (reached tight t d n l (omega (arith, one, same)) (lower_least t d n (suc n) (omega arith) up)))
 
-  greatest : (bound : ℕ) (rank : ℕ → ℕ) → AreRanks net.places bound rank → IsTight net u x → (other : Counts) → AreWithinLeast net r other
-      → (n t d k : ℕ) → t < length net.transitions → 1 ≤ k → IsUpTo k (other t d) → k * bound + rank t < n → IsAtMostDate (x t k) (At (pos d))
-  greatest bound rank rr tight other keeps zero t d k l o up m = absurd (omega (arith, m))
-  greatest bound rank rr tight other keeps (suc n) t d k l o up m =
-      let below = rr.below t in
-      comes_with tight other t d k l o (keeps t d k l o up)
-      (λ i e b to q held w.
-      let p : Place = get_or net.places i e in
-      let down = falls bound k p.tokens (rank p.from.index) (rank p.to.index) q (rr.below p.from.index) (rr.rise i e b) in
-      let here : rank p.to.index ≡ rank t = ap rank to in
-      greatest bound rank rr tight other keeps n p.from.index (d - p.hold) (k - p.tokens) (h.ends i e b).0 (omega (arith, q)) w (omega (arith, down, here, m)))
-      (λ j e one.
-      let back : k - 1 ≡ j = omega (arith, e) in
-      let down = falls bound k 1 (rank t) (rank t) (omega (arith, e, one)) below (λ z. absurd (omega (arith, z))) in
-      let down2 : j * bound + rank t < k * bound + rank t = rw back at down in
-      greatest bound rank rr tight other keeps n t d j l one (up_to_lower j k (other t d) (omega (arith, e)) up) (omega (arith, down2, m)))
-
 pub least_of_tokens : CountersAreLeastOfTokens
 least_of_tokens net u x r c h t d k l o =
-    let ranked = live_is_ranked net h.ends h.live in
-    let tight = tight_of_least net u x ranked.0 ranked.1 ranked.2 h.least in (
+    let tight = wait_for_no_more net u x h.least in (
       λ up. within net u x r c h t d k l o ((h.firings t l d k o).1 up),
       λ up. (h.firings t l d k o).0 (reached net u x r c h tight t d k l o up),
     )
-
-pub counters_greatest : CountersAreGreatest
-counters_greatest net u x r c other h keeps t d k l o up =
-    let ranked = live_is_ranked net h.ends h.live in
-    let tight = tight_of_least net u x ranked.0 ranked.1 ranked.2 h.least in
-    (h.firings t l d k o).0 (greatest net u x r c h ranked.0 ranked.1 ranked.2 tight other keeps (suc (k * ranked.0 + ranked.1 t)) t d k l o up (omega arith))

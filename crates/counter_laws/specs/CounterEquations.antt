@@ -4,14 +4,12 @@ use Rattle.teg_model.specs.dioid.declared.dates.Date.{Date}
 use Rattle.teg_model.specs.dioid.declared.dates.Date.TheVariants.{At}
 use Rattle.teg_model.specs.dioid.Dates.{IsAtMostDate}
 use Rattle.teg_model.specs.teg_net.Nets.{NetLists, HasEndsInRange}
-use Rattle.teg_model.specs.teg_net.Circuits.{IsLive}
 use Rattle.teg_model.specs.Datings.{IsFeasibleUnder, IsLeastUnder}
 use Rattle.counter_laws.specs.Counters.{IsUpTo, AreCounters, AreReleaseCounters, IsUpToLeast, AreWithinLeast}
 
--- a live net, its least dating under releases, and the counts of both
+-- the least dating of a net under releases, and the counts of both
 pub record AreCounted (net : NetLists) (u x : ℕ → ℕ → Date) (r c : ℕ → ℕ → Option ℕ) : Type 0 where
   pub ends : HasEndsInRange net
-  pub live : IsLive net
   pub least : IsLeastUnder net u x
   pub releases : AreReleaseCounters net u r
   pub firings : AreCounters net x c

@@ -3,12 +3,13 @@
 ghost use Rattle.counter_laws.specs.CountedRuns.{CountersCountFirings};
 ghost use Rattle.counter_laws.specs.CounterEquations.{CountersAreGreatest, CountersAreLeastOfTokens, CountersAreOne, CountersExist};
 
-/// The min-plus equations: of a live net, under any releases, the count of firings up to a date is
-/// the least of the tokens that each place into the transition has had up to then, its initial ones
-/// and the firings before it up to a hold earlier, of those before the first initial token that is
-/// not ready by then, and of the releases of an input; and no counts within that least are greater
-/// (chapter 5). The equations alone do not tell the counters: around a circuit without tokens and
-/// without hold each count solves them, so liveness is asked for.
+/// The min-plus equations: of a net that is live or not, under any releases, the count of firings up
+/// to a date is the least of the tokens that each place into the transition has had up to then, its
+/// initial ones and the firings before it up to a hold earlier, of those before the first initial
+/// token that is not ready by then, and of the releases of an input; and no counts within that least
+/// are greater (chapter 5). The equations alone do not tell the counters of a net that is not live:
+/// around a circuit without tokens and without hold each count solves them, and those of the least
+/// dating are the greatest, without end from 0 on.
 pub fn counters_solve_min_plus_equations()
     ensures equations { CountersAreLeastOfTokens }
     ensures greatest { CountersAreGreatest }

@@ -1,4 +1,5 @@
-use Rattle.counter_laws.proofs.Solving.{least_of_tokens, counters_greatest}
+use Rattle.counter_laws.proofs.Greatest.{counters_greatest}
+use Rattle.counter_laws.proofs.Solving.{least_of_tokens}
 use Rattle.counter_laws.proofs.laws.counters_solve_min_plus_equations.Goals as goal
 
 pub returns : goal.returns
