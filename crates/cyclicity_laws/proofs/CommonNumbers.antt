@@ -1,16 +1,15 @@
 -- A number that is common towards each transition at each rate.
-use Rattle.std.proofs.Common.{ℕ, zero, suc, ◌*◌, ◌<◌, ◌≤◌, ◌≡◌, length, sym, ap, subst, ◌∙◌, arith, ⊎_elim}
+use Rattle.std.proofs.Common.{ℕ, zero, suc, ◌+◌, ◌*◌, ◌<◌, ◌≤◌, ◌≡◌, length, sym, ap, subst, ◌∙◌, arith, ⊎_elim}
 use Rattle.std.specs.Int.{◌∣◌}
 use Rattle.std.proofs.lemmas.Bool.{cases_lt}
 use Rattle.std.proofs.lemmas.Nat.Gcd.{dvd_refl}
 use Rattle.std.proofs.Math.Nat.{mul-le-mul_right, dvd-mul_left_of_dvd}
-use Rattle.bound_laws.specs.teg_net.Limits.{most_place_tokens}
+use Rattle.bound_laws.specs.teg_net.Limits.{greatest_every}
 use Rattle.bound_laws.specs.teg_net.Circuits.{tokens_of}
-use Rattle.bound_laws.proofs.teg_net_proofs.NetRules.{lists_by_rule, lists_of_inputs, lists_rise, net_ends, tokens_within}
 use Rattle.bound_laws.specs.Critical.{IsCommon}
 use Rattle.bound_laws.specs.PastTheBound.{factorial}
 use Rattle.periodic_laws.specs.LinearSystem.{LeastDatingsRepeat}
-use Rattle.slope_laws.proofs.EndedLists.{dates_of_list, rule_of}
+use Rattle.slope_laws.proofs.EndedLists.{rule_in, rule_of}
 use Rattle.slope_laws.proofs.WalkPaths.{tokens_round}
 use Rattle.growth_laws.proofs.number_laws_proofs.Numbers.{some_of}
 use Rattle.growth_laws.proofs.Growth.{slopes_exist}
@@ -38,29 +37,27 @@ some_factorial (suc n) =
     omega (arith, old, wide)
 
 pub common_by_parts_exist : CommonByPartsExist
-common_by_parts_exist net ok live a b = common_by_parts net a b (common_number net) is where
-  is : IsCommon net a b (common_number net)
+common_by_parts_exist net ends live tokens within a b = common_by_parts net a b (common_number net tokens) is where
+  is : IsCommon net a b (common_number net tokens)
   is c ps h =
-      let w = in_factorial (tokens_of net ps) (length net.transitions * most_place_tokens) (some_of (tokens_of net ps) (live ps h.circuit)) (tokens_round net most_place_tokens ps (net_ends net ok) (tokens_within net ok) h.circuit) in
+      let few = tokens_round net tokens ps ends within h.circuit in
+      let w = in_factorial (tokens_of net ps) (length net.transitions * tokens + greatest_every) (some_of (tokens_of net ps) (live ps h.circuit)) (omega (arith, few)) in
       (ps, h, w.0, w.1)
 
 pub common_towards_exist : CommonTowardsExist
-common_towards_exist net ok live t a b = (
-  some_factorial (length net.transitions * most_place_tokens),
+common_towards_exist net ends rules live tokens within t a b = (
+  some_factorial (length net.transitions * tokens + greatest_every),
   record {
-    parts = λ c ps h leads. common_by_parts_exist net ok live a b c ps h;
+    parts = λ c ps h leads. common_by_parts_exist net ends live tokens within a b c ps h;
     lists = λ list again w rate.
-        let facts = dates_of_list net list ok w.of_net in
-        let rule = rule_of list.dates list.again again w.goes_on facts.0.again in
-        let some = rule.some in
+        let rule = rule_of list.dates list.again again w.goes_on (rule_in net list rules w.of_net) in
         let most = rule.every_in in
-        let wide : 1 * most_place_tokens ≤ length net.transitions * most_place_tokens = mul-le-mul_right {m = 1} {n = length net.transitions} most_place_tokens ok.some_transition in
-        let u = in_factorial again.every (length net.transitions * most_place_tokens) some (omega (arith, most, wide)) in
+        let u = in_factorial again.every (length net.transitions * tokens + greatest_every) rule.some (omega (arith, most)) in
         subst (λ z. again.every ∣ z) (sym u.1) (dvd-mul_left_of_dvd again.every (dvd_refl again.every) u.0);
   },
 )
 
 pub common_of_nets_exist : LeastDatingsRepeat → CommonOfNetsExist
-common_of_nets_exist repeat net ok live x least t l endless =
-    let w = slopes_exist repeat net (net_ends net ok) (lists_of_inputs net ok) (lists_rise net ok) (lists_by_rule net ok) live x least t l endless in
-    (w.0, w.1, w.2, w.3, λ some. (common_towards_exist net ok live t w.0 w.1).1)
+common_of_nets_exist repeat net ends inputs rising rules live tokens within x least t l endless =
+    let w = slopes_exist repeat net ends inputs rising rules live x least t l endless in
+    (w.0, w.1, w.2, w.3, λ some. (common_towards_exist net ends rules live tokens within t w.0 w.1).1)

@@ -10,10 +10,10 @@ use Rattle.bound_laws.proofs.teg_net_proofs.PathLaws.{IsPathBetween-append}
 use Rattle.bound_laws.proofs.teg_loops_proofs.Taking.{loop_sum, by_loops, sum_most}
 use Rattle.bound_laws.proofs.teg_loops_proofs.Visits.{Meets, joined_meets, still_meets}
 use Rattle.bound_laws.specs.Critical.{IsCriticalAt}
-use Rattle.slope_laws.specs.teg_loops.Loops.{IsCircuitTowards}
 use Rattle.bound_laws.proofs.teg_net_proofs.Bounds.{hold_bound, holds_bounded, token_bound, tokens_bounded}
 use Rattle.bound_laws.proofs.teg_loops_proofs.Ends.{ends_below}
 use Rattle.slope_laws.proofs.WalkPaths.{tokens_round}
+use Rattle.cyclicity_laws.specs.PartsBetween.{IsCircuitBetween}
 
 -- the path meets a transition of a critical circuit
 pub record MeetsCritical (net : NetLists) (a b t : ℕ) (ps : List PlaceId) : Type 0 where
@@ -43,7 +43,7 @@ loses_more b C a P t1 t2 k1 k2 time tokens q e f h l m w =
     let three : C * (q + 1) ≡ C * q + C = grind arith in
     (omega (arith, one, two, h, m), omega (arith, three, l, w, f))
 
-pub meets_or_loses : (net : NetLists) (a b : ℕ) → HasEndsInRange net → (j t : ℕ) → ((ps : List PlaceId) → IsCircuitTowards net t ps → b * time_of net ps ≤ a * tokens_of net ps)
+pub meets_or_loses : (net : NetLists) (a b : ℕ) → HasEndsInRange net → (j t : ℕ) → ((ps : List PlaceId) → IsCircuitBetween net j t ps → b * time_of net ps ≤ a * tokens_of net ps)
     → t < length net.transitions → (ps : List PlaceId) → IsPathBetween net j ps t → MeetsCritical net a b t ps ⊎ LosesMuch net a b ps
 meets_or_loses net a b ends j t greatest lt ps h = by_loops net (length net.transitions) j t (λ qs. MeetsCritical net a b t qs ⊎ LosesMuch net a b qs) (ends_below net ends) lt
     (λ qs g l.
@@ -61,7 +61,7 @@ meets_or_loses net a b ends j t greatest lt ps h = by_loops net (length net.tran
       critical = m.critical;
     }))
     (λ (o : LosesMuch net a b (loop.before ++ loop.after)).
-    let ratio = greatest loop.loop (record { circuit = loop.circuit; at = loop.at; round = loop.closed; towards = (loop.after, loop.last) }) in
+    let ratio = greatest loop.loop (record { circuit = loop.circuit; at = loop.at; round = loop.closed; from = (loop.before, loop.first); towards = (loop.after, loop.last) }) in
     ⊎_elim
     (λ (less : b * time_of net loop.loop < a * tokens_of net loop.loop).
     let both = loses_more b (most_tokens net) a (most_time net) (time_of net (loop.before ++ loop.after)) (time_of net loop.loop)

@@ -1,5 +1,5 @@
 -- What the period of the dates of a net divides, and the growth of a strongly connected net.
-use Rattle.std.proofs.Common.{ℕ, ℤ, zero, suc, pos, ◌+◌, ◌-◌, ◌*◌, ◌<◌, ◌≤◌, ◌≡◌, ◌≢◌, ◌⊎◌, inl, inr, length, refl, sym, ap, subst, ◌∙◌, arith, ⊎_elim}
+use Rattle.std.proofs.Common.{ℕ, ℤ, zero, suc, pos, ◌+◌, ◌-◌, ◌*◌, ◌<◌, ◌≤◌, ◌≡◌, ◌≢◌, ◌⊎◌, inl, inr, get_or, length, refl, sym, ap, subst, ◌∙◌, arith, ⊎_elim}
 use Rattle.std.proofs.lemmas.Bool.{cases_lt}
 use Rattle.bound_laws.specs.dioid.declared.dates.Date.{Date}
 use Rattle.bound_laws.specs.dioid.declared.dates.Date.TheVariants.{Early, At, Never}
@@ -13,10 +13,9 @@ use Rattle.bound_laws.specs.settled_laws.SettledForms.{RepeatsAfter}
 use Rattle.periodic_laws.specs.RepeatNumbers.{repeats_past, repeats_in, repeats_by}
 use Rattle.periodic_laws.specs.LinearSystem.{LeastDatingsRepeat}
 use Rattle.slope_laws.specs.Slopes.{IsSlope}
-use Rattle.slope_laws.proofs.EndedLists.{dates_of_list}
+use Rattle.slope_laws.proofs.EndedLists.{input_of}
 use Rattle.slope_laws.proofs.FormSlopes.{forms_have_slopes}
 use Rattle.slope_laws.proofs.Nevers.{nevers_come_from_ended_lists}
-use Rattle.bound_laws.proofs.teg_net_proofs.NetRules.{lists_by_rule, lists_of_inputs, lists_rise, net_ends}
 use Rattle.bound_laws.proofs.teg_loops_proofs.Ends.{ends_below}
 use Rattle.bound_laws.proofs.Onward.{start_in}
 use Rattle.bound_laws.proofs.Shortest.{least_divides}
@@ -104,25 +103,32 @@ periods_divide_of_nets repeat net ends inputs rising rules live x least f h L on
 
 module _ (net : NetLists) (a b : ℕ) (s : IsStronglyConnected net a b) where
   none_ends : (t : ℕ) → IsEndless net t
-  none_ends t l w = s.no_input l.transition.index (dates_of_list net l s.net_rules w.of_net).0.is_input
+  none_ends t l w = s.no_input l.transition.index (input_of net l s.lists w.of_net)
+
+  -- it has no input list, so that each keeps every rule
+  no_lists_rise : HasRisingLists net
+  no_lists_rise i d l = absurd (s.no_input (get_or net.inputs i d).transition.index (s.lists.is_input i d l))
+
+  no_lists_by_rule : HasListsByRule net
+  no_lists_by_rule i d l = absurd (s.no_input (get_or net.inputs i d).transition.index (s.lists.is_input i d l))
 
   slope : (t : ℕ) → t < length net.transitions → IsSlope net t b a
   slope t l =
       let core = s.ratio.attained in
       let at : ℕ = core.1.closed.0 in
       let round : IsPathBetween net at core.0 at = core.1.closed.1 in
-      let at_in = start_in net (length net.transitions) at at core.0 (ends_below net (net_ends net s.net_rules)) round core.1.not_empty in
+      let at_in = start_in net (length net.transitions) at at core.0 (ends_below net s.ends) round core.1.not_empty in
       let e : b * time_of net core.0 ≡ time_of net core.0 * b = grind arith in
       let f = core.3 in
       record {
         circuits = λ ps w. (let up = s.ratio.greatest ps w.circuit (λ i d m. tt) in let g : b * time_of net ps ≡ time_of net ps * b = grind arith in omega (arith, up, g));
-        lists = λ list again w. absurd (s.no_input list.transition.index (dates_of_list net list s.net_rules w.of_net).0.is_input);
+        lists = λ list again w. absurd (s.no_input list.transition.index (input_of net list s.lists w.of_net));
         attained = inr (inl (core.0, record { circuit = core.1; at = at; round = round; towards = s.reaches at t at_in l }, omega (arith, e, f)));
       }
 
 pub periods_divide : LeastDatingsRepeat → PeriodsDivideByParts
 periods_divide repeat net a b s x least f h L one common =
-    periods_divide_of_nets repeat net (net_ends net s.net_rules) (lists_of_inputs net s.net_rules) (lists_rise net s.net_rules) (lists_by_rule net s.net_rules) s.live x least f h L one
+    periods_divide_of_nets repeat net s.ends s.lists (no_lists_rise net a b s) (no_lists_by_rule net a b s) s.live x least f h L one
     (λ t l none. (
       a,
       b,
@@ -130,11 +136,11 @@ periods_divide repeat net a b s x least f h L one common =
       slope net a b s t l,
       λ some. record {
         parts = λ c ps critical leads. common c ps critical;
-        lists = λ list again w rate. absurd (s.no_input list.transition.index (dates_of_list net list s.net_rules w.of_net).0.is_input);
+        lists = λ list again w rate. absurd (s.no_input list.transition.index (input_of net list s.lists w.of_net));
       },
     ))
 
 -- the slope of each transition is the greatest ratio
 pub grow_by_cycle_time : LeastDatingsRepeat → DatesGrowByCycleTime
 grow_by_cycle_time repeat net a b s x least t l =
-    dates_grow repeat net (net_ends net s.net_rules) (lists_of_inputs net s.net_rules) (lists_rise net s.net_rules) (lists_by_rule net s.net_rules) s.live x least t l (none_ends net a b s t) a b s.ratio.some (slope net a b s t l)
+    dates_grow repeat net s.ends s.lists (no_lists_rise net a b s) (no_lists_by_rule net a b s) s.live x least t l (none_ends net a b s t) a b s.ratio.some (slope net a b s t l)

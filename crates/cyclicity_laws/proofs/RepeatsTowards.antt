@@ -328,7 +328,7 @@ module _ (repeat : LeastDatingsRepeat) (net : NetLists) (ends : HasEndsInRange n
     by_walk k some_a past w = ⊎_elim
         (λ (m : MeetsCritical net a b t w.places). by_rounds k (common_if some_a) w m)
         (λ (o : LosesMuch net a b w.places). by_start k some_a past w o)
-        (meets_or_loses net a b ends w.from t slope.circuits lt w.places w.path)
+        (meets_or_loses net a b ends w.from t (λ qs c. slope.circuits qs (record { circuit = c.circuit; at = c.at; round = c.round; towards = c.towards })) lt w.places w.path)
 
     later : (k : ℕ) → 1 ≤ a → far < k → IsLaterBy k
     later k some_a past = by_walk k some_a past (best k (omega (arith, past)))

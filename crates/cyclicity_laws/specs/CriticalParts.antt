@@ -3,7 +3,7 @@ use Rattle.std.specs.Prelude.{ℕ, ◌*◌, ◌<◌, ◌≤◌, ◌≡◌, List,
 use Rattle.std.specs.Int.{◌∣◌}
 use Rattle.bound_laws.specs.dioid.declared.dates.Date.{Date}
 use Rattle.bound_laws.specs.teg_net.declared.entries.PlaceId.{PlaceId}
-use Rattle.bound_laws.specs.teg_net.Nets.{NetLists, IsNet, IsInput}
+use Rattle.bound_laws.specs.teg_net.Nets.{NetLists, HasEndsInRange, HasListsOfInputs, IsInput}
 use Rattle.bound_laws.specs.teg_net.Circuits.{IsPathBetween, IsCircuit, IsLive, time_of, tokens_of}
 use Rattle.bound_laws.specs.teg_net.Parts.{Reaches}
 use Rattle.bound_laws.specs.teg_net.GreatestRatios.{IsGreatestRatio, IsAnyPlace}
@@ -14,7 +14,8 @@ use Rattle.bound_laws.specs.Critical.{IsCriticalAt, IsCommon}
 
 -- live, without inputs, each transition reaches each other, and the greatest ratio is a / b
 pub record IsStronglyConnected (net : NetLists) (a b : ℕ) : Type 0 where
-  pub net_rules : IsNet net
+  pub ends : HasEndsInRange net
+  pub lists : HasListsOfInputs net
   pub live : IsLive net
   pub no_input : (t : ℕ) → IsInput net t → ⊥
   pub reaches : (s t : ℕ) → s < length net.transitions → t < length net.transitions → Reaches net s t

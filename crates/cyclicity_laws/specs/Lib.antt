@@ -1,3 +1,4 @@
 pub mod CriticalParts
 pub mod PartsTowards
 pub mod Reached
+pub mod PartsBetween

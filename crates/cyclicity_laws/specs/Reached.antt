@@ -1,10 +1,10 @@
 -- That the cyclicity is reached, and numbers that are common (chapter 3, cyclicity).
-use Rattle.std.specs.Prelude.{ℕ, ◌*◌, ◌<◌, ◌≤◌, ◌↔◌, List, length}
+use Rattle.std.specs.Prelude.{ℕ, ◌+◌, ◌*◌, ◌<◌, ◌≤◌, ◌↔◌, List, length, All}
 use Rattle.std.specs.Int.{◌∣◌}
 use Rattle.bound_laws.specs.dioid.declared.dates.Date.{Date}
 use Rattle.bound_laws.specs.teg_net.declared.entries.PlaceId.{PlaceId}
-use Rattle.bound_laws.specs.teg_net.Limits.{most_place_tokens}
-use Rattle.bound_laws.specs.teg_net.Nets.{NetLists, IsNet, HasEndsInRange}
+use Rattle.bound_laws.specs.teg_net.Limits.{greatest_every}
+use Rattle.bound_laws.specs.teg_net.Nets.{NetLists, HasEndsInRange, HasListsOfInputs, HasRisingLists, HasListsByRule}
 use Rattle.bound_laws.specs.teg_net.Circuits.{IsLive, time_of, tokens_of}
 use Rattle.bound_laws.specs.teg_model.Datings.{IsLeastDating}
 use Rattle.bound_laws.specs.settled_laws.SettledForms.{SettledForm}
@@ -39,18 +39,25 @@ CyclicityIsByParts =
 abbrev pub TransfersExist : Type 0
 TransfersExist = (net : NetLists) → HasEndsInRange net → IsLive net → (c : ℕ) → c < length net.transitions → (f : SettledForm) × IsTransferOf net c f
 
--- a number that is common whatever the rates: each circuit has so many tokens at most, and `every` has the limit of the tokens of a place
-abbrev pub common_number : NetLists → ℕ
-common_number net = factorial (length net.transitions * most_place_tokens)
+-- a number that is common whatever the rates, in a net of which no place has more tokens than these: a circuit has so many for each
+-- transition at most, and by its rule a list repeats so many dates at most
+abbrev pub common_number : NetLists → ℕ → ℕ
+common_number net tokens = factorial (length net.transitions * tokens + greatest_every)
 
 -- it is common towards each transition
 abbrev pub CommonTowardsExist : Type 0
-CommonTowardsExist = (net : NetLists) → IsNet net → IsLive net → (t a b : ℕ) → (1 ≤ common_number net) × IsCommonTowards net t a b (common_number net)
+CommonTowardsExist =
+    (net : NetLists) → HasEndsInRange net → HasListsByRule net → IsLive net → (tokens : ℕ) → All (λ p. p.tokens ≤ tokens) net.places
+    → (t a b : ℕ) → (1 ≤ common_number net tokens) × IsCommonTowards net t a b (common_number net tokens)
 
 -- and of the net
 abbrev pub CommonOfNetsExist : Type 0
-CommonOfNetsExist = (net : NetLists) → IsNet net → IsLive net → (x : ℕ → ℕ → Date) → IsLeastDating net x → IsCommonOfNet net (common_number net)
+CommonOfNetsExist =
+    (net : NetLists) → HasEndsInRange net → HasListsOfInputs net → HasRisingLists net → HasListsByRule net → IsLive net
+    → (tokens : ℕ) → All (λ p. p.tokens ≤ tokens) net.places → (x : ℕ → ℕ → Date) → IsLeastDating net x → IsCommonOfNet net (common_number net tokens)
 
 -- and by the parts
 abbrev pub CommonByPartsExist : Type 0
-CommonByPartsExist = (net : NetLists) → IsNet net → IsLive net → (a b : ℕ) → IsCommonByParts net a b (common_number net)
+CommonByPartsExist =
+    (net : NetLists) → HasEndsInRange net → IsLive net → (tokens : ℕ) → All (λ p. p.tokens ≤ tokens) net.places
+    → (a b : ℕ) → IsCommonByParts net a b (common_number net tokens)

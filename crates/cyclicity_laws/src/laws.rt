@@ -1,6 +1,7 @@
 //! The laws of strongly connected nets. Each is a function that does nothing when it runs: its
 //! contract is the law.
 ghost use Rattle.cyclicity_laws.specs.CriticalParts.{CommonMultiplesAreByParts, DatesGrowByCycleTime, PeriodsDivideByParts};
+ghost use Rattle.cyclicity_laws.specs.PartsBetween.{PeriodsOfTransfersDivide, RatesBetweenExist, TransfersRepeatByParts};
 ghost use Rattle.cyclicity_laws.specs.PartsTowards.{DatesRepeatByParts, PeriodsDivideOfNets};
 ghost use Rattle.cyclicity_laws.specs.Reached.{CommonByPartsExist, CommonOfNetsExist, CommonTowardsExist, CyclicityIsByParts, TransfersAreCommon, TransfersDivideByParts, TransfersExist};
 
@@ -57,11 +58,11 @@ pub fn dates_repeat_by_parts()
     least_datings_repeat();
 }
 
-/// In each live net there are numbers such as the laws of cyclicity ask for: the product of all
-/// whole numbers up to `1,000 n`, for `n` transitions, is common by the parts at every ratio,
-/// towards each transition at every rate, and for the net, whatever its ready dates, inputs and
-/// parts are (chapter 3). The least common multiple is far below it. The net keeps the limits of a
-/// net file, by which no place has more than 1,000 tokens and no list repeats more dates.
+/// In each live net there are numbers such as the laws of cyclicity ask for: where none of its places
+/// has more than `m` tokens, the product of all whole numbers up to `n m + 1,000`, for `n`
+/// transitions, is common by the parts at every ratio, towards each transition at every rate, and
+/// for the net, whatever its ready dates, inputs and parts are (chapter 3). The least common
+/// multiple is far below it. By the rule of a list none repeats more than 1,000 dates.
 pub fn common_numbers_exist()
     ensures parts { CommonByPartsExist }
     ensures towards { CommonTowardsExist }
@@ -86,6 +87,27 @@ pub fn cyclicity_is_by_parts()
     ensures divide { TransfersDivideByParts }
     ensures common { TransfersAreCommon }
     ensures exist { TransfersExist }
+{
+    systems_settle();
+}
+
+/// Cyclicity of transfers: in a live net, with inputs and whatever parts it has, the greatest times
+/// of walks from a transition `i` to a transition `t` repeat by every common multiple `L` of what
+/// lies between at its rate `a / b`, the greatest ratio of a circuit that a way from `i` to `t` can
+/// go round: of each strong part of the critical graph that such a way can go through, the greatest
+/// common divisor of the tokens of its circuits (`repeat`). So the period of the whole transfer of
+/// `i` divides each number that is common for every `t` (`periods`); and each two transitions have
+/// such a rate (`rates`) (chapter 3). Circuits off the ways do not count: what the program tells of
+/// transfers need not settle as late, nor repeat as seldom, as its net does.
+///
+/// `in` leads to `loop` with a place back to itself of 2 tokens and hold 4, and that to `out`;
+/// `slow`, with a place back to itself of 3 tokens and hold 9, leads to `out` as well. The times
+/// from `in` to `out` repeat by 2, at 2 for each firing; the dates of `out` by 3, at 3. Where no
+/// circuit that takes time lies between, the rate is 0, and the times repeat by 1.
+pub fn transfers_repeat_by_parts()
+    ensures repeat { TransfersRepeatByParts }
+    ensures periods { PeriodsOfTransfersDivide }
+    ensures rates { RatesBetweenExist }
 {
     systems_settle();
 }
