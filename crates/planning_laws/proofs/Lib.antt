@@ -8,3 +8,4 @@ pub mod MovedReleases
 pub mod MovedNumbers
 pub mod LongerJobs
 pub mod Clocks
+pub mod GivenInputs

@@ -1,5 +1,6 @@
 //! The laws of planning. Each is a function that does nothing when it runs: its contract is the law.
 ghost use Rattle.planning_laws.specs.Clocks.{ClocksTellPeriods, ClocksTellSlack};
+ghost use Rattle.planning_laws.specs.GivenInputs.{GivenInputsMeetInTime, LatestGoOnFromGiven};
 ghost use Rattle.planning_laws.specs.GreatestTimes.{GreatestTimesArePlacesBack, GreatestTimesFromTheRatio, NoTokenWaits, PeriodsBetweenKeepAll, PeriodsWithGreatestTimes, PlacesBackExist, TimesAreKeptByPlacesBack, WorkableFirstsAreFeasible};
 ghost use Rattle.planning_laws.specs.LongerJobs.{JobsMayTakeLonger};
 ghost use Rattle.planning_laws.specs.MovedReleases.{ReleasesMoveDates, ReleasesMoveNumbers};
@@ -130,4 +131,16 @@ pub fn varying_holds_lie_between()
 pub fn releases_move_dates()
     ensures dates { ReleasesMoveDates }
     ensures numbers { ReleasesMoveNumbers }
+{}
+
+/// Planning again where the first inputs are given: in a live net where inputs at 0 meet the due
+/// dates, some inputs that begin with given dates, up to a number for each input, meet them just
+/// where no given date comes after the latest date of its firing (`meet`); and then the latest that
+/// do go on by the latest dates of the whole, as if nothing were given (`latest`) (chapter 5). So
+/// what came in early does not move what may still come late, and a table of latest dates that was
+/// made once tells all day whether there is time yet. A part due at 10 that takes 5 has the latest
+/// input 5: given at 7, no later ones help.
+pub fn given_inputs_meet_in_time()
+    ensures meet { GivenInputsMeetInTime }
+    ensures latest { LatestGoOnFromGiven }
 {}
