@@ -1,0 +1,4 @@
+pub mod EnoughTokens
+pub mod NodeCounts
+pub mod RankTests
+pub mod RisingLists
