@@ -28,14 +28,14 @@ use Rattle.growth_laws.proofs.Growth.{cancel}
 use Rattle.growth_laws.proofs.PathSteps.{path_steps, path_walks, path_time}
 use Rattle.slope_laws.specs.teg_loops.Loops.{HasLoop, IsCircuitTowards}
 use Rattle.slope_laws.proofs.WalkPaths.{IsPathOf, walk_path}
-use Rattle.teg_settle.specs.Transfers.{AreWalkTimes}
+use Rattle.teg_settle.specs.walk_times.Transfers.{AreWalkTimes}
 use Rattle.growth_laws.proofs.teg_model_proofs.LiveRanks.{live_is_ranked}
 use Rattle.growth_laws.proofs.teg_model_proofs.SystemWalks.{least_in_is_walk}
 use Rattle.periodic_laws.specs.LinearSystem.{SystemsSettle}
 use Rattle.teg_settle.specs.declared.releases.Tokens.TheVariants.{Absent}
 use Rattle.teg_settle.specs.InitialReleases.{initial_by}
-use Rattle.teg_settle.specs.Alone.{released_alone}
-use Rattle.teg_settle.proofs.Transferring.{times_from}
+use Rattle.teg_settle.specs.walk_times.Alone.{released_alone}
+use Rattle.teg_settle.proofs.walk_times_proofs.Walking.{times_from}
 use Rattle.periodic_laws.specs.PeriodicDates.{IsPeriodic}
 use Rattle.periodic_laws.proofs.dioid_proofs.Moves.{move_zero}
 use Rattle.cyclicity_laws.specs.CriticalParts.{IsCircuitOfCriticalPart, IsCommonOfPart}

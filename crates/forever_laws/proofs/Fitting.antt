@@ -24,7 +24,7 @@ use Rattle.teg_settle.proofs.teg_model_proofs.LiveRanks.{live_is_ranked}
 use Rattle.teg_settle.proofs.teg_model_proofs.OfNet.{least_of, least_of_system, net_ends}
 use Rattle.due_laws.specs.MeetingDueDates.{inputs_at_zero}
 use Rattle.teg_settle.specs.settled_laws.SettledForms.{settled_length, row_of, step_of_form}
-use Rattle.teg_settle.specs.Transfers.{IsGreatestWalkTime}
+use Rattle.teg_settle.specs.walk_times.Transfers.{IsGreatestWalkTime}
 use Rattle.endless_due.specs.declared.row.EndlessRow.{EndlessRow}
 use Rattle.endless_due.specs.EndlessRows.{IsEndlessRow, most_endless_dates}
 use Rattle.forever_laws.specs.SeriesColumns.{listed_dates}

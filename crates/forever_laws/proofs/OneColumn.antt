@@ -14,8 +14,8 @@ use Rattle.teg_settle.specs.series_ops.Gains.{gain_of, gain_zero}
 use Rattle.teg_net.specs.Nets.{NetLists}
 use Rattle.teg_settle.proofs.teg_model_proofs.DateFunctions.{Dating}
 use Rattle.teg_settle.specs.settled_laws.SettledForms.{SettledForm, row_of, step_of_form, StandsFor}
-use Rattle.teg_settle.specs.WalkTimes.{WalkTimesSettle}
-use Rattle.teg_settle.specs.Transfers.{IsGreatestWalkTime, IsTransferOf}
+use Rattle.teg_settle.specs.walk_times.WalkTimes.{WalkTimesSettle}
+use Rattle.teg_settle.specs.walk_times.Transfers.{IsGreatestWalkTime, IsTransferOf}
 use Rattle.teg_settle.specs.periodic_laws.Equations.{gains}
 use Rattle.endless_due.specs.declared.row.EndlessRow.{EndlessRow}
 use Rattle.endless_due.specs.EndlessRows.{IsEndlessRow}

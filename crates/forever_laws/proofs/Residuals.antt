@@ -27,7 +27,7 @@ use Rattle.teg_settle.specs.teg_model.Datings.{as_date}
 use Rattle.teg_settle.proofs.teg_model_proofs.Tokens.{not_before_zero}
 use Rattle.teg_settle.proofs.teg_model_proofs.WalkSteps.{walk_below}
 use Rattle.teg_settle.proofs.teg_model_proofs.DateFunctions.{Dating}
-use Rattle.teg_settle.specs.Transfers.{IsGreatestWalkTime}
+use Rattle.teg_settle.specs.walk_times.Transfers.{IsGreatestWalkTime}
 use Rattle.due_laws.specs.MeetingDueDates.{InputsMeet, inputs_at_zero}
 use Rattle.due_laws.specs.LatestDates.{IsDateToDue, IsLatestDate}
 use Rattle.due_laws.proofs.LatestDates.{delayed_back, feasible_keeps, free_without_walks, walk_ends_in}

@@ -17,7 +17,7 @@ use Rattle.teg_net.specs.Walks.{Walks, walk_time}
 use Rattle.teg_settle.specs.teg_model.Datings.{as_date}
 use Rattle.teg_settle.proofs.teg_model_proofs.WalkSteps.{walk_append, walk_time-append}
 use Rattle.teg_settle.specs.settled_laws.SettledForms.{settled_length, row_of, step_of_form, StandsFor}
-use Rattle.teg_settle.specs.Transfers.{IsGreatestWalkTime, AreWalkTimes}
+use Rattle.teg_settle.specs.walk_times.Transfers.{IsGreatestWalkTime, AreWalkTimes}
 use Rattle.endless_due.specs.declared.row.EndlessRow.{EndlessRow}
 use Rattle.forever_laws.specs.SeriesColumns.{due_date_at, listed_dates, IsSeriesList}
 use Rattle.forever_laws.specs.EndlessDues.{TransfersAreSeries, DuesAreSeries}

@@ -5,7 +5,7 @@ use Rattle.teg_settle.specs.series_ops.declared.gains.Gain.{Gain}
 use Rattle.teg_net.specs.Nets.{NetLists, HasEndsInRange, IsInput}
 use Rattle.teg_net.specs.Circuits.{IsLive}
 use Rattle.teg_settle.specs.settled_laws.SettledForms.{SettledForm, settled_length}
-use Rattle.teg_settle.specs.Transfers.{IsTransferOf, TransferSettlesPast}
+use Rattle.teg_settle.specs.walk_times.Transfers.{IsTransferOf, TransferSettlesPast}
 use Rattle.teg_settle.specs.periodic_laws.Equations.{gains}
 use Rattle.endless_due.specs.declared.row.EndlessRow.{EndlessRow}
 use Rattle.endless_due.specs.EndlessRows.{IsEndlessOf}

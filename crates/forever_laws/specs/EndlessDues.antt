@@ -9,7 +9,7 @@ use Rattle.teg_net.specs.Nets.{NetLists, IsNet, HasEndsInRange, IsInput, without
 use Rattle.teg_net.specs.Circuits.{IsLive}
 use Rattle.teg_settle.specs.teg_model.Datings.{IsLeastUnder, IsLeastDating}
 use Rattle.teg_settle.specs.settled_laws.SettledForms.{SettledForm, StandsFor, row_of, step_of_form, settled_length}
-use Rattle.teg_settle.specs.Transfers.{IsGreatestWalkTime, IsTransferOf}
+use Rattle.teg_settle.specs.walk_times.Transfers.{IsGreatestWalkTime, IsTransferOf}
 use Rattle.due_laws.specs.MeetingDueDates.{InputsMeet, AreLatestInputs, inputs_at_zero}
 use Rattle.due_laws.specs.LatestDates.{IsLatestDate}
 use Rattle.due_laws.specs.LatestInputs.{LeadsToNoDue}

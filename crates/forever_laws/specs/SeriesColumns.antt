@@ -10,7 +10,7 @@ use Rattle.teg_settle.specs.series_ops.declared.gains.Gain.{Gain}
 use Rattle.teg_settle.specs.series_ops.Gains.{gain_left, gain_meet, LeftFits, MeetFits}
 use Rattle.teg_net.specs.Nets.{NetLists}
 use Rattle.teg_settle.specs.teg_model.Datings.{as_date}
-use Rattle.teg_settle.specs.Transfers.{IsGreatestWalkTime}
+use Rattle.teg_settle.specs.walk_times.Transfers.{IsGreatestWalkTime}
 use Rattle.teg_settle.specs.periodic_laws.Equations.{gains}
 use Rattle.endless_due.specs.declared.row.EndlessRow.{EndlessRow}
 use Rattle.endless_due.specs.EndlessRows.{row_due}

@@ -22,7 +22,7 @@ use Rattle.teg_settle.proofs.teg_model_proofs.OfNet.{feasible_in, input_or_not}
 use Rattle.teg_settle.proofs.teg_model_proofs.WalkSteps.{Keeps, feasible_keeps_in, walk_below}
 use Rattle.teg_settle.specs.settled_laws.SettledForms.{settled_date}
 use Rattle.teg_settle.proofs.settled_laws_proofs.Telling.{form_tells}
-use Rattle.teg_settle.proofs.Transferring.{input_within}
+use Rattle.teg_settle.proofs.walk_times_proofs.Walking.{input_within}
 use Rattle.io_laws.specs.InputOutput.{no_releases, AreTransferTimes, response, DatesAreOutputs, DatesAreOutputsOfTransfers}
 
 -- a walk goes on over so many numbers, from whichever number it starts

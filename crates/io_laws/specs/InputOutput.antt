@@ -7,7 +7,7 @@ use Rattle.teg_settle.specs.teg_net.Nets.{NetLists, HasEndsInRange, IsInput}
 use Rattle.teg_settle.specs.teg_net.Circuits.{IsLive}
 use Rattle.teg_settle.specs.teg_model.Datings.{IsLeastUnder}
 use Rattle.teg_settle.specs.settled_laws.SettledForms.{SettledForm, settled_date}
-use Rattle.teg_settle.specs.Transfers.{AreWalkTimes, IsTransferOf}
+use Rattle.teg_settle.specs.walk_times.Transfers.{AreWalkTimes, IsTransferOf}
 
 -- no input waits for a release
 abbrev pub no_releases : ℕ → ℕ → Date

@@ -17,7 +17,7 @@ use Rattle.teg_bound.specs.PeriodicBounds.{IsBoundOf}
 use Rattle.cyclicity_laws.specs.CriticalParts.{IsStronglyConnected}
 use Rattle.settled_laws.specs.OneSettledForm.{FormsTellDates}
 use Rattle.settled_laws.specs.SettledForms.{SettledForm, settled_date, IsSettledFormOf}
-use Rattle.teg_settle.specs.Transfers.{IsTransferOf}
+use Rattle.teg_settle.specs.walk_times.Transfers.{IsTransferOf}
 use Rattle.change_laws.specs.SlowerNets.{IsSlowerNet, HasSlowerPlaces}
 use Rattle.change_laws.proofs.Changing.{ready_of_tokens}
 use Rattle.teg_model.proofs.OfNet.{net_ends}

@@ -22,7 +22,7 @@ ghost use Rattle.teg_net.specs.GreatestRatios.{IsAnyPlace, IsGreatestRatio};
 ghost use Rattle.teg_net.specs.Limits.{greatest_hold, most_place_tokens};
 ghost use Rattle.teg_net.specs.Nets.{IsInput};
 ghost use Rattle.teg_net.specs.Parts.{Reaches};
-ghost use Rattle.teg_settle.specs.Transfers.{AreWalkTimes, IsTransferOf};
+ghost use Rattle.teg_settle.specs.walk_times.Transfers.{AreWalkTimes, IsTransferOf};
 ghost use Rattle.teg_settle.specs.periodic_laws.Equations.{gains};
 
 use cyclicity_laws::{dates_grow_by_cycle_time, periods_divide_by_parts};

@@ -10,7 +10,7 @@ ghost use Rattle.slope_laws.specs.Slopes.{IsSlope};
 ghost use Rattle.teg_check.specs.Ranks.{IsRanking};
 ghost use Rattle.teg_model.specs.Datings.{IsLeastDating};
 ghost use Rattle.teg_model.specs.dioid.declared.dates.Date.{Date};
-ghost use Rattle.teg_settle.specs.Transfers.{IsTransferOf};
+ghost use Rattle.teg_settle.specs.walk_times.Transfers.{IsTransferOf};
 
 use cyclicity_laws::{common_numbers_exist, cyclicity_is_by_parts, dates_repeat_by_parts};
 use teg_check::{Live, ranked_nets_are_live};

@@ -15,7 +15,7 @@ use Rattle.series_ops.proofs.series_laws_proofs.FormValues.{value_in, value_plac
 use Rattle.series_ops.proofs.series_laws_proofs.Repeating.{rising_by_one}
 use Rattle.series_ops.proofs.series_form_proofs.DateNumbers.{times_product}
 use Rattle.teg_net.specs.Nets.{NetLists}
-use Rattle.teg_settle.specs.Transfers.{IsTransferOf}
+use Rattle.teg_settle.specs.walk_times.Transfers.{IsTransferOf}
 use Rattle.teg_settle.specs.teg_model.Datings.{listed_releases}
 use Rattle.teg_settle.proofs.teg_model_proofs.Tokens.{dates_climb}
 use Rattle.teg_settle.specs.settled_laws.SettledForms.{SettledForm, HasSizes, IsSettledFormOf, NeverFalls, StandsFor, row_of, step_of_form, settled_date, settled_date_past, settled_length, periods_past}

@@ -11,7 +11,7 @@ use Rattle.teg_net.specs.Nets.{NetLists}
 use Rattle.teg_net.specs.Circuits.{IsLive}
 use Rattle.teg_settle.specs.teg_model.LiveRanks.{HasEndsInRange}
 use Rattle.teg_settle.specs.periodic_laws.Equations.{gains, gain_stars}
-use Rattle.teg_settle.specs.Transfers.{IsGreatestWalkTime}
+use Rattle.teg_settle.specs.walk_times.Transfers.{IsGreatestWalkTime}
 use Rattle.net_matrices.specs.NetEntries.{IsMatrixOfNet}
 use Rattle.net_matrices.specs.TransferMatrices.{AreTransfers}
 use Rattle.net_matrices.specs.TransferStars.{TransfersAreStars}

@@ -37,11 +37,9 @@ use Rattle.teg_settle.proofs.teg_model_proofs.Tokens.{available_after, available
 use Rattle.teg_settle.specs.periodic_laws.Equations.{gains, gain_stars, entry_at}
 use Rattle.teg_settle.specs.periodic_laws.PeriodicDates.{IsPeriodic, ArePeriodic}
 use Rattle.teg_settle.specs.periodic_laws.LinearSystem.{LeastInArePeriodic, SystemsSettle}
-use Rattle.teg_settle.specs.declared.releases.Tokens.TheVariants.{Absent}
-use Rattle.teg_settle.specs.InitialReleases.{initial_by}
-use Rattle.teg_settle.specs.Alone.{alone, released_alone}
-use Rattle.teg_settle.specs.Transfers.{IsGreatestWalkTime}
-use Rattle.teg_settle.proofs.Transferring.{input_within, times_from}
+use Rattle.teg_settle.specs.walk_times.Alone.{alone, no_tokens, released_alone}
+use Rattle.teg_settle.specs.walk_times.Transfers.{IsGreatestWalkTime}
+use Rattle.teg_settle.proofs.walk_times_proofs.Walking.{input_within, times_from}
 use Rattle.io_laws.specs.InputOutput.{DatesAreOutputs}
 use Rattle.net_matrices.specs.NetEntries.{AreEntriesOfNet}
 use Rattle.net_matrices.specs.TransferStars.{star_date, TransfersAreStars, DatesAreOutputsOfStars}
@@ -157,7 +155,7 @@ module _ (stars : StarsAreLeast gains gain_stars) (net : NetLists) (ends : HasEn
   dating t k = value t (k - 1)
 
   place_kept : (q : ℕ) (d : Place) → q < length net.places → (k : ℕ) → 1 ≤ k
-      → Le (available_in (initial_by Absent) dating (get_or net.places q d) k) (dating (get_or net.places q d).to.index k)
+      → Le (available_in no_tokens dating (get_or net.places q d) k) (dating (get_or net.places q d).to.index k)
   place_kept q d l k o =
       let p : Place = get_or net.places q d in
       let both = ends q d l in
@@ -167,20 +165,20 @@ module _ (stars : StarsAreLeast gains gain_stars) (net : NetLists) (ends : HasEn
       let split : p.tokens + e ≡ k - 1 = omega (arith, m) in
       let asked : Le (At (pos p.hold)) (value_at (entries p.to.index p.from.index).series p.tokens) =
       le_trans (le_entry net.places p.to.index p.from.index p.tokens q d l refl refl (omega arith)) (le_is (sym (are.values p.to.index p.from.index p.tokens both.1 both.0))) in
-      le_trans (le_is (available_after (initial_by Absent) dating p k (value p.from.index e) m refl))
+      le_trans (le_is (available_after no_tokens dating p k (value p.from.index e) m refl))
       (le_trans (le_is (delayed_is_product p.hold (value p.from.index e) ∙ times_commutes (value p.from.index e) (At (pos p.hold))))
       (le_trans (product_le asked (le_refl (value p.from.index e))) (value_after p.to.index p.from.index p.tokens e (k - 1) both.1 both.0 split))))
-      (λ (m : k ≤ p.tokens). le_trans (le_is (available_first (initial_by Absent) dating p k m)) (early_le (dating p.to.index k)))
+      (λ (m : k ≤ p.tokens). le_trans (le_is (available_first no_tokens dating p k m)) (early_le (dating p.to.index k)))
       (cases_lt p.tokens k)
 
-  implicit_kept : (t k : ℕ) → 1 ≤ k → Le (available_in (initial_by Absent) dating (implicit_place t) k) (dating t k)
+  implicit_kept : (t k : ℕ) → 1 ≤ k → Le (available_in no_tokens dating (implicit_place t) k) (dating t k)
   implicit_kept t k o =
       ⊎_elim
       (λ (m : 1 < k).
       let back : (k - 1) + 1 ≡ k = omega (arith, m) in
-      le_trans (le_is (ap (available_in (initial_by Absent) dating (implicit_place t)) (sym back) ∙ implicit_gives (initial_by Absent) dating t (k - 1) (omega (arith, m))))
+      le_trans (le_is (ap (available_in no_tokens dating (implicit_place t)) (sym back) ∙ implicit_gives no_tokens dating t (k - 1) (omega (arith, m))))
       (value_rises t ((k - 1) - 1) (k - 1) (omega arith)))
-      (λ (m : k ≤ 1). le_trans (le_is (available_first (initial_by Absent) dating (implicit_place t) k m)) (early_le (dating t k)))
+      (λ (m : k ≤ 1). le_trans (le_is (available_first no_tokens dating (implicit_place t) k m)) (early_le (dating t k)))
       (cases_lt 1 k)
 
   released : (t k : ℕ) → Le (released_alone i t k) (dating t k)
@@ -197,7 +195,7 @@ module _ (stars : StarsAreLeast gains gain_stars) (net : NetLists) (ends : HasEn
   dating_is_feasible : IsFeasibleIn (alone net i) dating
   dating_is_feasible = record {
     places = λ k o.
-        all_extended_in net (λ p. IsAtMostDate (available_in (initial_by Absent) dating p k) (dating p.to.index k))
+        all_extended_in net (λ p. IsAtMostDate (available_in no_tokens dating p k) (dating p.to.index k))
         (λ q d l. (place_kept q d l k o).holds)
         (λ t l. (implicit_kept t k o).holds);
     releases = λ t k o. (released t k).holds;
@@ -230,12 +228,12 @@ module _ (stars : StarsAreLeast gains gain_stars) (net : NetLists) (ends : HasEn
         let p : Place = get_or net.places q d in
         let n : ℕ = (e + 1) + p.tokens in
         let same : get_or net.places q no_place ≡ get_or net.places q d = get_or_default net.places q no_place d l in
-        let kept : IsAtMostDate (available_in (initial_by Absent) x p n) (x p.to.index n) =
-        subst (λ (z : Place). IsAtMostDate (available_in (initial_by Absent) x z n) (x z.to.index n)) same
-        (extended_has net (λ z. IsAtMostDate (available_in (initial_by Absent) x z n) (x z.to.index n)) (λ r a. least.feasible.places n (omega arith) r no_place a) q l) in
+        let kept : IsAtMostDate (available_in no_tokens x p n) (x p.to.index n) =
+        subst (λ (z : Place). IsAtMostDate (available_in no_tokens x z n) (x z.to.index n)) same
+        (extended_has net (λ z. IsAtMostDate (available_in no_tokens x z n) (x z.to.index n)) (λ r a. least.feasible.places n (omega arith) r no_place a) q l) in
         let back : n - p.tokens ≡ e + 1 = omega arith in
-        let taken : available_in (initial_by Absent) x p n ≡ delayed p.hold (x j (e + 1)) =
-        available_after (initial_by Absent) x p n (x j (e + 1)) (omega arith) (ap (λ (z : ℕ). x z (n - p.tokens)) from ∙ ap (x j) back) in
+        let taken : available_in no_tokens x p n ≡ delayed p.hold (x j (e + 1)) =
+        available_after no_tokens x p n (x j (e + 1)) (omega arith) (ap (λ (z : ℕ). x z (n - p.tokens)) from ∙ ap (x j) back) in
         let there : x p.to.index n ≡ value_at (gain t).series (e + p.tokens) =
         (let turned : n ≡ (e + p.tokens) + 1 = omega arith in ap (λ (z : ℕ). x z n) to ∙ (ap (x t) turned ∙ sym ((own t).values (e + p.tokens) lt))) in
         le_trans (le_is (sym (delayed_is_product p.hold (x j (e + 1))) ∙ sym taken))
@@ -287,14 +285,14 @@ module _ (stars : StarsAreLeast gains gain_stars) (net : NetLists) (ends : HasEn
 pub transfers_are_stars : StarsAreLeast gains gain_stars → LeastInArePeriodic → SystemsSettle → TransfersAreStars
 transfers_are_stars stars periodic settle net ends live entries are i t k li lt o =
     let ranked = live_is_ranked net ends live in
-    let found = settle net ends live (initial_by Absent) (released_alone i) (λ s l. released_periodic i s) in
+    let found = settle net ends live no_tokens (released_alone i) (λ s l. released_periodic i s) in
     let x : Dating = found.0 in
     let least : IsLeastIn (alone net i) x = found.1 in
-    let own : ArePeriodic (length net.transitions) x = periodic net ends live (initial_by Absent) (released_alone i) x (λ s l. released_periodic i s) least in
+    let own : ArePeriodic (length net.transitions) x = periodic net ends live no_tokens (released_alone i) x (λ s l. released_periodic i s) least in
     let back : (k - 1) + 1 ≡ k = omega (arith, o) in
     let is : star_date net entries i t k ≡ x t k = star_value stars net ends entries are i li x least own t (k - 1) lt ∙ ap (x t) back in
     subst (IsGreatestWalkTime net i t k) (sym is)
-    (times_from net i t k (x t k) li (least_in_is_walk net (initial_by Absent) (released_alone i) ranked.0 ranked.1 ends ranked.2 x least t k lt o))
+    (times_from net i t k (x t k) li (least_in_is_walk net no_tokens (released_alone i) ranked.0 ranked.1 ends ranked.2 x least t k lt o))
 
 pub outputs_of_stars : DatesAreOutputs → TransfersAreStars → DatesAreOutputsOfStars
 outputs_of_stars outputs law net ends live entries are x u y free least t k l o =

@@ -8,7 +8,7 @@ use Rattle.series_ops.specs.series_laws.SeriesForms.{value_at}
 use Rattle.series_ops.specs.declared.gains.Gain.{Gain}
 use Rattle.teg_net.specs.Nets.{NetLists}
 use Rattle.teg_settle.specs.periodic_laws.Equations.{gains, gain_stars}
-use Rattle.teg_settle.specs.Transfers.{IsGreatestWalkTime}
+use Rattle.teg_settle.specs.walk_times.Transfers.{IsGreatestWalkTime}
 use Rattle.net_matrices.specs.NetEntries.{IsMatrixOfNet}
 
 -- a row and a column for each transition; the entry in row t and column i has the greatest times of walks from the first firing of i to

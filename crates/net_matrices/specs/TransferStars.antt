@@ -8,7 +8,7 @@ use Rattle.teg_net.specs.Nets.{NetLists, HasEndsInRange}
 use Rattle.teg_net.specs.Circuits.{IsLive}
 use Rattle.teg_settle.specs.teg_model.Datings.{IsLeastUnder}
 use Rattle.teg_settle.specs.periodic_laws.Equations.{gains, gain_stars}
-use Rattle.teg_settle.specs.Transfers.{IsGreatestWalkTime}
+use Rattle.teg_settle.specs.walk_times.Transfers.{IsGreatestWalkTime}
 use Rattle.io_laws.specs.InputOutput.{no_releases, IsOutput}
 use Rattle.net_matrices.specs.NetEntries.{AreEntriesOfNet}
 

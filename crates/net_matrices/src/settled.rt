@@ -2,7 +2,7 @@
 ghost use Rattle.std.specs.Prelude.{◌<◌, length};
 ghost use Rattle.series_form.specs.SeriesAnswers.{AnswersOf};
 ghost use Rattle.series_ops.specs.series_laws.SeriesForms.{HasValues};
-ghost use Rattle.teg_settle.specs.Transfers.{IsTransferOf};
+ghost use Rattle.teg_settle.specs.walk_times.Transfers.{IsTransferOf};
 ghost use Rattle.teg_settle.specs.settled_laws.SettledForms.{IsSettledFormOf, settled_length};
 ghost use Rattle.net_matrices.specs.SettledSeries.{NeverFallsAnywhere, dates_from};
 

@@ -13,8 +13,8 @@ use Rattle.teg_settle.specs.teg_net.Nets.{NetLists}
 use Rattle.teg_settle.specs.teg_net.Circuits.{place_at}
 use Rattle.teg_settle.specs.teg_net.Walks.{Walks, step_time, walk_time}
 use Rattle.teg_settle.specs.settled_laws.SettledForms.{SettledForm, step_of_form}
-use Rattle.teg_settle.specs.Transfers.{IsGreatestWalkTime, AreWalkTimes}
-use Rattle.teg_settle.specs.WalkTimes.{WalkTimesSettle}
+use Rattle.teg_settle.specs.walk_times.Transfers.{IsGreatestWalkTime, AreWalkTimes}
+use Rattle.teg_settle.specs.walk_times.WalkTimes.{WalkTimesSettle}
 use Rattle.realization_laws.specs.Realizations.{IsCausalPeriodic, TransfersArePeriodic}
 
 -- a walk waits one firing more

@@ -23,7 +23,7 @@ use Rattle.teg_settle.specs.teg_net.Walks.{Walks, step_time, walk_time}
 use Rattle.teg_settle.proofs.teg_model_proofs.Delays.{delayed_twice, delayed_not}
 use Rattle.teg_settle.specs.teg_model.LiveRanks.{HasEndsInRange}
 use Rattle.teg_settle.specs.teg_check.Ranks.{IsRanking, RankedNetsAreLive}
-use Rattle.teg_settle.specs.Transfers.{IsGreatestWalkTime}
+use Rattle.teg_settle.specs.walk_times.Transfers.{IsGreatestWalkTime}
 use Rattle.realization_laws.specs.Realizations.{IsCausalPeriodic, IsRealized, SeriesAreRealized}
 
 later_number : (time m : ℕ) → delayed time (At (pos m)) ≡ At (pos (m + time))

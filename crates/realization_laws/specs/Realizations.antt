@@ -7,7 +7,7 @@ use Rattle.teg_settle.specs.teg_net.declared.entries.Place.{Place}
 use Rattle.teg_settle.specs.teg_net.declared.entries.Transition.{Transition}
 use Rattle.teg_settle.specs.teg_net.Nets.{NetLists, HasEndsInRange, IsInput}
 use Rattle.teg_settle.specs.teg_net.Circuits.{IsLive}
-use Rattle.teg_settle.specs.Transfers.{IsGreatestWalkTime, AreWalkTimes}
+use Rattle.teg_settle.specs.walk_times.Transfers.{IsGreatestWalkTime, AreWalkTimes}
 
 -- each value is Early or a number from 0 on, no value falls, and from some shift on they go on by a step in each period
 pub record IsCausalPeriodic (s : ℕ → Date) : Type 0 where

@@ -11,7 +11,7 @@ use Rattle.teg_forever.specs.EndlessTexts.{IsRefusalIn}
 use Rattle.teg_net.specs.Nets.{NetLists}
 use Rattle.teg_outcome.specs.declared.outcome.Verdict.{Verdict}
 use Rattle.teg_commands.specs.Forever.{EndsUnreleased}
-use Rattle.teg_settle.proofs.Transferring.{input_within}
+use Rattle.teg_settle.proofs.walk_times_proofs.Walking.{input_within}
 
 pub refusal_in : (net : NetLists) (rows : List EndlessRow) → IsEndlessOf net rows → (refusal : ForeverRefusal) (verdict : Verdict) → EndsUnreleased refusal verdict →
     ForeverRefused net rows refusal → IsRefusalIn net refusal

@@ -24,8 +24,8 @@ use Rattle.teg_net.specs.Circuits.{IsLive}
 use Rattle.teg_net.specs.Walks.{walk_time}
 use Rattle.forever_laws.specs.settled_laws.SettledForms.{SettledForm, settled_length}
 use Rattle.teg_lags.specs.Lags.{AreLagged, IsFormMoved}
-use Rattle.teg_settle.specs.WalkTimes.{WalkTimesSettle}
-use Rattle.teg_settle.specs.Transfers.{IsGreatestWalkTime}
+use Rattle.teg_settle.specs.walk_times.WalkTimes.{WalkTimesSettle}
+use Rattle.teg_settle.specs.walk_times.Transfers.{IsGreatestWalkTime}
 use Rattle.teg_lags.proofs.Lagged.{LeadsSo, lagged_back, lagged_time, lagged_times, lagged_walk}
 use Rattle.teg_due.specs.RowNames.{is_input}
 use Rattle.forever_laws.specs.due_laws.LatestDates.{IsDateToDue, IsLatestDate}

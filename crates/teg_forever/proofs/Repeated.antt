@@ -11,7 +11,7 @@ use Rattle.series_form.specs.NumberBounds.{IsSeries}
 use Rattle.forever_laws.specs.periodic_laws.Equations.{gains}
 use Rattle.teg_net.specs.Nets.{NetLists}
 use Rattle.forever_laws.specs.settled_laws.SettledForms.{SettledForm}
-use Rattle.teg_settle.specs.Transfers.{IsTransferOf}
+use Rattle.teg_settle.specs.walk_times.Transfers.{IsTransferOf}
 use Rattle.endless_due.specs.declared.row.EndlessRow.{EndlessRow}
 use Rattle.forever_laws.specs.SeriesColumns.{AreSeriesColumns, IsDueSeries, IsWalkSeries, gain_residuals}
 use Rattle.forever_laws.proofs.OneColumn.{one_due, one_time}

@@ -12,7 +12,7 @@ use Rattle.series_ops.specs.declared.gains.Gain.{Gain}
 use Rattle.teg_net.specs.Nets.{NetLists}
 use Rattle.endless_due.specs.declared.row.EndlessRow.{EndlessRow}
 use Rattle.forever_laws.specs.SeriesColumns.{IsDueSeries, IsWalkSeries, due_date_at}
-use Rattle.teg_settle.specs.Transfers.{IsGreatestWalkTime}
+use Rattle.teg_settle.specs.walk_times.Transfers.{IsGreatestWalkTime}
 use Rattle.std.proofs.lemmas.Option.{slice_get_read}
 use Rattle.teg_forever.specs.InputAnswers.{FitsIfMade}
 

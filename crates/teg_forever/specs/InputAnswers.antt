@@ -11,7 +11,7 @@ use Rattle.series_ops.specs.declared.gains.Gain.{Gain}
 use Rattle.forever_laws.specs.periodic_laws.Equations.{gains}
 use Rattle.teg_net.specs.declared.entries.TransitionId.{TransitionId}
 use Rattle.teg_net.specs.Nets.{NetLists, IsInput}
-use Rattle.teg_settle.specs.Transfers.{TransferSettlesPast}
+use Rattle.teg_settle.specs.walk_times.Transfers.{TransferSettlesPast}
 use Rattle.endless_due.specs.declared.row.EndlessRow.{EndlessRow}
 use Rattle.forever_laws.specs.due_laws.MeetingDueDates.{InputsMeet, inputs_at_zero}
 use Rattle.endless_due.specs.EndlessRows.{due_on}

@@ -11,7 +11,7 @@ use Rattle.forever_laws.specs.periodic_laws.Equations.{gains}
 use Rattle.teg_net.specs.Nets.{NetLists, IsInput}
 use Rattle.forever_laws.specs.teg_model.Datings.{IsLeastUnder}
 use Rattle.forever_laws.specs.settled_laws.SettledForms.{SettledForm, settled_length}
-use Rattle.teg_settle.specs.Transfers.{IsTransferOf, TransferSettlesPast}
+use Rattle.teg_settle.specs.walk_times.Transfers.{IsTransferOf, TransferSettlesPast}
 use Rattle.forever_laws.specs.due_laws.MeetingDueDates.{InputsMeet, AreLatestInputs, inputs_at_zero}
 use Rattle.forever_laws.specs.due_laws.LatestDates.{IsLatestDate}
 use Rattle.forever_laws.specs.due_laws.LatestInputs.{LeadsToNoDue}

@@ -29,8 +29,8 @@ use Rattle.teg_net.specs.Walks.{Walks, step_time, walk_time}
 use Rattle.teg_settle.specs.settled_laws.SettledForms.{RepeatsAfter, IsTail, SettledForm, settled_length, row_of, step_of_form, IsShortestForm}
 use Rattle.teg_settle.proofs.settled_laws_proofs.Deciding.{same_date}
 use Rattle.teg_lags.specs.Lags.{AreLagged, HasHeldLonger, HasHold, IsHeldLonger, LaggedTimesAreMoved, LeadsLonger}
-use Rattle.teg_settle.specs.Transfers.{AreWalkTimes, IsGreatestWalkTime}
-use Rattle.teg_settle.proofs.Transferring.{input_within}
+use Rattle.teg_settle.specs.walk_times.Transfers.{AreWalkTimes, IsGreatestWalkTime}
+use Rattle.teg_settle.proofs.walk_times_proofs.Walking.{input_within}
 
 -- ---- numbers
 

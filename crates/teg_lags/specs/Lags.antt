@@ -8,7 +8,7 @@ use Rattle.teg_net.specs.Circuits.{from_of, place_at}
 use Rattle.teg_net.specs.Nets.{NetLists, IsNet, IsInput}
 use Rattle.teg_net.specs.PlaceLists.{ArePlacesOf}
 use Rattle.teg_settle.specs.settled_laws.SettledForms.{SettledForm, row_of, step_of_form}
-use Rattle.teg_settle.specs.Transfers.{IsTransferOf}
+use Rattle.teg_settle.specs.walk_times.Transfers.{IsTransferOf}
 
 -- place q has the end and the tokens of place p, and is held so much longer
 pub record IsHeldLonger (lag : ℤ) (p q : Place) : Type 0 where

@@ -10,11 +10,7 @@ mod OneDate
 pub mod OwnForms
 pub mod Reaching
 pub mod Transferring
-mod Numbering
-mod ReachedPart
 mod PartTold
-pub mod WalkForms
-pub mod OneTransfer
 pub mod Showing
 mod Steps
 pub use Rattle.periodic_laws.proofs.number_laws_proofs as number_laws_proofs
@@ -27,3 +23,4 @@ pub use Rattle.teg_check.proofs as teg_check_proofs
 pub use Rattle.slope_laws.proofs.teg_loops_proofs as teg_loops_proofs
 pub use Rattle.periodic_laws.proofs.teg_model_proofs as teg_model_proofs
 pub use Rattle.periodic_laws.proofs.settled_laws_proofs as settled_laws_proofs
+pub use Rattle.walk_times.proofs as walk_times_proofs

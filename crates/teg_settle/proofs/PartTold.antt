@@ -5,15 +5,16 @@ use Rattle.teg_net.specs.Nets.{NetLists, IsNet, IsInput}
 use Rattle.teg_net.specs.Circuits.{IsLive}
 use Rattle.teg_check.specs.Ranks.{IsRanking}
 use Rattle.periodic_laws.specs.settled_laws.SettledForms.{SettledForm, step_of_form}
-use Rattle.teg_settle.specs.declared.reached.Part.{Part}
+use Rattle.walk_times.specs.declared.reached.Part.{Part}
 use Rattle.teg_settle.specs.declared.releases.Releases.{Releases}
 use Rattle.teg_settle.specs.Alone.{IsReleasedAlone}
 use Rattle.teg_settle.specs.ComparedRows.{IsLeastForm, LeastSettlesPast}
-use Rattle.teg_settle.specs.Reached.{IsPartFrom}
+use Rattle.walk_times.specs.Reached.{IsPartFrom}
 use Rattle.settled_forms.specs.Spread.{IsSpreadOut}
-use Rattle.teg_settle.specs.Transfers.{IsTransferOf, TransferSettlesPast}
-use Rattle.teg_settle.proofs.ReachedPart.{part_is_live, part_input, told_by, told_least, told_shortest, repeats_in_part}
-use Rattle.teg_settle.proofs.Transferring.{alone_here, alone_times, input_within}
+use Rattle.walk_times.specs.Transfers.{IsTransferOf, TransferSettlesPast}
+use Rattle.walk_times.proofs.ReachedPart.{part_is_live, part_input, told_by, told_least, told_shortest, repeats_in_part}
+use Rattle.walk_times.proofs.Walking.{input_within}
+use Rattle.teg_settle.proofs.Transferring.{alone_here, alone_times}
 
 -- the new number of the input, as it is read
 pub own_there : (net : NetLists) (input : ℕ) (part : Part) → IsPartFrom net input part → IsInput net input → (n : ℕ) → n ≡ get_or part.new.items input n

@@ -24,12 +24,6 @@ use Rattle.teg_settle.specs.declared.lists.Span.{Span}
 use Rattle.teg_settle.specs.InitialReleases.{date_of_list}
 use Rattle.teg_settle.specs.Spans.{IsSpan}
 
--- what is read at a place within the list
-pub got : {X : Type 0} (xs : List X) (i : ℕ) (x : X) → i < length xs → ((d : X) → x ≡ get_or xs i d) → slice_get xs i ≡ Some x
-got [] i x l h = absurd (omega arith)
-got (y ∷ xs) zero x l h = ap Some (sym (h x))
-got (y ∷ xs) (suc i) x l h = got xs i x (omega arith) h
-
 pub moved_date : (gap : ℕ) (o : Option ℕ) → as_date (moved_by gap o) ≡ delayed gap (as_date o)
 moved_date gap None = refl
 moved_date gap (Some d) = ap At (omega (arith, ints))

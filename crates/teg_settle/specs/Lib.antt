@@ -8,14 +8,11 @@ pub mod Asked
 pub mod Witnesses
 pub mod ShortestForms
 pub mod Copies
-pub mod Transfers
 pub mod Alone
-pub mod Reached
 pub mod Spans
 pub mod LeastDates
 pub mod Steps
 pub mod SlopesOfNets
-pub mod WalkTimes
 pub use Rattle.dioid.specs as dioid
 pub use Rattle.periodic_laws.specs.dioid_matrix as dioid_matrix
 pub use Rattle.periodic_laws.specs.series_laws as series_laws
@@ -29,3 +26,4 @@ pub use Rattle.periodic_laws.specs.settled_laws as settled_laws
 pub use Rattle.periodic_laws.specs as periodic_laws
 pub use Rattle.date_rows.specs as date_rows
 pub use Rattle.settled_forms.specs as settled_forms
+pub use Rattle.walk_times.specs as walk_times

@@ -33,7 +33,7 @@
 //! it answers want of memory.
 //!
 //! The times of walks from an input are the same search over the system without initial tokens in
-//! which that input alone is released, at 0, in a part of the net (`src/reached.rt`): the
+//! which that input alone is released, at 0, in a part of the net (`part_from` of `walk_times`): the
 //! transitions where such a walk ends, under new numbers, and the places between them. What is left
 //! out has no date, so the least dating of the part tells that of the net (`ReachedPart`). The form
 //! of the part is then told of the whole net (`Settled::spread`): each transition has the number of
@@ -55,12 +55,10 @@
 
 mod asked;
 mod endless;
-mod laws;
 mod limited;
 mod lists;
 mod one_date;
 mod prefixes;
-mod reached;
 mod refusals;
 mod releases;
 mod search;
@@ -72,7 +70,6 @@ mod window;
 mod witness;
 
 pub use endless::{settle, settle_dates};
-pub use laws::{transfers_are_one, walk_times_settle};
 pub use limited::{settle_dates_within, settle_within, transfer};
 pub use one_date::{DateOrRows, date_of, date_within};
 pub use refusals::SettleRefusal;
@@ -80,3 +77,4 @@ pub use releases::{Releases, Repetition};
 pub use settled_forms::Settled;
 pub use shown::SettledDates;
 pub use step::{own_releases, shown_form};
+pub use walk_times::{transfers_are_one, walk_times_settle};

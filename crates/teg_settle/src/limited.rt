@@ -7,11 +7,10 @@ ghost use Rattle.teg_settle.specs.Asked.{IsAsked};
 ghost use Rattle.teg_settle.specs.LimitRefusals.{IsRightSettleRefusal, greatest_limit};
 ghost use Rattle.teg_settle.specs.ShortestForms.{IsFound};
 ghost use Rattle.teg_settle.specs.SlopesOfNets.{HasSlopes};
-ghost use Rattle.teg_settle.specs.Transfers.{IsTransferOf, TransferSettlesPast};
+ghost use Rattle.walk_times.specs.Transfers.{IsTransferOf, TransferSettlesPast};
 ghost use Rattle.teg_settle.specs.ComparedRows.{LeastSettlesPast};
 
 use crate::asked::{Asked, ready_tokens};
-use crate::reached::part_from;
 use crate::refusals::SettleRefusal;
 use crate::releases::Releases;
 use crate::search::{Found, search};
@@ -22,6 +21,7 @@ use settled_forms::Settled;
 use std::alloc::Global;
 use teg_check::{Live, ranks_of};
 use teg_net::{Net, OutOfMemory, TransitionId};
+use walk_times::part_from;
 
 // Rows that show the shortest form of the least dating of the net with these releases, if its
 // length is within the limit: rows of twice the limit and the tokens of a place show each form of

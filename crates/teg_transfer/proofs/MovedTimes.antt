@@ -24,7 +24,7 @@ use Rattle.teg_report.specs.declared.answer.TransferFrom.{TransferFrom}
 use Rattle.teg_report.specs.declared.answer.TransferLine.{TransferLine}
 use Rattle.teg_report.specs.AnswerMeanings.{times_from, times_to}
 use Rattle.teg_report.specs.SettledTexts.{TimesFrom, TimesTo}
-use Rattle.teg_settle.specs.WalkTimes.{WalkTimesSettle}
+use Rattle.teg_settle.specs.walk_times.WalkTimes.{WalkTimesSettle}
 use Rattle.teg_lags.specs.Lags.{AreLagged, IsFormMoved}
 use Rattle.teg_lags.proofs.Lagged.{lagged_times}
 use Rattle.teg_transfer.specs.MovedTimes.{AreMovedFrom, AreMovedFromOne, line_moved, times_moved}

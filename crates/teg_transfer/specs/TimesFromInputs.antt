@@ -8,7 +8,7 @@ use Rattle.teg_net.specs.declared.entries.Role.TheVariants.{Internal, Input, Out
 use Rattle.teg_net.specs.declared.entries.TransitionId.{TransitionId}
 use Rattle.teg_net.specs.Nets.{NetLists, IsInput}
 use Rattle.teg_report.specs.SettledTexts.{TimesFrom, TimesTo}
-use Rattle.teg_settle.specs.Transfers.{IsTransferOf, TransferSettlesPast}
+use Rattle.teg_settle.specs.walk_times.Transfers.{IsTransferOf, TransferSettlesPast}
 
 -- whether two roles are one
 abbrev pub is_same_role : Role → Role → Bool

@@ -1,7 +1,7 @@
 use Rattle.std.proofs.Common.{ℕ}
 use Rattle.teg_model.proofs.OfNet.{net_ends}
 use Rattle.teg_net.specs.Nets.{IsInput}
-use Rattle.teg_settle.specs.Transfers.{IsTransferOf}
+use Rattle.teg_settle.specs.walk_times.Transfers.{IsTransferOf}
 use Rattle.law_examples.proofs.forms.transfer_tells_dates.Goals as goal
 
 pub returns : goal.returns

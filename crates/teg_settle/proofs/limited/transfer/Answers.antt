@@ -1,6 +1,6 @@
 use Rattle.std.proofs.lemmas.Result.{err_from_is_err_and}
 use Rattle.teg_settle.specs.ComparedRows.{LeastSettlesPast}
-use Rattle.teg_settle.specs.Transfers.{TransferSettlesPast}
+use Rattle.walk_times.specs.Transfers.{TransferSettlesPast}
 use Rattle.teg_settle.proofs.Limiting.{refusal_weaker}
 use Rattle.teg_settle.proofs.PartTold.{own_there, live_part, input_there, form_told, past_told}
 use Rattle.teg_settle.proofs.Transferring.{alone_waits}

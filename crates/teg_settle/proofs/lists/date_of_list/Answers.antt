@@ -7,7 +7,7 @@ use Rattle.teg_net.specs.Nets.{IsInputOf}
 use Rattle.teg_net.specs.Inputs.{date_by_list, list_date}
 use Rattle.teg_net.proofs.InputDates.{list_date-most}
 use Rattle.periodic_laws.specs.teg_model.Datings.{as_date}
-use Rattle.teg_settle.proofs.Releasing.{got}
+use Rattle.walk_times.proofs.Numbering.{got}
 use Rattle.teg_settle.proofs.lists.date_of_list.Goals as goal
 
 pub returns-in-Some-date-clause-value : goal.returns-in-Some-date-clause-value

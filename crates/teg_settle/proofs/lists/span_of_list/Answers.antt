@@ -1,7 +1,8 @@
 use Rattle.std.proofs.Common.{◌≡◌, Some, sym, subst}
 use Rattle.std.specs.Prelude.{slice_get}
 use Rattle.teg_net.specs.Nets.{IsInputOf}
-use Rattle.teg_settle.proofs.Releasing.{got, span_list}
+use Rattle.walk_times.proofs.Numbering.{got}
+use Rattle.teg_settle.proofs.Releasing.{span_list}
 use Rattle.teg_settle.proofs.lists.span_of_list.Goals as goal
 
 pub returns-in-Some-again : goal.returns-in-Some-again

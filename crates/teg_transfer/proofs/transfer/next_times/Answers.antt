@@ -1,5 +1,5 @@
 use Rattle.std.proofs.Common.{ap}
-use Rattle.teg_settle.proofs.Transferring.{input_within}
+use Rattle.teg_settle.proofs.walk_times_proofs.Walking.{input_within}
 use Rattle.teg_transfer.proofs.MovedTimes.{moved_from_one}
 use Rattle.teg_transfer.proofs.transfer.next_times.Goals as goal
 

@@ -1,5 +1,0 @@
-use Rattle.teg_settle.proofs.OneTransfer.{transfers_are_one, transfer_limits_are_told}
-use Rattle.teg_settle.proofs.laws.transfers_are_one.Goals as goal
-
-pub returns : goal.returns
-returns c = record { one = transfers_are_one; limits = transfer_limits_are_told }

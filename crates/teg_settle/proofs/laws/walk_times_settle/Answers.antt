@@ -1,5 +1,0 @@
-use Rattle.teg_settle.proofs.WalkForms.{walk_forms}
-use Rattle.teg_settle.proofs.laws.walk_times_settle.Goals as goal
-
-pub returns : goal.returns
-returns c = walk_forms c.systems_settle.ensures.settles

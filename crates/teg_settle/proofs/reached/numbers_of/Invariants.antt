@@ -1,5 +1,0 @@
-use Rattle.teg_settle.specs.Reached.{IsNumbering}
-use Rattle.teg_settle.proofs.reached.numbers_of.Given as goal
-
-abbrev pub invariant-loop-index : goal.invariant-loop-index
-invariant-loop-index l = IsNumbering l.marks l.index l.old.items l.new.items

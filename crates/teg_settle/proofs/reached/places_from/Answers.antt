@@ -1,6 +1,0 @@
-use Rattle.std.proofs.Common.{rules}
-use Rattle.teg_settle.proofs.ReachedPart.{kept_more, left_out}
-use Rattle.teg_settle.proofs.reached.places_from.Goals as goal
-
-pub loop-place-preserved : goal.loop-place-preserved
-loop-place-preserved c = search (rules, kept_more, left_out)

@@ -1,0 +1,14 @@
+pub mod Walking
+pub mod WalkForms
+pub mod OneTransfer
+mod Numbering
+pub mod ReachedPart
+pub use Rattle.periodic_laws.proofs.number_laws_proofs as number_laws_proofs
+pub use Rattle.dioid.proofs as dioid_proofs
+pub use Rattle.periodic_laws.proofs.dioid_matrix_proofs as dioid_matrix_proofs
+pub use Rattle.periodic_laws.proofs.series_laws_proofs as series_laws_proofs
+pub use Rattle.periodic_laws.proofs.series_form_proofs as series_form_proofs
+pub use Rattle.teg_net.proofs as teg_net_proofs
+pub use Rattle.teg_check.proofs as teg_check_proofs
+pub use Rattle.periodic_laws.proofs.teg_model_proofs as teg_model_proofs
+pub use Rattle.periodic_laws.proofs.settled_laws_proofs as settled_laws_proofs
