@@ -7,7 +7,7 @@ use Rattle.teg_net.specs.Nets.{IsInputOf}
 use Rattle.teg_net.specs.Inputs.{date_by_list, list_date}
 use Rattle.teg_net.proofs.InputDates.{list_date-most}
 use Rattle.periodic_laws.specs.teg_model.Datings.{as_date}
-use Rattle.walk_times.proofs.Numbering.{got}
+use Rattle.std.proofs.lemmas.Option.{slice_get-get_or}
 use Rattle.teg_settle.proofs.lists.date_of_list.Goals as goal
 
 pub returns-in-Some-date-clause-value : goal.returns-in-Some-date-clause-value
@@ -15,7 +15,7 @@ returns-in-Some-date-clause-value c =
     let net = c.args.net.now in
     let l = c.in-Some.list.now in
     let read = rw c.inputs.ensures.value at c.in-Some.ensures.lookup in
-    let at : slice_get net.inputs c.args.list ≡ Some l = got net.inputs c.args.list l read.3.0 read.3.1 in
+    let at : slice_get net.inputs c.args.list ≡ Some l = slice_get-get_or net.inputs c.args.list l read.3.0 ∙ ap Some (sym (read.3.1 l)) in
     let is : Some c.in-Some-date.date ≡ list_date l.dates l.again c.args.number = sym c.in-Some-date.is ∙ c.date.ensures.value in
     let rules : IsInputOf net l = subst (IsInputOf net) (sym (read.3.1 l)) (c.inputs.ensures.rules.each_input c.args.list l read.3.0) in
     let most : c.in-Some-date.date ≤ greatest_input_date * (c.args.number + 1) =
@@ -27,6 +27,6 @@ returns-in-Some-date-clause-value c =
 pub returns-in-None-date-clause-value : goal.returns-in-None-date-clause-value
 returns-in-None-date-clause-value c =
     let read = rw c.inputs.ensures.value at c.in-Some.ensures.lookup in
-    let at : slice_get c.args.net.now.inputs c.args.list ≡ Some c.in-Some.list.now = got c.args.net.now.inputs c.args.list c.in-Some.list.now read.3.0 read.3.1 in
+    let at : slice_get c.args.net.now.inputs c.args.list ≡ Some c.in-Some.list.now = slice_get-get_or c.args.net.now.inputs c.args.list c.in-Some.list.now read.3.0 ∙ ap Some (sym (read.3.1 c.in-Some.list.now)) in
     let is : None ≡ list_date c.in-Some.list.now.dates c.in-Some.list.now.again c.args.number = sym c.in-None-date.is ∙ c.date.ensures.value in
     ap as_date is ∙ sym (ap (λ o. as_date (date_by_list o c.args.number)) at)
