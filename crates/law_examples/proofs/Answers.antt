@@ -21,6 +21,7 @@ use Rattle.teg_settle.specs.walk_times.Transfers.{IsTransferOf}
 use Rattle.change_laws.specs.SlowerNets.{IsSlowerNet, HasSlowerPlaces}
 use Rattle.change_laws.proofs.Changing.{ready_of_tokens}
 use Rattle.teg_model.proofs.OfNet.{net_ends}
+use Rattle.teg_net.proofs.NetRules.{lists_of_inputs}
 use Rattle.dating_laws.specs.SlowerNets.{SlowerNetsAreLater}
 use Rattle.pace_laws.specs.SlowerNets.{SlowerNetsHaveMore}
 use Rattle.io_laws.specs.InputOutput.{no_releases, IsOutput, DatesAreOutputsOfTransfers}
@@ -57,4 +58,4 @@ outputs_by law net ends live input only f h x u y a b =
 
 -- a live net for which a bound is told is strongly connected
 pub connected : (net : NetLists) → IsNet net → IsLive net → (number : ℕ) (b : IsBoundOf net number) → IsStronglyConnected net b.ratio.time b.ratio.tokens
-connected net ok live number b = record { net_rules = ok; live = live; no_input = b.alone.no_input; reaches = b.strong; ratio = b.greatest }
+connected net ok live number b = record { ends = net_ends net ok; lists = lists_of_inputs net ok; live = live; no_input = b.alone.no_input; reaches = b.strong; ratio = b.greatest }

@@ -9,7 +9,7 @@ ghost use Rattle.game_laws.specs.LiveByTheGame.{FiresEach, NoInputListEnds};
 ghost use Rattle.teg_check.specs.Ranks.{IsRanking};
 
 use game_laws::{
-    earliest_dates_exist, firings_are_legal_or_fail, live_nets_fire_on,
+    earliest_dates_exist, firings_are_legal_or_fail, live_nets_fire_on, places_fill_up,
     places_hold_within_circuits, token_free_circuits_never_fire, tokens_on_circuits_stay,
 };
 use run_laws::Fired;
@@ -35,6 +35,21 @@ pub fn place_is_within(net: &Net, game: &Game, circuit: &[PlaceId], place: Place
     ensures { tokens_in game.now.run (place_at net.now place) ≤ tokens_of net.now circuit.now }
 {
     places_hold_within_circuits();
+}
+
+/// Some run fills a place with as many tokens as each circuit through it has at least.
+pub fn place_fills_up(net: &Net, live: &Live, place: PlaceId, most: u64)
+    requires live { IsRanking net.now live.now }
+    requires lists { NoInputListEnds net.now }
+    requires place { place.index < length net.now.places }
+    requires most { (ps : List PlaceId) → IsCircuit net.now ps → Contains ps place
+        → most ≤ tokens_of net.now ps }
+    ensures { (run : List Fired) × IsLegalRun net.now run
+        × (most ≤ tokens_in run (place_at net.now place)) }
+{
+    net.rules();
+    ranked_nets_are_live();
+    places_fill_up();
 }
 
 /// A firing may follow the game, or fails in one of the three ways.

@@ -1,7 +1,7 @@
 //! The pace of a net and of its parts, from the answers of calls.
-ghost use Rattle.std.specs.Prelude.{ℕ, ℤ, ◌+ℤ◌, ◌*◌, ◌≤◌, ◌≡◌, ◌⊎◌, ◌↔◌, List, length, All};
+ghost use Rattle.std.specs.Prelude.{ℕ, ℤ, ◌+ℤ◌, ◌*◌, ◌≤◌, ◌≡◌, ◌⊎◌, ◌↔◌, List, length, All, Contains};
 ghost use Rattle.delay_laws.specs.PlannedTimetables.{IsWorkable};
-ghost use Rattle.pace_laws.specs.Eigenspaces.{AreBegunAt, AreInOneCriticalPart, IsSpannedAt};
+ghost use Rattle.pace_laws.specs.Eigenspaces.{AreBegunAt, AreGreatestFrom, AreInOneCriticalPart, IsCriticalTransition, IsSpannedAt};
 ghost use Rattle.pace_laws.specs.TightPotentials.{ArePacedDates, AreTightPotentials, IsCriticalIn, IsTightInto};
 ghost use Rattle.policy_laws.specs.RoundCounts.{most_ratios};
 ghost use Rattle.teg_check.specs.Ranks.{IsRanking};
@@ -16,8 +16,9 @@ ghost use Rattle.workable_laws.specs.WorkablePeriods.{AreWorkableFirsts, LeavesC
 
 use delay_laws::Timetable;
 use pace_laws::{
-    critical_circuits_tell_potentials, critical_parts_tell_potentials, greatest_ratios_exist,
-    potentials_are_spanned, tight_potentials_exist, tight_potentials_tell_the_ratio,
+    critical_circuits_tell_potentials, critical_parts_are_a_basis, critical_parts_tell_potentials,
+    greatest_ratios_exist, potentials_are_spanned, tight_potentials_exist,
+    tight_potentials_tell_the_ratio,
 };
 use policy_laws::rounds_are_few;
 use teg_check::{Live, ranked_nets_are_live};
@@ -134,6 +135,27 @@ pub fn potentials_move_as_one(
         ≡ (potential_at second.now to +ℤ potential_at first.now from) }
 {
     critical_parts_tell_potentials();
+}
+
+/// Potentials that begin at a critical transition are the greatest of others only where one of these
+/// begins in its critical part.
+pub fn none_is_left_out(
+    net: &Net,
+    parts: &Parts,
+    part: u32,
+    ratio: Ratio,
+    transition: u32,
+    starts: &[u32],
+)
+    requires critical { IsCriticalTransition net.now parts.now.part_of part ratio.time ratio.tokens
+        transition }
+    ensures { (moved v : ℕ → ℤ)
+        → AreBegunAt net.now parts.now.part_of part ratio.time ratio.tokens transition v
+        → AreGreatestFrom net.now parts.now.part_of part ratio.time ratio.tokens starts.now moved v
+        → (u : ℕ) × Contains starts.now u
+        × AreInOneCriticalPart net.now parts.now.part_of part ratio.time ratio.tokens transition u }
+{
+    critical_parts_are_a_basis();
 }
 
 /// Some potentials begin at each member of a part.

@@ -10,9 +10,12 @@ ghost use Rattle.slope_laws.specs.Slopes.{IsSlope};
 ghost use Rattle.teg_check.specs.Ranks.{IsRanking};
 ghost use Rattle.teg_model.specs.Datings.{IsLeastDating};
 ghost use Rattle.teg_model.specs.dioid.declared.dates.Date.{Date};
+ghost use Rattle.teg_net.specs.Limits.{most_place_tokens};
 ghost use Rattle.teg_settle.specs.walk_times.Transfers.{IsTransferOf};
 
-use cyclicity_laws::{common_numbers_exist, cyclicity_is_by_parts, dates_repeat_by_parts};
+use cyclicity_laws::{
+    common_numbers_exist, cyclicity_is_by_parts, dates_repeat_by_parts, transfers_repeat_by_parts,
+};
 use teg_check::{Live, ranked_nets_are_live};
 use teg_net::{Net, Ratio, TransitionId};
 use teg_settle::Settled;
@@ -39,7 +42,7 @@ pub fn dates_repeat(net: &Net, live: &Live, transition: TransitionId, slope: Rat
 pub fn period_divides_by_size(net: &Net, live: &Live, form: &Settled)
     requires live { IsRanking net.now live.now }
     requires form { IsSettledFormOf net.now form.now }
-    ensures { form.now.period ∣ common_number net.now }
+    ensures { form.now.period ∣ common_number net.now most_place_tokens }
 {
     net.rules();
     ranked_nets_are_live();
@@ -63,4 +66,17 @@ pub fn transfer_divides(
     ensures { transfer.now.period ∣ multiple }
 {
     cyclicity_is_by_parts();
+}
+
+/// The period of each transfer of a live net divides a number that its size tells.
+pub fn transfer_divides_by_size(net: &Net, live: &Live, start: TransitionId, transfer: &Settled)
+    requires live { IsRanking net.now live.now }
+    requires start { start.index < length net.now.transitions }
+    requires transfer { IsTransferOf net.now start.index transfer.now }
+    ensures { transfer.now.period ∣ common_number net.now most_place_tokens }
+{
+    net.rules();
+    ranked_nets_are_live();
+    common_numbers_exist();
+    transfers_repeat_by_parts();
 }

@@ -5,6 +5,7 @@ ghost use Rattle.due_laws.specs.MeetingDueDates.{inputs_at_zero, AreInputs, Inpu
 ghost use Rattle.latest_laws.specs.BackwardEquations.{IsLeastAhead};
 ghost use Rattle.latest_laws.specs.BackwardSolutions.{AreDueUpTo};
 ghost use Rattle.latest_laws.specs.Floats.{IsAtMostOn};
+ghost use Rattle.planning_laws.specs.GivenInputs.{AreGiven, AreInTime, MeetsFrom};
 ghost use Rattle.latest_laws.specs.MetByStarts.{StartsAreKept};
 ghost use Rattle.latest_laws.specs.ShiftedDues.{later_due};
 ghost use Rattle.teg_check.specs.Ranks.{IsRanking};
@@ -26,6 +27,7 @@ use latest_laws::{
     latest_dates_move_with_dues, latest_dates_solve_backwards, tight_walks_bound,
     zero_inputs_meet_by_starts,
 };
+use planning_laws::given_inputs_meet_in_time;
 use teg_check::{Live, ranked_nets_are_live};
 use teg_due::Due;
 use teg_jit::Plan;
@@ -117,6 +119,20 @@ pub fn meets_up_to_plan(net: &Net, live: &Live, due: &Due, plan: &Plan)
     net.rules();
     ranked_nets_are_live();
     inputs_meet_up_to_latest();
+}
+
+/// Where the first inputs are given, some meet the due dates just where each is in time by the plan.
+pub fn given_meet_by_plan(net: &Net, live: &Live, due: &Due, plan: &Plan)
+    requires live { IsRanking net.now live.now }
+    requires plan { IsPlanFor net.now (due_in due.now.rows.items) plan.now }
+    requires zero { InputsMeet net.now (due_in due.now.rows.items) inputs_at_zero }
+    ensures { (n : ℕ → ℕ) (given : ℕ → ℕ → Date) → AreGiven net.now n given
+        → ((v : ℕ → ℕ → Date) × MeetsFrom net.now (due_in due.now.rows.items) n given v)
+        ↔ AreInTime net.now n given (dates_of_plan plan.now) }
+{
+    net.rules();
+    ranked_nets_are_live();
+    given_inputs_meet_in_time();
 }
 
 /// Inputs at 0 meet the due dates just where no date of the plan is before its start.

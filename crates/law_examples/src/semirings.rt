@@ -4,14 +4,17 @@ ghost use Rattle.algebra_laws.specs.WalkWeights.{dates, HasGreatestWeights};
 ghost use Rattle.dioid.specs.Dates.{date_product};
 ghost use Rattle.dioid.specs.DioidAxioms.{IsAtMost};
 ghost use Rattle.dioid_matrix.specs.Tables.{entry_of};
-ghost use Rattle.dioid_laws.specs.SquareMatrices.{SquaresAreDioid, SquaresHaveResiduals, SquaresHaveStars};
+ghost use Rattle.dioid_laws.specs.Commuting.{ProductsCommute};
+ghost use Rattle.dioid_laws.specs.RightHand.{square_right, RightResidualLaws};
+ghost use Rattle.dioid_laws.specs.SquareMatrices.{square_dioid, square_residuals, SquaresAreDioid, SquaresHaveResiduals, SquaresHaveStars};
 
 use algebra_laws::stars_have_greatest_weights;
 use dioid::{Date, Dioid, Kleene, Residuated};
 use dioid_laws::{
     equations_are_solved_by_residuals, feedback_keeps_transfers, products_commute,
-    residuals_are_lawful, square_matrices_are_a_dioid, square_matrices_have_residuals,
-    square_matrices_have_stars, stars_are_lawful, stars_have_residuals, sums_are_ordered,
+    residuals_are_lawful, residuals_divide_on_the_right, square_matrices_are_a_dioid,
+    square_matrices_have_residuals, square_matrices_have_stars, stars_act_on_the_right,
+    stars_are_lawful, stars_have_residuals, sums_are_ordered,
 };
 use dioid_matrix::{Matrix, MatrixRefused};
 use std::alloc::Global;
@@ -95,6 +98,27 @@ pub fn solved_by_residual<D: Residuated>(a: &D, b: &D)
         ↔ (D.product a.now (D.left a.now b.now) ≡ b.now) }
 {
     equations_are_solved_by_residuals::<D>();
+}
+
+/// Where products commute, a star on the right is within each solution.
+pub fn star_is_least_on_the_right<D: Kleene>(a: &D, b: &D, x: &D)
+    requires commute { ProductsCommute D.Dioid }
+    requires first { D.is_element a.now }
+    requires second { D.is_element b.now }
+    requires third { D.is_element x.now }
+    requires solves { IsAtMost D.sum (D.sum (D.product x.now a.now) b.now) x.now }
+    ensures { IsAtMost D.sum (D.product b.now (D.star a.now)) x.now }
+{
+    stars_act_on_the_right::<D>();
+}
+
+/// Square matrices are divided on the right.
+pub fn matrices_divide_on_the_right<D: Residuated>(rows: u32)
+    requires commute { ProductsCommute D.Dioid }
+    ensures { RightResidualLaws (square_dioid D.Dioid rows)
+        (square_residuals D.Dioid D.Residuated.own rows) (square_right D.Dioid D.Residuated.own rows) }
+{
+    residuals_divide_on_the_right::<D>();
 }
 
 /// The greatest weight of the walks from a row to a column of a matrix of dates.
