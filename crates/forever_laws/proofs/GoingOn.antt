@@ -10,7 +10,7 @@ use Rattle.teg_net.specs.Nets.{NetLists, IsInputOf, lists_of}
 use Rattle.teg_net.specs.Inputs.{laps_past, moved_by}
 use Rattle.teg_net.proofs.InputDates.{one_round, more_rounds, date_le}
 use Rattle.teg_settle.specs.teg_model.Datings.{as_date}
-use Rattle.teg_settle.proofs.Listing.{dates_climb}
+use Rattle.teg_settle.proofs.list_spans_proofs.Listing.{dates_climb}
 use Rattle.endless_due.specs.declared.row.EndlessRow.{EndlessRow}
 use Rattle.endless_due.specs.EndlessRows.{again_of_row, row_due, IsEndlessRow}
 use Rattle.forever_laws.specs.EndlessDues.{RowsGoOn}

@@ -33,7 +33,7 @@ use Rattle.teg_settle.specs.declared.releases.Wait.TheVariants.{Nothing, Dates}
 use Rattle.teg_settle.specs.declared.releases.Releases.{Releases}
 use Rattle.teg_settle.specs.InitialReleases.{initial_by, release_as, wait_in, release_by, system_for, OnlyInputsWait}
 use Rattle.teg_settle.specs.ComparedRows.{IsReady}
-use Rattle.teg_settle.proofs.Listing.{got_rules, dates_climb, dates_late, dates_within}
+use Rattle.list_spans.proofs.Listing.{got_rules, dates_climb, dates_late, dates_within}
 
 pub ranks_on : (net : NetLists) (r : Releases) (most : ℕ) (h : IsReady net r most) → AreRanks (extended_places net) 400 (rank_of h.ranks)
 ranks_on net r most h = ranks_extended net 400 (rank_of h.ranks) (ranks_of net h.ranks h.is_net h.ranking)

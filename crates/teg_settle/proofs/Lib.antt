@@ -1,5 +1,3 @@
-pub mod Releasing
-pub mod Listing
 pub mod Leasts
 pub mod Tested
 mod Striking
@@ -24,3 +22,4 @@ pub use Rattle.slope_laws.proofs.teg_loops_proofs as teg_loops_proofs
 pub use Rattle.periodic_laws.proofs.teg_model_proofs as teg_model_proofs
 pub use Rattle.periodic_laws.proofs.settled_laws_proofs as settled_laws_proofs
 pub use Rattle.walk_times.proofs as walk_times_proofs
+pub use Rattle.list_spans.proofs as list_spans_proofs

@@ -13,7 +13,7 @@ use Rattle.teg_settle.specs.declared.refusals.SettleRefusal.{SettleRefusal}
 use Rattle.teg_settle.specs.declared.refusals.SettleRefusal.TheVariants.{TooLong, OutOfMemory}
 use Rattle.teg_settle.specs.LimitRefusals.{IsRightSettleRefusal}
 use Rattle.teg_settle.specs.InitialReleases.{OnlyInputsWait}
-use Rattle.teg_settle.specs.Spans.{AreSpans}
+use Rattle.list_spans.specs.Spans.{AreSpans}
 use Rattle.teg_settle.specs.declared.search.Found.{Found}
 use Rattle.teg_settle.specs.ShortestForms.{IsFound}
 use Rattle.teg_settle.specs.ComparedRows.{IsReady, IsRefuted, IsSeen, IsToldBy, IsLeastForm, LeastSettlesPast}

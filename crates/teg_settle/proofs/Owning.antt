@@ -19,7 +19,8 @@ use Rattle.teg_settle.specs.declared.releases.Tokens.TheVariants.{Ready}
 use Rattle.teg_settle.specs.declared.releases.Wait.{Wait}
 use Rattle.teg_settle.specs.declared.releases.Wait.TheVariants.{Nothing, Dates}
 use Rattle.teg_settle.specs.declared.releases.Releases.{Releases}
-use Rattle.teg_settle.specs.InitialReleases.{initial_by, date_of_list, release_as, wait_in, release_by, system_for, AreWaits, list_number, wait_by_role, wait_by, wait_of, OnlyInputsWait}
+use Rattle.list_spans.specs.ListDates.{date_of_list, list_number}
+use Rattle.teg_settle.specs.InitialReleases.{initial_by, release_as, wait_in, release_by, system_for, AreWaits, wait_by_role, wait_by, wait_of, OnlyInputsWait}
 
 -- releases that are one give one least dating
 feasible_same : (net : NetLists) (init : InitialDates) (rel other x : Dating) → ((t k : ℕ) → rel t k ≡ other t k)

@@ -17,7 +17,7 @@ use Rattle.date_rows.specs.KeptRows.{IsRows, AreLeastRows}
 use Rattle.teg_settle.specs.declared.releases.Releases.{Releases}
 use Rattle.teg_settle.specs.declared.releases.Repetition.{Repetition}
 use Rattle.teg_settle.specs.InitialReleases.{OnlyInputsWait, release_by, system_for}
-use Rattle.teg_settle.specs.Spans.{AreSpans}
+use Rattle.list_spans.specs.Spans.{AreSpans}
 
 -- rows that a window may have, and a period, at most
 abbrev pub most_window : ℕ

@@ -3,7 +3,6 @@
 -- of `own_releases` rests on `AreWaits` and `wait_of`; no other of them stands below the contract of a public call, but
 -- those that these name.
 use Rattle.std.specs.Prelude.{ℕ, ◌<◌, ◌≡◌, ◌==◌, if◌then◌else◌, List, Option, Some, None, length, slice_get, slice_index_or}
-use Rattle.std.specs.List.{position_or_len}
 use Rattle.dioid.specs.declared.dates.Date.{Date}
 use Rattle.dioid.specs.declared.dates.Date.TheVariants.{Early}
 use Rattle.teg_net.specs.declared.entries.Role.{Role}
@@ -11,9 +10,9 @@ use Rattle.teg_net.specs.declared.entries.Role.TheVariants.{Internal, Input, Out
 use Rattle.teg_net.specs.declared.entries.Transition.{Transition}
 use Rattle.teg_net.specs.declared.entries.Place.{Place}
 use Rattle.teg_net.specs.Nets.{NetLists, IsInput}
-use Rattle.teg_net.specs.Inputs.{date_by_list}
 use Rattle.periodic_laws.specs.teg_model.Systems.{System}
-use Rattle.periodic_laws.specs.teg_model.Datings.{as_date, initial_date, system_with}
+use Rattle.periodic_laws.specs.teg_model.Datings.{initial_date, system_with}
+use Rattle.list_spans.specs.ListDates.{date_of_list, list_number}
 use Rattle.teg_settle.specs.declared.releases.Tokens.{Tokens}
 use Rattle.teg_settle.specs.declared.releases.Tokens.TheVariants.{Ready, Absent}
 use Rattle.teg_settle.specs.declared.releases.Wait.{Wait}
@@ -24,10 +23,6 @@ use Rattle.teg_settle.specs.declared.releases.Releases.{Releases}
 abbrev pub initial_by : Tokens → Place → ℕ → Date
 initial_by Ready p k = initial_date p k
 initial_by Absent p k = Early
-
--- the date that the net's list of this number gives firing k, and 0 where it has none
-abbrev pub date_of_list : NetLists → ℕ → ℕ → Date
-date_of_list net list k = as_date (date_by_list (slice_get net.inputs list) k)
 
 -- the date before which firing k of a transition that so waits is not released
 abbrev pub release_as : NetLists → Wait → ℕ → Date
@@ -50,10 +45,6 @@ system_for r net = system_with net (initial_by r.tokens) (release_by r.waits.ite
 pub record AreWaits (net : NetLists) (f : ℕ → Wait) (waits : List Wait) : Type 0 where
   pub count : length waits ≡ length net.transitions
   pub each : (t : ℕ) → t < length net.transitions → wait_in waits t ≡ f t
-
--- the number of the list of transition t, or of no list
-abbrev pub list_number : NetLists → ℕ → ℕ
-list_number net t = position_or_len (λ l. l.transition.index == t) net.inputs
 
 -- an input waits for the dates of a list, every other transition for nothing
 abbrev pub wait_by_role : Role → ℕ → Wait

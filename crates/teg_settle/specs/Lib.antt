@@ -9,7 +9,6 @@ pub mod Witnesses
 pub mod ShortestForms
 pub mod Copies
 pub mod Alone
-pub mod Spans
 pub mod LeastDates
 pub mod Steps
 pub mod SlopesOfNets
@@ -27,3 +26,4 @@ pub use Rattle.periodic_laws.specs as periodic_laws
 pub use Rattle.date_rows.specs as date_rows
 pub use Rattle.settled_forms.specs as settled_forms
 pub use Rattle.walk_times.specs as walk_times
+pub use Rattle.list_spans.specs as list_spans

@@ -11,7 +11,7 @@ use Rattle.teg_settle.specs.declared.releases.Tokens.TheVariants.{Ready}
 use Rattle.teg_settle.specs.declared.releases.Releases.{Releases}
 use Rattle.teg_settle.specs.declared.releases.Repetition.{Repetition}
 use Rattle.teg_settle.specs.InitialReleases.{AreWaits, wait_of}
-use Rattle.teg_settle.specs.Spans.{AreSpans}
+use Rattle.list_spans.specs.Spans.{AreSpans}
 use Rattle.teg_settle.specs.ComparedRows.{read_step}
 
 -- the releases are the ready dates and the input lists of the net, with from where on these go on evenly

@@ -3,7 +3,7 @@ use Rattle.std.specs.Prelude.{ℕ, ◌+◌, ◌≤◌, All}
 use Rattle.teg_net.specs.Nets.{NetLists}
 use Rattle.date_rows.specs.DateTables.{TableDates}
 use Rattle.teg_settle.specs.declared.releases.Releases.{Releases}
-use Rattle.teg_settle.specs.Spans.{AreSpans}
+use Rattle.list_spans.specs.Spans.{AreSpans}
 use Rattle.teg_settle.specs.ComparedRows.{AreComparedRows, IsRisingPlace, IsMovedAt, IsMovedPast, AreReleasedAlike}
 
 -- a period that is tested on rows of dates and on releases, past a number

@@ -2,7 +2,7 @@
 ghost use Rattle.std.specs.Prelude.{◌≤◌};
 ghost use Rattle.teg_check.specs.Ranks.{IsRanking};
 ghost use Rattle.teg_settle.specs.InitialReleases.{OnlyInputsWait};
-ghost use Rattle.teg_settle.specs.Spans.{AreSpans};
+ghost use Rattle.list_spans.specs.Spans.{AreSpans};
 ghost use Rattle.teg_settle.specs.ComparedRows.{IsReady};
 
 use crate::releases::Releases;

@@ -56,7 +56,6 @@
 mod asked;
 mod endless;
 mod limited;
-mod lists;
 mod one_date;
 mod prefixes;
 mod refusals;

@@ -4,13 +4,14 @@ ghost use Rattle.std.specs.Prelude.{◌≡◌, ◌≤◌, ◌^◌, IfOk};
 ghost use Rattle.teg_net.specs.Limits.{greatest_firing_number};
 ghost use Rattle.periodic_laws.specs.teg_model.DateBounds.{IsDateWithin};
 ghost use Rattle.teg_settle.specs.Alone.{IsReleasedAlone};
-ghost use Rattle.teg_settle.specs.InitialReleases.{list_number, release_by, wait_by_role, wait_in};
-ghost use Rattle.teg_settle.specs.Spans.{AreSpans, IsSpan};
+ghost use Rattle.list_spans.specs.ListDates.{list_number};
+ghost use Rattle.teg_settle.specs.InitialReleases.{release_by, wait_by_role, wait_in};
+ghost use Rattle.list_spans.specs.Spans.{AreSpans, IsSpan};
 ghost use Rattle.teg_settle.specs.Steps.{AreOwnReleases};
 
-use crate::lists::{Span, date_of_list, list_number, spans_of};
 use date_rows::Source;
 use dioid::Date;
+use list_spans::{Span, date_of_list, list_number, spans_of};
 use std::alloc::{AllocError, Global};
 use teg_net::{Net, PlaceId, Role, TransitionId};
 

@@ -4,7 +4,7 @@ use Rattle.std.proofs.lemmas.Int.{to_z-of_z}
 use Rattle.dioid.specs.Dates.{move}
 use Rattle.periodic_laws.proofs.settled_laws_proofs.Driven.{GoOn, goes_on_again}
 use Rattle.teg_settle.specs.InitialReleases.{release_by}
-use Rattle.teg_settle.specs.Spans.{IsSpan}
+use Rattle.list_spans.specs.Spans.{IsSpan}
 use Rattle.teg_settle.specs.Witnesses.{TestedPeriod}
 use Rattle.teg_settle.proofs.witness.PeriodTest.last_release_apart.Goals as goal
 

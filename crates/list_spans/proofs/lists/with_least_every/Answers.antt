@@ -1,8 +1,8 @@
 use Rattle.std.proofs.Common.{◌*◌, refl, arith}
 use Rattle.std.specs.Prelude.{◌/◌}
-use Rattle.teg_settle.specs.InitialReleases.{date_of_list}
-use Rattle.teg_settle.proofs.Releasing.{span_again, shorter_gap}
-use Rattle.teg_settle.proofs.lists.with_least_every.Goals as goal
+use Rattle.list_spans.specs.ListDates.{date_of_list}
+use Rattle.list_spans.proofs.Spanning.{span_again, shorter_gap}
+use Rattle.list_spans.proofs.lists.with_least_every.Goals as goal
 
 pub returns-then-goes_on_for : goal.returns-then-goes_on_for
 returns-then-goes_on_for c =

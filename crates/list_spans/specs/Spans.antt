@@ -4,8 +4,8 @@ use Rattle.dioid.specs.declared.dates.Date.{Date}
 use Rattle.dioid.specs.Dates.{delayed}
 use Rattle.teg_net.specs.Limits.{greatest_every, greatest_input_date, most_input_dates}
 use Rattle.teg_net.specs.Nets.{NetLists}
-use Rattle.teg_settle.specs.declared.lists.Span.{Span}
-use Rattle.teg_settle.specs.InitialReleases.{date_of_list}
+use Rattle.list_spans.specs.declared.lists.Span.{Span}
+use Rattle.list_spans.specs.ListDates.{date_of_list}
 
 -- past its number the dates u go on by its gap in each so many numbers
 pub record IsSpan (u : ℕ → Date) (span : Span) : Type 0 where

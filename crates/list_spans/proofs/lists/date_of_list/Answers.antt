@@ -6,9 +6,9 @@ use Rattle.teg_net.specs.Limits.{greatest_input_date}
 use Rattle.teg_net.specs.Nets.{IsInputOf}
 use Rattle.teg_net.specs.Inputs.{date_by_list, list_date}
 use Rattle.teg_net.proofs.InputDates.{list_date-most}
-use Rattle.periodic_laws.specs.teg_model.Datings.{as_date}
+use Rattle.settled_laws.specs.teg_model.Datings.{as_date}
 use Rattle.std.proofs.lemmas.Option.{slice_get-get_or}
-use Rattle.teg_settle.proofs.lists.date_of_list.Goals as goal
+use Rattle.list_spans.proofs.lists.date_of_list.Goals as goal
 
 pub returns-in-Some-date-clause-value : goal.returns-in-Some-date-clause-value
 returns-in-Some-date-clause-value c =

@@ -2,25 +2,28 @@
 ghost use Rattle.std.specs.Prelude.{◌≡◌, ◌+◌, ◌<◌, ◌≤◌, ◌^◌, IfOk, IsTrue, ℕ};
 ghost use Rattle.dioid.specs.Dates.{delayed};
 ghost use Rattle.teg_net.specs.Limits.{greatest_every, greatest_firing_number, most_input_dates};
-ghost use Rattle.periodic_laws.specs.teg_model.DateBounds.{IsDateWithin};
-ghost use Rattle.teg_settle.specs.InitialReleases.{date_of_list, list_number};
-ghost use Rattle.teg_settle.specs.Spans.{AreSpans, IsSpan};
+ghost use Rattle.settled_laws.specs.teg_model.DateBounds.{IsDateWithin};
+ghost use Rattle.list_spans.specs.ListDates.{date_of_list, list_number};
+ghost use Rattle.list_spans.specs.Spans.{AreSpans, IsSpan};
 
 use dioid::Date;
 use std::alloc::{AllocError, Global};
 use teg_net::{Net, TransitionId};
 
-// Past a number the dates go on evenly: in each so many numbers by a gap.
+/// Past a number the dates go on evenly: in each so many numbers by a gap.
 #[derive(Clone, Copy, Debug, Drop)]
-pub(crate) struct Span {
-    pub(crate) after: u64,
-    pub(crate) every: u64,
-    pub(crate) gap: u64,
+pub struct Span {
+    /// The number, 0 or more.
+    pub after: u64,
+    /// How many numbers, at least 1.
+    pub every: u64,
+    /// By how much later the dates are, in the user's unit.
+    pub gap: u64,
 }
 
 impl Span {
-    // Each date is that of the first number.
-    pub(crate) fn from_start() -> Span
+    /// Each date is that of the first number.
+    pub fn from_start() -> Span
         ensures { result ≡ record { after = 0; every = 1; gap = 0 } }
     {
         Span {
@@ -31,8 +34,8 @@ impl Span {
     }
 }
 
-// The number of the transition's list, or of no list.
-pub(crate) fn list_number(net: &Net, transition: TransitionId) -> usize
+/// The number of the transition's list, or the number of all lists where it has none.
+pub fn list_number(net: &Net, transition: TransitionId) -> usize
     ensures { result ≡ list_number net.now transition.index }
 {
     let lists = net.inputs();
@@ -45,8 +48,9 @@ pub(crate) fn list_number(net: &Net, transition: TransitionId) -> usize
     }
 }
 
-// The date that the list of this number gives the firing, and 0 where the net has no such list.
-pub(crate) fn date_of_list(net: &Net, list: usize, number: u64) -> Date
+/// The date that the list of this number gives the firing (chapter 1), and 0 where the net has no
+/// such list; `Never` past the end of a list that does not go on.
+pub fn date_of_list(net: &Net, list: usize, number: u64) -> Date
     requires first { 1 ≤ number }
     requires last { number ≤ greatest_firing_number }
     ensures value { result ≡ date_of_list net.now list number }
@@ -139,7 +143,7 @@ fn with_least_every(net: &Net, list: usize) -> Span
 
 // The span of the list of this number: the least by which its dates go on, from the least number
 // on.
-pub(crate) fn least_span(net: &Net, list: usize) -> Span
+fn least_span(net: &Net, list: usize) -> Span
     ensures { IsSpan (date_of_list net.now list) result }
 {
     let mut span = with_least_every(net, list);
@@ -149,8 +153,10 @@ pub(crate) fn least_span(net: &Net, list: usize) -> Span
     span
 }
 
-// The same of each list.
-pub(crate) fn spans_of(alloc: Global, net: &Net) -> Result<Vec<Span>, AllocError>
+/// Of each input list of the net from where on its dates go on evenly, by the least number of dates
+/// in which they do, from the least number on. It comes to `AllocError` only where no memory is
+/// found.
+pub fn spans_of(alloc: Global, net: &Net) -> Result<Vec<Span>, AllocError>
     ensures { IfOk result (λ spans. AreSpans net.now spans.items) }
 {
     let mut spans = Vec::new(alloc);

@@ -1,8 +1,8 @@
 use Rattle.std.proofs.Common.{◌∙◌, eqb, sym, rules, tests}
 use Rattle.std.proofs.lemmas.Iterator.{YieldsList-from_slice}
 use Rattle.std.proofs.lemmas.Iterator.Search.{position_from_yields_List}
-use Rattle.teg_settle.proofs.Releasing.{place_found, place_none}
-use Rattle.teg_settle.proofs.lists.list_number.Goals as goal
+use Rattle.list_spans.proofs.Spanning.{place_found, place_none}
+use Rattle.list_spans.proofs.lists.list_number.Goals as goal
 
 pub returns-in-Some : goal.returns-in-Some
 returns-in-Some c =

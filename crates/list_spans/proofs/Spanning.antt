@@ -18,11 +18,11 @@ use Rattle.teg_net.specs.declared.entries.InputList.{InputList}
 use Rattle.teg_net.specs.Nets.{NetLists, EndsOrGoesOn}
 use Rattle.teg_net.specs.Inputs.{moved_by, GoOnBy, date_by_list, list_date}
 use Rattle.teg_net.proofs.InputDates.{IsInputDates-list_date}
-use Rattle.periodic_laws.specs.teg_model.Datings.{as_date}
-use Rattle.periodic_laws.proofs.settled_laws_proofs.Driven.{GoOn, goes_on_again}
-use Rattle.teg_settle.specs.declared.lists.Span.{Span}
-use Rattle.teg_settle.specs.InitialReleases.{date_of_list}
-use Rattle.teg_settle.specs.Spans.{IsSpan}
+use Rattle.settled_laws.specs.teg_model.Datings.{as_date}
+use Rattle.settled_laws.proofs.Driven.{GoOn, goes_on_again}
+use Rattle.list_spans.specs.declared.lists.Span.{Span}
+use Rattle.list_spans.specs.ListDates.{date_of_list}
+use Rattle.list_spans.specs.Spans.{IsSpan}
 
 pub moved_date : (gap : ℕ) (o : Option ℕ) → as_date (moved_by gap o) ≡ delayed gap (as_date o)
 moved_date gap None = refl

@@ -1,8 +1,8 @@
 use Rattle.std.proofs.Common.{refl, arith}
 use Rattle.std.specs.Prelude.{◌-◌}
-use Rattle.teg_settle.specs.InitialReleases.{date_of_list}
-use Rattle.teg_settle.proofs.Releasing.{span_earlier}
-use Rattle.teg_settle.proofs.lists.least_span.Goals as goal
+use Rattle.list_spans.specs.ListDates.{date_of_list}
+use Rattle.list_spans.proofs.Spanning.{span_earlier}
+use Rattle.list_spans.proofs.lists.least_span.Goals as goal
 
 pub loop-span-preserved : goal.loop-span-preserved
 loop-span-preserved c =

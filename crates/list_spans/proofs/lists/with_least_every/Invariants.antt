@@ -1,5 +1,5 @@
 use Rattle.std.specs.Prelude.{⊤}
-use Rattle.teg_settle.proofs.lists.with_least_every.Given as goal
+use Rattle.list_spans.proofs.lists.with_least_every.Given as goal
 
 abbrev pub invariant-loop-every : goal.invariant-loop-every
 invariant-loop-every l = ⊤

@@ -1,9 +1,9 @@
 use Rattle.std.proofs.Common.{ℕ, ◌≡◌, ◌<◌, length}
 use Rattle.std.specs.Prelude.{slice_index_or}
-use Rattle.teg_settle.specs.declared.lists.Span.{Span}
-use Rattle.teg_settle.specs.InitialReleases.{date_of_list}
-use Rattle.teg_settle.specs.Spans.{IsSpan}
-use Rattle.teg_settle.proofs.lists.spans_of.Given as goal
+use Rattle.list_spans.specs.declared.lists.Span.{Span}
+use Rattle.list_spans.specs.ListDates.{date_of_list}
+use Rattle.list_spans.specs.Spans.{IsSpan}
+use Rattle.list_spans.proofs.lists.spans_of.Given as goal
 
 abbrev pub invariant-loop-list : goal.invariant-loop-list
 invariant-loop-list l = record {

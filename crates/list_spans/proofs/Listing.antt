@@ -13,10 +13,10 @@ use Rattle.teg_net.specs.Limits.{greatest_input_date}
 use Rattle.teg_net.specs.Nets.{NetLists, IsInputOf, ListGoesOn, EndsOrGoesOn}
 use Rattle.teg_net.specs.Inputs.{moved_by, GoOnBy, date_by_list, list_date}
 use Rattle.teg_net.proofs.InputDates.{IsInputDates-list_date, list_date-most}
-use Rattle.periodic_laws.specs.teg_model.DateBounds.{IsDateWithin}
-use Rattle.periodic_laws.specs.teg_model.Datings.{as_date}
-use Rattle.teg_settle.proofs.Releasing.{moved_date}
-use Rattle.periodic_laws.proofs.teg_model_proofs.ListDates.{as_date_within}
+use Rattle.settled_laws.specs.teg_model.DateBounds.{IsDateWithin}
+use Rattle.settled_laws.specs.teg_model.Datings.{as_date}
+use Rattle.list_spans.proofs.Spanning.{moved_date}
+use Rattle.settled_laws.proofs.teg_model_proofs.ListDates.{as_date_within}
 
 -- what holds of all elements holds of one that is got
 pub got_rules : {X : Type 0} (P : X → Type 0) (xs : List X) (i : ℕ) → All P xs → IfSome (slice_get xs i) P

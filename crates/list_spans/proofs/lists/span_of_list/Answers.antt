@@ -2,8 +2,8 @@ use Rattle.std.proofs.Common.{◌≡◌, ◌∙◌, Some, ap, sym, subst}
 use Rattle.std.specs.Prelude.{slice_get}
 use Rattle.teg_net.specs.Nets.{IsInputOf}
 use Rattle.std.proofs.lemmas.Option.{slice_get-get_or}
-use Rattle.teg_settle.proofs.Releasing.{span_list}
-use Rattle.teg_settle.proofs.lists.span_of_list.Goals as goal
+use Rattle.list_spans.proofs.Spanning.{span_list}
+use Rattle.list_spans.proofs.lists.span_of_list.Goals as goal
 
 pub returns-in-Some-again : goal.returns-in-Some-again
 returns-in-Some-again c =
