@@ -28,14 +28,12 @@ use Rattle.growth_laws.proofs.Growth.{cancel}
 use Rattle.growth_laws.proofs.PathSteps.{path_steps, path_walks, path_time}
 use Rattle.slope_laws.specs.teg_loops.Loops.{HasLoop, IsCircuitTowards}
 use Rattle.slope_laws.proofs.WalkPaths.{IsPathOf, walk_path}
-use Rattle.teg_settle.specs.walk_times.Transfers.{AreWalkTimes}
+use Rattle.walk_times.specs.Transfers.{AreWalkTimes}
 use Rattle.growth_laws.proofs.teg_model_proofs.LiveRanks.{live_is_ranked}
 use Rattle.growth_laws.proofs.teg_model_proofs.SystemWalks.{least_in_is_walk}
 use Rattle.periodic_laws.specs.LinearSystem.{SystemsSettle}
-use Rattle.teg_settle.specs.declared.releases.Tokens.TheVariants.{Absent}
-use Rattle.teg_settle.specs.InitialReleases.{initial_by}
-use Rattle.teg_settle.specs.walk_times.Alone.{released_alone}
-use Rattle.teg_settle.proofs.walk_times_proofs.Walking.{times_from}
+use Rattle.walk_times.specs.Alone.{no_tokens, released_alone}
+use Rattle.walk_times.proofs.Walking.{times_from}
 use Rattle.periodic_laws.specs.PeriodicDates.{IsPeriodic}
 use Rattle.periodic_laws.proofs.dioid_proofs.Moves.{move_zero}
 use Rattle.cyclicity_laws.specs.CriticalParts.{IsCircuitOfCriticalPart, IsCommonOfPart}
@@ -314,12 +312,12 @@ released_periodic c t = record {
 pub transfers_exist : SystemsSettle → TransfersExist
 transfers_exist law net ends live c c_in =
     let ranked = live_is_ranked net ends live in
-    let found = law net ends live (initial_by Absent) (released_alone c) (λ t l. released_periodic c t) in (
+    let found = law net ends live no_tokens (released_alone c) (λ t l. released_periodic c t) in (
       found.2,
       (
         found.0,
         (λ t k l o. times_from net c t k (found.0 t k) c_in
-            (least_in_is_walk net (initial_by Absent) (released_alone c) ranked.0 ranked.1 ends ranked.2 found.0 found.1 t k l o)),
+            (least_in_is_walk net no_tokens (released_alone c) ranked.0 ranked.1 ends ranked.2 found.0 found.1 t k l o)),
         found.3,
       ),
     )

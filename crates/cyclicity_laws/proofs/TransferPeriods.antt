@@ -28,7 +28,7 @@ use Rattle.periodic_laws.specs.LinearSystem.{SystemsSettle}
 use Rattle.bound_laws.proofs.teg_net_proofs.Bounds.{hold_bound, holds_bounded}
 use Rattle.bound_laws.proofs.teg_loops_proofs.Ends.{ends_below}
 use Rattle.slope_laws.proofs.WalkPaths.{IsPathOf, walk_path}
-use Rattle.teg_settle.specs.walk_times.Transfers.{IsGreatestWalkTime, AreWalkTimes}
+use Rattle.walk_times.specs.Transfers.{IsGreatestWalkTime, AreWalkTimes}
 use Rattle.cyclicity_laws.specs.CriticalParts.{IsStronglyConnected}
 use Rattle.cyclicity_laws.specs.PartsTowards.{RepeatBy}
 use Rattle.cyclicity_laws.specs.PartsBetween.{IsCircuitBetween, IsRateBetween, IsCommonBetween, RatesBetweenExist, TransfersRepeatByParts, PeriodsOfTransfersDivide}

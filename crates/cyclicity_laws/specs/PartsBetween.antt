@@ -8,7 +8,7 @@ use Rattle.bound_laws.specs.teg_net.Circuits.{IsPathBetween, IsCircuit, IsLive, 
 use Rattle.bound_laws.specs.teg_net.Parts.{Reaches}
 use Rattle.bound_laws.specs.settled_laws.SettledForms.{SettledForm}
 use Rattle.bound_laws.specs.Critical.{IsCriticalAt}
-use Rattle.teg_settle.specs.walk_times.Transfers.{AreWalkTimes, IsTransferOf}
+use Rattle.walk_times.specs.Transfers.{AreWalkTimes, IsTransferOf}
 use Rattle.cyclicity_laws.specs.CriticalParts.{IsCommonOfPart}
 use Rattle.cyclicity_laws.specs.PartsTowards.{RepeatBy}
 

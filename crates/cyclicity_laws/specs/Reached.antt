@@ -11,7 +11,7 @@ use Rattle.bound_laws.specs.settled_laws.SettledForms.{SettledForm}
 use Rattle.bound_laws.specs.Critical.{IsCriticalAt}
 use Rattle.bound_laws.specs.PastTheBound.{factorial}
 use Rattle.slope_laws.specs.teg_loops.Loops.{IsCircuitTowards}
-use Rattle.teg_settle.specs.walk_times.Transfers.{IsTransferOf}
+use Rattle.walk_times.specs.Transfers.{IsTransferOf}
 use Rattle.cyclicity_laws.specs.CriticalParts.{IsStronglyConnected, IsCommonOfPart, IsCommonByParts}
 use Rattle.cyclicity_laws.specs.PartsTowards.{IsCommonTowards, IsCommonOfNet}
 

@@ -9,7 +9,7 @@
 //! transition to another, of what lies between. Each law is the contract of a
 //! function that does nothing when it runs. The crate stands on `growth_laws` for the growth of
 //! dates, on `slope_laws` for slopes, on `bound_laws` for critical circuits and walks with rounds
-//! put in, on `periodic_laws` for the periods of least datings, and on `teg_settle` for what a
+//! put in, on `periodic_laws` for the periods of least datings, and on `walk_times` for what a
 //! transfer is; no crate of the program stands on it.
 #![tactic(auto)]
 

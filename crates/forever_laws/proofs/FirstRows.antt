@@ -2,12 +2,12 @@
 use Rattle.std.proofs.Common.{ℕ, zero, suc, ◌+◌, ◌*◌, ◌<◌, ◌≤◌, ◌≡◌, List, [], ◌∷◌, Some, length, get_or, take, refl, arith, ⊎_elim, ◌⊎◌, inl, inr}
 use Rattle.std.specs.Prelude.{All, slice_get}
 use Rattle.std.proofs.lemmas.List.Elements.{All-cons}
-use Rattle.teg_settle.specs.dioid.declared.dates.Date.{Date}
+use Rattle.walk_times.specs.dioid.declared.dates.Date.{Date}
 use Rattle.teg_net.specs.Limits.{greatest_input_date}
 use Rattle.teg_net.specs.Nets.{NetLists, HasEndsInRange}
 use Rattle.teg_net.proofs.Bounds.{hold_bound, holds_bounded, token_bound, tokens_bounded}
 use Rattle.teg_net.specs.Circuits.{IsLive}
-use Rattle.teg_settle.specs.teg_model.Datings.{IsLeastUnder}
+use Rattle.walk_times.specs.teg_model.Datings.{IsLeastUnder}
 use Rattle.due_laws.specs.MeetingDueDates.{inputs_at_zero}
 use Rattle.bound_laws.proofs.Unrolled.{unrolled}
 use Rattle.endless_due.specs.declared.row.EndlessRow.{EndlessRow}

@@ -4,27 +4,27 @@ use Rattle.std.specs.Int.RustNames.{unsigned_abs}
 use Rattle.std.proofs.lemmas.Bool.{cases_lt}
 use Rattle.std.proofs.lemmas.Int.{ints}
 use Rattle.std.proofs.lemmas.List.{get_or_past, length-map}
-use Rattle.teg_settle.specs.dioid.declared.dates.Date.{Date}
-use Rattle.teg_settle.specs.dioid.declared.dates.Date.TheVariants.{Early, At, Never}
-use Rattle.teg_settle.specs.dioid.Dates.{move}
-use Rattle.teg_settle.specs.series_laws.Periodic.{Rising}
-use Rattle.teg_settle.specs.series_laws.SeriesForms.{Form, form_with, size_of, repeat_start, value_at, HasValues, IsCanonical, canonical_of}
-use Rattle.teg_settle.proofs.series_laws_proofs.FormValues.{value_in, value_repeats}
-use Rattle.teg_settle.proofs.series_laws_proofs.Canonical.{canonical_is, canonical_values, canonical_short, one_canonical}
-use Rattle.teg_settle.specs.series_form.NumberBounds.{IsSmallDate, HasSmallNumbers, IsSeries}
-use Rattle.teg_settle.specs.series_form.SeriesLimits.{greatest_value}
+use Rattle.walk_times.specs.dioid.declared.dates.Date.{Date}
+use Rattle.walk_times.specs.dioid.declared.dates.Date.TheVariants.{Early, At, Never}
+use Rattle.walk_times.specs.dioid.Dates.{move}
+use Rattle.walk_times.specs.series_laws.Periodic.{Rising}
+use Rattle.walk_times.specs.series_laws.SeriesForms.{Form, form_with, size_of, repeat_start, value_at, HasValues, IsCanonical, canonical_of}
+use Rattle.walk_times.proofs.series_laws_proofs.FormValues.{value_in, value_repeats}
+use Rattle.walk_times.proofs.series_laws_proofs.Canonical.{canonical_is, canonical_values, canonical_short, one_canonical}
+use Rattle.walk_times.specs.series_form.NumberBounds.{IsSmallDate, HasSmallNumbers, IsSeries}
+use Rattle.walk_times.specs.series_form.SeriesLimits.{greatest_value}
 use Rattle.teg_net.specs.Nets.{NetLists, IsNet, HasEndsInRange}
 use Rattle.teg_net.specs.Circuits.{IsLive}
 use Rattle.teg_net.specs.Limits.{greatest_input_date}
 use Rattle.teg_net.specs.Walks.{walk_time}
-use Rattle.teg_settle.specs.teg_model.DateBounds.{IsDateWithin}
-use Rattle.teg_settle.specs.teg_model.Datings.{IsLeastUnder, system_of}
-use Rattle.teg_settle.proofs.teg_model_proofs.LeastOver.{least_over}
-use Rattle.teg_settle.proofs.teg_model_proofs.LiveRanks.{live_is_ranked}
-use Rattle.teg_settle.proofs.teg_model_proofs.OfNet.{least_of, least_of_system, net_ends}
+use Rattle.walk_times.specs.teg_model.DateBounds.{IsDateWithin}
+use Rattle.walk_times.specs.teg_model.Datings.{IsLeastUnder, system_of}
+use Rattle.walk_times.proofs.teg_model_proofs.LeastOver.{least_over}
+use Rattle.walk_times.proofs.teg_model_proofs.LiveRanks.{live_is_ranked}
+use Rattle.walk_times.proofs.teg_model_proofs.OfNet.{least_of, least_of_system, net_ends}
 use Rattle.due_laws.specs.MeetingDueDates.{inputs_at_zero}
-use Rattle.teg_settle.specs.settled_laws.SettledForms.{settled_length, row_of, step_of_form}
-use Rattle.teg_settle.specs.walk_times.Transfers.{IsGreatestWalkTime}
+use Rattle.walk_times.specs.settled_laws.SettledForms.{settled_length, row_of, step_of_form}
+use Rattle.walk_times.specs.Transfers.{IsGreatestWalkTime}
 use Rattle.endless_due.specs.declared.row.EndlessRow.{EndlessRow}
 use Rattle.endless_due.specs.EndlessRows.{IsEndlessRow, most_endless_dates}
 use Rattle.forever_laws.specs.SeriesColumns.{listed_dates}

@@ -2,15 +2,15 @@
 use Rattle.std.proofs.Common.{ℕ, zero, suc, ◌+◌, ◌-◌, ◌*◌, ◌/◌, ◌<◌, ◌≤◌, ◌≡◌, [], ◌∷◌, true, false, leb, length, get_or, Option, Some, None, refl, sym, ap, ◌∙◌, arith, ⊎_elim}
 use Rattle.std.proofs.lemmas.Bool.{cases_Bool, cases_lt}
 use Rattle.std.proofs.lemmas.Bool.Decides.{nat_tests}
-use Rattle.teg_settle.specs.dioid.Dates.{IsAtMostDate}
+use Rattle.walk_times.specs.dioid.Dates.{IsAtMostDate}
 use Rattle.teg_net.specs.declared.entries.Role.TheVariants.{Input}
 use Rattle.teg_net.specs.declared.entries.InputList.{InputList}
 use Rattle.teg_net.specs.Limits.{greatest_input_date}
 use Rattle.teg_net.specs.Nets.{NetLists, IsInputOf, lists_of}
 use Rattle.teg_net.specs.Inputs.{laps_past, moved_by}
 use Rattle.teg_net.proofs.InputDates.{one_round, more_rounds, date_le}
-use Rattle.teg_settle.specs.teg_model.Datings.{as_date}
-use Rattle.teg_settle.proofs.list_spans_proofs.Listing.{dates_climb}
+use Rattle.walk_times.specs.teg_model.Datings.{as_date}
+use Rattle.list_spans.proofs.Listing.{dates_climb}
 use Rattle.endless_due.specs.declared.row.EndlessRow.{EndlessRow}
 use Rattle.endless_due.specs.EndlessRows.{again_of_row, row_due, IsEndlessRow}
 use Rattle.forever_laws.specs.EndlessDues.{RowsGoOn}

@@ -4,24 +4,24 @@ use Rattle.std.specs.Prelude.{pos}
 use Rattle.std.proofs.lemmas.Bool.{cases_lt}
 use Rattle.std.proofs.lemmas.Int.{ints}
 use Rattle.std.proofs.lemmas.Option.{slice_get_past}
-use Rattle.teg_settle.specs.dioid.declared.dates.Date.{Date}
-use Rattle.teg_settle.specs.dioid.declared.dates.Date.TheVariants.{Early, At, Never}
-use Rattle.teg_settle.specs.dioid.Dates.{IsAtMostDate, delayed, later_of}
-use Rattle.teg_settle.proofs.dioid_proofs.DateOrder.{at_most_is, at_most_trans, delayed_rises, later_either, never_last}
+use Rattle.walk_times.specs.dioid.declared.dates.Date.{Date}
+use Rattle.walk_times.specs.dioid.declared.dates.Date.TheVariants.{Early, At, Never}
+use Rattle.walk_times.specs.dioid.Dates.{IsAtMostDate, delayed, later_of}
+use Rattle.walk_times.proofs.dioid_proofs.DateOrder.{at_most_is, at_most_trans, delayed_rises, later_either, never_last}
 use Rattle.teg_net.specs.Nets.{NetLists, HasEndsInRange, IsInput}
 use Rattle.teg_net.specs.Circuits.{IsLive}
 use Rattle.teg_net.specs.Walks.{Walks, walk_time}
 use Rattle.teg_net.specs.ReadyDates.{start_date}
-use Rattle.teg_settle.specs.teg_model.Datings.{IsLeastUnder, at_input, system_of}
-use Rattle.teg_settle.specs.teg_model.Starts.{start_of_firing}
-use Rattle.teg_settle.specs.teg_model.WalkDates.{IsDateOfWalk}
-use Rattle.teg_settle.proofs.teg_model_proofs.LeastOver.{least_over}
-use Rattle.teg_settle.proofs.teg_model_proofs.LiveRanks.{live_is_ranked, live_ranks}
-use Rattle.teg_settle.proofs.teg_model_proofs.OfNet.{input_or_not, least_of, least_of_system}
-use Rattle.teg_settle.proofs.teg_model_proofs.GreatestWalks.{least_is_walk, not_before_ready}
-use Rattle.teg_settle.proofs.teg_model_proofs.Tokens.{not_before_zero}
-use Rattle.teg_settle.proofs.teg_model_proofs.WalkSteps.{walk_below}
-use Rattle.teg_settle.proofs.teg_model_proofs.DateFunctions.{Dating}
+use Rattle.walk_times.specs.teg_model.Datings.{IsLeastUnder, at_input, system_of}
+use Rattle.walk_times.specs.teg_model.Starts.{start_of_firing}
+use Rattle.walk_times.specs.teg_model.WalkDates.{IsDateOfWalk}
+use Rattle.walk_times.proofs.teg_model_proofs.LeastOver.{least_over}
+use Rattle.walk_times.proofs.teg_model_proofs.LiveRanks.{live_is_ranked, live_ranks}
+use Rattle.walk_times.proofs.teg_model_proofs.OfNet.{input_or_not, least_of, least_of_system}
+use Rattle.walk_times.proofs.teg_model_proofs.GreatestWalks.{least_is_walk, not_before_ready}
+use Rattle.walk_times.proofs.teg_model_proofs.Tokens.{not_before_zero}
+use Rattle.walk_times.proofs.teg_model_proofs.WalkSteps.{walk_below}
+use Rattle.walk_times.proofs.teg_model_proofs.DateFunctions.{Dating}
 use Rattle.due_laws.specs.MeetingDueDates.{KeepsDues, inputs_at_zero}
 use Rattle.due_laws.specs.LatestDates.{IsDateToDue, IsLatestDate}
 use Rattle.due_laws.proofs.LatestDates.{Dues, kept_below, never_or_not, due_next, feasible_keeps, earlier_by, earlier_delayed}

@@ -5,16 +5,16 @@ use Rattle.std.proofs.lemmas.Bool.{cases_lt}
 use Rattle.std.proofs.lemmas.List.Sums.{sum_by-append}
 use Rattle.std.proofs.lemmas.Nat.{mod_below, div-add-mod'}
 use Rattle.std.proofs.Math.Nat.{mul-le-mul_right, mul-le-mul_left}
-use Rattle.teg_settle.proofs.number_laws_proofs.Numbers.{some_times}
+use Rattle.walk_times.proofs.number_laws_proofs.Numbers.{some_times}
 use Rattle.teg_net.specs.declared.entries.PlaceId.{PlaceId}
 use Rattle.teg_net.specs.Nets.{NetLists}
 use Rattle.teg_net.specs.Circuits.{place_at, IsPathBetween, IsCircuit, time_of, tokens_of}
 use Rattle.teg_net.proofs.PathLaws.{IsPathBetween-append}
-use Rattle.teg_settle.specs.teg_loops.Loops.{EndsBelow}
-use Rattle.teg_settle.proofs.teg_loops_proofs.Taking.{Keeps, closed_keeps, shortened}
-use Rattle.teg_settle.specs.teg_loops.ClosedPieces.{HasRound}
-use Rattle.teg_settle.proofs.teg_loops_proofs.Again.{round_in, round_sum}
-use Rattle.teg_settle.proofs.teg_loops_proofs.Visits.{rounds, rounds_lead, rounds_sum}
+use Rattle.teg_loops.specs.Loops.{EndsBelow}
+use Rattle.teg_loops.proofs.Taking.{Keeps, closed_keeps, shortened}
+use Rattle.teg_loops.specs.ClosedPieces.{HasRound}
+use Rattle.teg_loops.proofs.Again.{round_in, round_sum}
+use Rattle.teg_loops.proofs.Visits.{rounds, rounds_lead, rounds_sum}
 
 -- z is reached by a walk that starts at a date, at one of the first `most` numbers, and any walk with this start comes no later
 pub record ReachedFrom (e : NetLists) (n most : ℕ) (z : ℕ → ℕ → ℕ) (t k : ℕ) : Type 0 where

@@ -14,9 +14,9 @@ pub mod OneColumn
 pub mod Fitting
 pub mod MovedForms
 pub mod MovedColumns
-pub use Rattle.teg_settle.proofs.number_laws_proofs as number_laws_proofs
-pub use Rattle.teg_settle.proofs.dioid_proofs as dioid_proofs
-pub use Rattle.teg_settle.proofs.dioid_matrix_proofs as dioid_matrix_proofs
-pub use Rattle.teg_settle.proofs.series_laws_proofs as series_laws_proofs
-pub use Rattle.teg_settle.proofs.series_form_proofs as series_form_proofs
-pub use Rattle.teg_settle.proofs.settled_laws_proofs as settled_laws_proofs
+pub use Rattle.walk_times.proofs.number_laws_proofs as number_laws_proofs
+pub use Rattle.walk_times.proofs.dioid_proofs as dioid_proofs
+pub use Rattle.walk_times.proofs.dioid_matrix_proofs as dioid_matrix_proofs
+pub use Rattle.walk_times.proofs.series_laws_proofs as series_laws_proofs
+pub use Rattle.walk_times.proofs.series_form_proofs as series_form_proofs
+pub use Rattle.walk_times.proofs.settled_laws_proofs as settled_laws_proofs

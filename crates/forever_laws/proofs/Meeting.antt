@@ -4,14 +4,14 @@ use Rattle.std.specs.Prelude.{pos, AllPairs, slice_get}
 use Rattle.std.proofs.lemmas.Bool.{cases_Bool, cases_lt}
 use Rattle.std.proofs.lemmas.Bool.Decides.{nat_tests}
 use Rattle.std.proofs.lemmas.Int.{ints}
-use Rattle.teg_settle.specs.dioid.declared.dates.Date.TheVariants.{At}
-use Rattle.teg_settle.specs.dioid.Dates.{IsAtMostDate}
+use Rattle.walk_times.specs.dioid.declared.dates.Date.TheVariants.{At}
+use Rattle.walk_times.specs.dioid.Dates.{IsAtMostDate}
 use Rattle.teg_net.specs.declared.walks.Step.{Step}
 use Rattle.teg_net.specs.declared.walks.Step.TheVariants.{By, Next}
 use Rattle.teg_net.specs.Nets.{NetLists}
 use Rattle.teg_net.specs.Circuits.{place_at}
 use Rattle.teg_net.specs.Walks.{Walks}
-use Rattle.teg_settle.proofs.teg_model_proofs.OfNet.{only_least}
+use Rattle.walk_times.proofs.teg_model_proofs.OfNet.{only_least}
 use Rattle.due_laws.specs.MeetingDueDates.{inputs_at_zero}
 use Rattle.endless_due.specs.declared.row.EndlessRow.{EndlessRow}
 use Rattle.endless_due.specs.EndlessRows.{row_due, due_by, row_for, due_on, IsEndlessRow, IsEndlessOf}

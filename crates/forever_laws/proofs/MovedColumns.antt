@@ -2,26 +2,26 @@
 -- their meets repeat from where they did, and the numbers of all of them are small.
 use Rattle.std.proofs.Common.{ℕ, ℤ, pos, zero, suc, ◌+◌, ◌-◌, ◌<◌, ◌≤◌, ◌≡◌, ◌-ℤ◌, List, length, refl, sym, ap, subst, ◌∙◌, arith, ⊎_elim}
 use Rattle.std.proofs.lemmas.Int.{ints}
-use Rattle.teg_settle.specs.dioid.declared.dates.Date.{Date}
-use Rattle.teg_settle.specs.dioid.declared.dates.Date.TheVariants.{Early, At, Never}
-use Rattle.teg_settle.specs.dioid.Dates.{IsAtMostDate, date_left}
-use Rattle.teg_settle.specs.dioid.DateOrder.{Le}
-use Rattle.teg_settle.proofs.dioid_proofs.AtMost.{le_is, le_trans}
-use Rattle.teg_settle.specs.dioid_matrix.Residuals.{RowFits, lefts, meet_below}
-use Rattle.teg_settle.specs.series_laws.Needs.{form_least, least_plan, need_of}
-use Rattle.teg_settle.specs.series_laws.ProductNeeds.{form_left, left_by, left_plan, residual_at}
-use Rattle.teg_settle.specs.series_laws.Residual.{IsLeftAt}
-use Rattle.teg_settle.specs.series_laws.SeriesForms.{Form, size_of, repeat_start, value_at, IsForm}
-use Rattle.teg_settle.proofs.series_laws_proofs.Closed.{closed}
-use Rattle.teg_settle.proofs.series_laws_proofs.Lefts.{left_is, form_left_is, form_left_values}
-use Rattle.teg_settle.proofs.series_laws_proofs.Sums.{form_least_is}
-use Rattle.teg_settle.specs.series_form.NumberBounds.{HasSmallNumbers}
-use Rattle.teg_settle.specs.series_form.SeriesAnswers.{Fits}
-use Rattle.teg_settle.specs.series_form.SeriesLimits.{greatest_value}
-use Rattle.teg_settle.specs.series_ops.declared.gains.Gain.{Gain}
-use Rattle.teg_settle.specs.series_ops.Gains.{LeftFits, MeetFits, gain_of}
-use Rattle.teg_settle.specs.periodic_laws.Equations.{gains}
-use Rattle.teg_settle.specs.teg_model.DateBounds.{IsDateWithin}
+use Rattle.walk_times.specs.dioid.declared.dates.Date.{Date}
+use Rattle.walk_times.specs.dioid.declared.dates.Date.TheVariants.{Early, At, Never}
+use Rattle.walk_times.specs.dioid.Dates.{IsAtMostDate, date_left}
+use Rattle.walk_times.specs.dioid.DateOrder.{Le}
+use Rattle.walk_times.proofs.dioid_proofs.AtMost.{le_is, le_trans}
+use Rattle.walk_times.specs.dioid_matrix.Residuals.{RowFits, lefts, meet_below}
+use Rattle.walk_times.specs.series_laws.Needs.{form_least, least_plan, need_of}
+use Rattle.walk_times.specs.series_laws.ProductNeeds.{form_left, left_by, left_plan, residual_at}
+use Rattle.walk_times.specs.series_laws.Residual.{IsLeftAt}
+use Rattle.walk_times.specs.series_laws.SeriesForms.{Form, size_of, repeat_start, value_at, IsForm}
+use Rattle.walk_times.proofs.series_laws_proofs.Closed.{closed}
+use Rattle.walk_times.proofs.series_laws_proofs.Lefts.{left_is, form_left_is, form_left_values}
+use Rattle.walk_times.proofs.series_laws_proofs.Sums.{form_least_is}
+use Rattle.walk_times.specs.series_form.NumberBounds.{HasSmallNumbers}
+use Rattle.walk_times.specs.series_form.SeriesAnswers.{Fits}
+use Rattle.walk_times.specs.series_form.SeriesLimits.{greatest_value}
+use Rattle.walk_times.specs.series_ops.declared.gains.Gain.{Gain}
+use Rattle.walk_times.specs.series_ops.Gains.{LeftFits, MeetFits, gain_of}
+use Rattle.walk_times.specs.periodic_laws.Equations.{gains}
+use Rattle.walk_times.specs.teg_model.DateBounds.{IsDateWithin}
 use Rattle.teg_net.specs.Nets.{NetLists, IsNet}
 use Rattle.teg_net.proofs.NetRules.{net_ends}
 use Rattle.teg_net.specs.Walks.{walk_time}

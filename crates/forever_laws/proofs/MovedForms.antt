@@ -5,24 +5,24 @@ use Rattle.std.specs.Prelude.{max}
 use Rattle.std.proofs.lemmas.Bool.{cases_Bool, cases_lt}
 use Rattle.std.proofs.lemmas.Int.{ints}
 use Rattle.std.proofs.lemmas.List.{get_or-map, get_or_past, length-map}
-use Rattle.teg_settle.specs.dioid.declared.dates.Date.{Date}
-use Rattle.teg_settle.specs.dioid.declared.dates.Date.TheVariants.{Early, At, Never}
-use Rattle.teg_settle.specs.dioid.Dates.{move, date_left, earlier_of}
-use Rattle.teg_settle.specs.dioid.DateOrder.{Le}
-use Rattle.teg_settle.proofs.dioid_proofs.AtMost.{le_antisym, le_is, le_move_back, le_move_over, le_trans, move_le}
-use Rattle.teg_settle.proofs.dioid_proofs.Moves.{earlier_move, left_of_move, move_back, move_forth, move_injective, move_swap, move_zero}
-use Rattle.teg_settle.specs.series_laws.Periodic.{Rising, times}
-use Rattle.teg_settle.specs.series_laws.SeriesForms.{Form, form_with, gap, size_of, repeat_start, value_at, HasValues, IsForm, IsCanonical}
-use Rattle.teg_settle.specs.series_laws.Residual.{IsLeftAt}
-use Rattle.teg_settle.specs.series_laws.declared.plans.NeedPlan.{NeedPlan}
-use Rattle.teg_settle.specs.series_laws.declared.plans.Slopes.{Slopes}
-use Rattle.teg_settle.specs.series_laws.declared.plans.Slopes.TheVariants.{Equal, First, Second}
-use Rattle.teg_settle.specs.series_laws.Needs.{tail_of, slopes_by, slopes_of, rise_of, fall_of, period_with, greatest_int, later_start, lead_of, periods_behind}
-use Rattle.teg_settle.specs.series_laws.Needs.{ceiling, crossing, crossing_by, least_plan, least_plan_by, form_least, plan}
-use Rattle.teg_settle.specs.series_laws.ProductNeeds.{left_plan, left_plan_by, left_plan_by_slopes, long_left, offsets_of, short_left, residual_at, form_left}
-use Rattle.teg_settle.proofs.series_laws_proofs.Canonical.{one_canonical}
-use Rattle.teg_settle.proofs.series_laws_proofs.Lefts.{left_is, form_left_is, form_left_values}
-use Rattle.teg_settle.proofs.series_laws_proofs.Sums.{form_least_is, form_least_values}
+use Rattle.walk_times.specs.dioid.declared.dates.Date.{Date}
+use Rattle.walk_times.specs.dioid.declared.dates.Date.TheVariants.{Early, At, Never}
+use Rattle.walk_times.specs.dioid.Dates.{move, date_left, earlier_of}
+use Rattle.walk_times.specs.dioid.DateOrder.{Le}
+use Rattle.walk_times.proofs.dioid_proofs.AtMost.{le_antisym, le_is, le_move_back, le_move_over, le_trans, move_le}
+use Rattle.walk_times.proofs.dioid_proofs.Moves.{earlier_move, left_of_move, move_back, move_forth, move_injective, move_swap, move_zero}
+use Rattle.walk_times.specs.series_laws.Periodic.{Rising, times}
+use Rattle.walk_times.specs.series_laws.SeriesForms.{Form, form_with, gap, size_of, repeat_start, value_at, HasValues, IsForm, IsCanonical}
+use Rattle.walk_times.specs.series_laws.Residual.{IsLeftAt}
+use Rattle.walk_times.specs.series_laws.declared.plans.NeedPlan.{NeedPlan}
+use Rattle.walk_times.specs.series_laws.declared.plans.Slopes.{Slopes}
+use Rattle.walk_times.specs.series_laws.declared.plans.Slopes.TheVariants.{Equal, First, Second}
+use Rattle.walk_times.specs.series_laws.Needs.{tail_of, slopes_by, slopes_of, rise_of, fall_of, period_with, greatest_int, later_start, lead_of, periods_behind}
+use Rattle.walk_times.specs.series_laws.Needs.{ceiling, crossing, crossing_by, least_plan, least_plan_by, form_least, plan}
+use Rattle.walk_times.specs.series_laws.ProductNeeds.{left_plan, left_plan_by, left_plan_by_slopes, long_left, offsets_of, short_left, residual_at, form_left}
+use Rattle.walk_times.proofs.series_laws_proofs.Canonical.{one_canonical}
+use Rattle.walk_times.proofs.series_laws_proofs.Lefts.{left_is, form_left_is, form_left_values}
+use Rattle.walk_times.proofs.series_laws_proofs.Sums.{form_least_is, form_least_values}
 
 -- the form with each value moved
 abbrev pub moved_form : ℤ → Form → Form

@@ -1,22 +1,22 @@
 -- Each input has columns of walk series and due series, and only one of each.
 use Rattle.std.proofs.Common.{ℕ, ℤ, pos, zero, suc, ◌+◌, ◌<◌, ◌≤◌, ◌≡◌, List, Option, Some, None, length, sym, ap, ap₂, subst, ◌∙◌, arith, ⊎_elim, inl, inr}
 use Rattle.std.specs.Prelude.{slice_get}
-use Rattle.teg_settle.specs.dioid.declared.algebra.Residuated.{Ghosts as ResiduatedOf}
-use Rattle.teg_settle.specs.dioid.declared.dates.Date.{Date}
-use Rattle.teg_settle.specs.dioid.Dates.{IsAtMostDate, move}
-use Rattle.teg_settle.proofs.dioid_proofs.DateOrder.{same_by_at_most}
-use Rattle.teg_settle.specs.dioid_matrix.Residuals.{meet_below, lefts}
-use Rattle.teg_settle.specs.series_laws.SeriesForms.{Form, form_with, value_at, repeat_start, HasValues, IsCanonical, canonical_of}
-use Rattle.teg_settle.proofs.series_laws_proofs.Canonical.{one_canonical, canonical_is, canonical_values}
-use Rattle.teg_settle.proofs.series_laws_proofs.FormValues.{value_repeats}
-use Rattle.teg_settle.specs.series_ops.declared.gains.Gain.{Gain}
-use Rattle.teg_settle.specs.series_ops.Gains.{gain_of, gain_zero}
+use Rattle.walk_times.specs.dioid.declared.algebra.Residuated.{Ghosts as ResiduatedOf}
+use Rattle.walk_times.specs.dioid.declared.dates.Date.{Date}
+use Rattle.walk_times.specs.dioid.Dates.{IsAtMostDate, move}
+use Rattle.walk_times.proofs.dioid_proofs.DateOrder.{same_by_at_most}
+use Rattle.walk_times.specs.dioid_matrix.Residuals.{meet_below, lefts}
+use Rattle.walk_times.specs.series_laws.SeriesForms.{Form, form_with, value_at, repeat_start, HasValues, IsCanonical, canonical_of}
+use Rattle.walk_times.proofs.series_laws_proofs.Canonical.{one_canonical, canonical_is, canonical_values}
+use Rattle.walk_times.proofs.series_laws_proofs.FormValues.{value_repeats}
+use Rattle.walk_times.specs.series_ops.declared.gains.Gain.{Gain}
+use Rattle.walk_times.specs.series_ops.Gains.{gain_of, gain_zero}
 use Rattle.teg_net.specs.Nets.{NetLists}
-use Rattle.teg_settle.proofs.teg_model_proofs.DateFunctions.{Dating}
-use Rattle.teg_settle.specs.settled_laws.SettledForms.{SettledForm, row_of, step_of_form, StandsFor}
-use Rattle.teg_settle.specs.walk_times.WalkTimes.{WalkTimesSettle}
-use Rattle.teg_settle.specs.walk_times.Transfers.{IsGreatestWalkTime, IsTransferOf}
-use Rattle.teg_settle.specs.periodic_laws.Equations.{gains}
+use Rattle.walk_times.proofs.teg_model_proofs.DateFunctions.{Dating}
+use Rattle.walk_times.specs.settled_laws.SettledForms.{SettledForm, row_of, step_of_form, StandsFor}
+use Rattle.walk_times.specs.WalkTimes.{WalkTimesSettle}
+use Rattle.walk_times.specs.Transfers.{IsGreatestWalkTime, IsTransferOf}
+use Rattle.walk_times.specs.periodic_laws.Equations.{gains}
 use Rattle.endless_due.specs.declared.row.EndlessRow.{EndlessRow}
 use Rattle.endless_due.specs.EndlessRows.{IsEndlessRow}
 use Rattle.forever_laws.specs.SeriesColumns.{IsWalkSeries, due_date_at, IsDueSeries, gain_residuals, IsSeriesList, listed_dates}

@@ -4,18 +4,18 @@ use Rattle.std.specs.Prelude.{All, sum_by}
 use Rattle.std.proofs.lemmas.Bool.{cases_lt}
 use Rattle.std.proofs.lemmas.List.Sums.{sum_by-cons}
 use Rattle.std.proofs.Math.Nat.{mul-le-mul_left}
-use Rattle.teg_settle.specs.dioid.declared.dates.Date.{Date}
+use Rattle.walk_times.specs.dioid.declared.dates.Date.{Date}
 use Rattle.teg_net.specs.declared.entries.PlaceId.{PlaceId}
 use Rattle.teg_net.specs.declared.entries.Place.{Place}
 use Rattle.teg_net.specs.Nets.{NetLists, HasEndsInRange}
 use Rattle.teg_net.specs.Circuits.{place_at, IsPathBetween, IsLive, time_of, tokens_of}
-use Rattle.teg_settle.specs.teg_model.Datings.{IsLeastUnder, implicit_place, system_of}
-use Rattle.teg_settle.proofs.teg_model_proofs.LeastOver.{least_over}
-use Rattle.teg_settle.proofs.teg_model_proofs.LiveRanks.{live_is_ranked}
-use Rattle.teg_settle.proofs.teg_model_proofs.OfNet.{which_place, least_of, least_of_system}
-use Rattle.teg_settle.specs.teg_loops.ClosedPieces.{HasRound}
-use Rattle.teg_settle.proofs.teg_loops_proofs.Again.{round_in}
-use Rattle.teg_settle.proofs.teg_loops_proofs.Taking.{Keeps, closed_keeps}
+use Rattle.walk_times.specs.teg_model.Datings.{IsLeastUnder, implicit_place, system_of}
+use Rattle.walk_times.proofs.teg_model_proofs.LeastOver.{least_over}
+use Rattle.walk_times.proofs.teg_model_proofs.LiveRanks.{live_is_ranked}
+use Rattle.walk_times.proofs.teg_model_proofs.OfNet.{which_place, least_of, least_of_system}
+use Rattle.teg_loops.specs.ClosedPieces.{HasRound}
+use Rattle.teg_loops.proofs.Again.{round_in}
+use Rattle.teg_loops.proofs.Taking.{Keeps, closed_keeps}
 use Rattle.due_laws.specs.MeetingDueDates.{inputs_at_zero}
 use Rattle.bound_laws.proofs.Unrolled.{unrolled, ends_in}
 use Rattle.endless_due.specs.declared.row.EndlessRow.{EndlessRow}

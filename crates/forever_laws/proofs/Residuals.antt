@@ -3,31 +3,31 @@ use Rattle.std.proofs.Common.{ℕ, zero, suc, ◌+◌, ◌-◌, ◌<◌, ◌≤�
 use Rattle.std.specs.Prelude.{pos, slice_get}
 use Rattle.std.proofs.lemmas.Bool.{cases_lt}
 use Rattle.std.proofs.lemmas.Int.{ints}
-use Rattle.teg_settle.specs.dioid.declared.dates.Date.{Date}
-use Rattle.teg_settle.specs.dioid.declared.dates.Date.TheVariants.{Early, At, Never}
-use Rattle.teg_settle.specs.dioid.Dates.{IsAtMostDate, delayed, date_product, date_left, earlier_of}
-use Rattle.teg_settle.specs.dioid.DateOrder.{Le}
-use Rattle.teg_settle.proofs.dioid_proofs.DateOrder.{at_most_is, at_most_trans, earlier_either, delayed_rises, delayed_is_product}
-use Rattle.teg_settle.proofs.dioid_proofs.AtMost.{le_refl, le_is, le_trans, le_never, product_le, earlier_le_left, earlier_le_right}
-use Rattle.teg_settle.specs.series_laws.Residual.{IsLeftAt, least_of_first}
-use Rattle.teg_settle.specs.series_laws.SeriesForms.{Form, value_at, IsForm, IsCanonical}
-use Rattle.teg_settle.specs.series_laws.declared.plans.Slopes.{Slopes}
-use Rattle.teg_settle.specs.series_laws.declared.plans.Slopes.TheVariants.{Equal, First, Second}
-use Rattle.teg_settle.specs.series_laws.Needs.{tail_of, slopes_of, form_least}
-use Rattle.teg_settle.specs.series_laws.ProductNeeds.{offsets_of, left_by_slopes, left_by, residual_at, form_left}
-use Rattle.teg_settle.proofs.series_laws_proofs.Items.{times_commutes}
-use Rattle.teg_settle.proofs.series_laws_proofs.Lefts.{left_is, form_left_is, form_left_values}
-use Rattle.teg_settle.proofs.series_laws_proofs.StarParts.{from_left}
-use Rattle.teg_settle.proofs.series_laws_proofs.Sums.{form_least_is, form_least_values}
-use Rattle.teg_settle.specs.series_ops.declared.gains.Gain.{Gain}
+use Rattle.walk_times.specs.dioid.declared.dates.Date.{Date}
+use Rattle.walk_times.specs.dioid.declared.dates.Date.TheVariants.{Early, At, Never}
+use Rattle.walk_times.specs.dioid.Dates.{IsAtMostDate, delayed, date_product, date_left, earlier_of}
+use Rattle.walk_times.specs.dioid.DateOrder.{Le}
+use Rattle.walk_times.proofs.dioid_proofs.DateOrder.{at_most_is, at_most_trans, earlier_either, delayed_rises, delayed_is_product}
+use Rattle.walk_times.proofs.dioid_proofs.AtMost.{le_refl, le_is, le_trans, le_never, product_le, earlier_le_left, earlier_le_right}
+use Rattle.walk_times.specs.series_laws.Residual.{IsLeftAt, least_of_first}
+use Rattle.walk_times.specs.series_laws.SeriesForms.{Form, value_at, IsForm, IsCanonical}
+use Rattle.walk_times.specs.series_laws.declared.plans.Slopes.{Slopes}
+use Rattle.walk_times.specs.series_laws.declared.plans.Slopes.TheVariants.{Equal, First, Second}
+use Rattle.walk_times.specs.series_laws.Needs.{tail_of, slopes_of, form_least}
+use Rattle.walk_times.specs.series_laws.ProductNeeds.{offsets_of, left_by_slopes, left_by, residual_at, form_left}
+use Rattle.walk_times.proofs.series_laws_proofs.Items.{times_commutes}
+use Rattle.walk_times.proofs.series_laws_proofs.Lefts.{left_is, form_left_is, form_left_values}
+use Rattle.walk_times.proofs.series_laws_proofs.StarParts.{from_left}
+use Rattle.walk_times.proofs.series_laws_proofs.Sums.{form_least_is, form_least_values}
+use Rattle.walk_times.specs.series_ops.declared.gains.Gain.{Gain}
 use Rattle.teg_net.specs.declared.walks.Step.{Step}
 use Rattle.teg_net.specs.Nets.{NetLists, HasEndsInRange}
 use Rattle.teg_net.specs.Walks.{Walks, walk_time}
-use Rattle.teg_settle.specs.teg_model.Datings.{as_date}
-use Rattle.teg_settle.proofs.teg_model_proofs.Tokens.{not_before_zero}
-use Rattle.teg_settle.proofs.teg_model_proofs.WalkSteps.{walk_below}
-use Rattle.teg_settle.proofs.teg_model_proofs.DateFunctions.{Dating}
-use Rattle.teg_settle.specs.walk_times.Transfers.{IsGreatestWalkTime}
+use Rattle.walk_times.specs.teg_model.Datings.{as_date}
+use Rattle.walk_times.proofs.teg_model_proofs.Tokens.{not_before_zero}
+use Rattle.walk_times.proofs.teg_model_proofs.WalkSteps.{walk_below}
+use Rattle.walk_times.proofs.teg_model_proofs.DateFunctions.{Dating}
+use Rattle.walk_times.specs.Transfers.{IsGreatestWalkTime}
 use Rattle.due_laws.specs.MeetingDueDates.{InputsMeet, inputs_at_zero}
 use Rattle.due_laws.specs.LatestDates.{IsDateToDue, IsLatestDate}
 use Rattle.due_laws.proofs.LatestDates.{delayed_back, feasible_keeps, free_without_walks, walk_ends_in}

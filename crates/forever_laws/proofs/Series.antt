@@ -2,22 +2,22 @@
 use Rattle.std.proofs.Common.{ℕ, ℤ, pos, ◌+◌, ◌-◌, ◌<◌, ◌≤◌, ◌≡◌, List, [], ◌∷◌, ◌++◌, length, get_or, refl, sym, ap, subst, ◌∙◌, arith, ⊎_elim}
 use Rattle.std.proofs.lemmas.Int.{ints}
 use Rattle.std.proofs.lemmas.List.{get_or-map, length-map}
-use Rattle.teg_settle.specs.dioid.declared.dates.Date.{Date}
-use Rattle.teg_settle.specs.dioid.declared.dates.Date.TheVariants.{Early, At}
-use Rattle.teg_settle.specs.dioid.Dates.{IsAtMostDate, move}
-use Rattle.teg_settle.specs.dioid.DateOrder.{Le}
-use Rattle.teg_settle.specs.series_laws.Periodic.{Rising, Repeats}
-use Rattle.teg_settle.specs.series_laws.SeriesForms.{form_with, value_at, HasValues, table}
-use Rattle.teg_settle.proofs.series_laws_proofs.FormValues.{form_values, table_length, table_at, same_lists}
-use Rattle.teg_settle.proofs.series_laws_proofs.Repeating.{rising_by_one}
+use Rattle.walk_times.specs.dioid.declared.dates.Date.{Date}
+use Rattle.walk_times.specs.dioid.declared.dates.Date.TheVariants.{Early, At}
+use Rattle.walk_times.specs.dioid.Dates.{IsAtMostDate, move}
+use Rattle.walk_times.specs.dioid.DateOrder.{Le}
+use Rattle.walk_times.specs.series_laws.Periodic.{Rising, Repeats}
+use Rattle.walk_times.specs.series_laws.SeriesForms.{form_with, value_at, HasValues, table}
+use Rattle.walk_times.proofs.series_laws_proofs.FormValues.{form_values, table_length, table_at, same_lists}
+use Rattle.walk_times.proofs.series_laws_proofs.Repeating.{rising_by_one}
 use Rattle.teg_net.specs.declared.walks.Step.{Step}
 use Rattle.teg_net.specs.declared.walks.Step.TheVariants.{Next}
 use Rattle.teg_net.specs.Nets.{NetLists}
 use Rattle.teg_net.specs.Walks.{Walks, walk_time}
-use Rattle.teg_settle.specs.teg_model.Datings.{as_date}
-use Rattle.teg_settle.proofs.teg_model_proofs.WalkSteps.{walk_append, walk_time-append}
-use Rattle.teg_settle.specs.settled_laws.SettledForms.{settled_length, row_of, step_of_form, StandsFor}
-use Rattle.teg_settle.specs.walk_times.Transfers.{IsGreatestWalkTime, AreWalkTimes}
+use Rattle.walk_times.specs.teg_model.Datings.{as_date}
+use Rattle.walk_times.proofs.teg_model_proofs.WalkSteps.{walk_append, walk_time-append}
+use Rattle.walk_times.specs.settled_laws.SettledForms.{settled_length, row_of, step_of_form, StandsFor}
+use Rattle.walk_times.specs.Transfers.{IsGreatestWalkTime, AreWalkTimes}
 use Rattle.endless_due.specs.declared.row.EndlessRow.{EndlessRow}
 use Rattle.forever_laws.specs.SeriesColumns.{due_date_at, listed_dates, IsSeriesList}
 use Rattle.forever_laws.specs.EndlessDues.{TransfersAreSeries, DuesAreSeries}

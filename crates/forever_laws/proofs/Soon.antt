@@ -4,22 +4,22 @@ use Rattle.std.specs.Prelude.{pos, All}
 use Rattle.std.proofs.lemmas.Bool.{cases_lt}
 use Rattle.std.proofs.lemmas.Int.{ints}
 use Rattle.std.proofs.Math.Nat.{mul-le-mul_right, mul-le-mul_left}
-use Rattle.teg_settle.proofs.number_laws_proofs.Numbers.{some_of}
-use Rattle.teg_settle.specs.dioid.declared.dates.Date.{Date}
-use Rattle.teg_settle.specs.dioid.declared.dates.Date.TheVariants.{At}
+use Rattle.walk_times.proofs.number_laws_proofs.Numbers.{some_of}
+use Rattle.walk_times.specs.dioid.declared.dates.Date.{Date}
+use Rattle.walk_times.specs.dioid.declared.dates.Date.TheVariants.{At}
 use Rattle.teg_net.specs.declared.entries.PlaceId.{PlaceId}
 use Rattle.teg_net.specs.Limits.{most_place_tokens, greatest_hold, greatest_input_date}
 use Rattle.teg_net.specs.Nets.{NetLists, IsNet, HasEndsInRange}
 use Rattle.teg_net.specs.Circuits.{no_place, place_at, IsPathBetween, IsCircuit, IsLive, time_of, tokens_of}
 use Rattle.teg_net.proofs.NetRules.{holds_within, tokens_within}
-use Rattle.teg_settle.specs.teg_model.Datings.{IsLeastUnder, extended_places}
-use Rattle.teg_settle.proofs.teg_model_proofs.OfNet.{net_ends, all_extended_in}
-use Rattle.teg_settle.proofs.teg_model_proofs.LiveRanks.{live_ranks}
-use Rattle.teg_settle.proofs.teg_model_proofs.Within.{AreWithin, least_within}
+use Rattle.walk_times.specs.teg_model.Datings.{IsLeastUnder, extended_places}
+use Rattle.walk_times.proofs.teg_model_proofs.OfNet.{net_ends, all_extended_in}
+use Rattle.walk_times.proofs.teg_model_proofs.LiveRanks.{live_ranks}
+use Rattle.walk_times.proofs.teg_model_proofs.Within.{AreWithin, least_within}
 use Rattle.due_laws.specs.MeetingDueDates.{inputs_at_zero}
 use Rattle.bound_laws.proofs.Unrolled.{unrolled, ends_in, same_sums, IsWait, kinds}
 use Rattle.bound_laws.proofs.WalkTimes.{number_of}
-use Rattle.teg_settle.proofs.teg_loops_proofs.Taking.{sum_most}
+use Rattle.teg_loops.proofs.Taking.{sum_most}
 use Rattle.endless_due.specs.declared.row.EndlessRow.{EndlessRow}
 use Rattle.endless_due.specs.EndlessRows.{IsEndlessRow}
 use Rattle.forever_laws.specs.Late.{IsLateAt}

@@ -3,15 +3,15 @@ use Rattle.std.proofs.Common.{ℕ, ℤ, zero, suc, ◌+◌, ◌-◌, ◌*◌, �
 use Rattle.std.specs.Prelude.{pos}
 use Rattle.std.proofs.lemmas.Bool.{cases_lt}
 use Rattle.std.proofs.lemmas.Int.{ints}
-use Rattle.teg_settle.specs.dioid.declared.dates.Date.{Date}
-use Rattle.teg_settle.specs.dioid.declared.dates.Date.TheVariants.{At}
-use Rattle.teg_settle.specs.dioid.Dates.{IsAtMostDate, move}
-use Rattle.teg_settle.proofs.dioid_proofs.Moves.{at_inj}
+use Rattle.walk_times.specs.dioid.declared.dates.Date.{Date}
+use Rattle.walk_times.specs.dioid.declared.dates.Date.TheVariants.{At}
+use Rattle.walk_times.specs.dioid.Dates.{IsAtMostDate, move}
+use Rattle.walk_times.proofs.dioid_proofs.Moves.{at_inj}
 use Rattle.teg_net.specs.Nets.{NetLists, HasEndsInRange}
 use Rattle.teg_net.specs.Circuits.{IsLive}
-use Rattle.teg_settle.specs.teg_model.Datings.{IsLeastUnder}
-use Rattle.teg_settle.proofs.teg_model_proofs.Tokens.{dates_climb}
-use Rattle.teg_settle.specs.settled_laws.SettledForms.{step_of_form}
+use Rattle.walk_times.specs.teg_model.Datings.{IsLeastUnder}
+use Rattle.walk_times.proofs.teg_model_proofs.Tokens.{dates_climb}
+use Rattle.walk_times.specs.settled_laws.SettledForms.{step_of_form}
 use Rattle.due_laws.specs.MeetingDueDates.{inputs_at_zero}
 use Rattle.bound_laws.proofs.WalkTimes.{number_of}
 use Rattle.endless_due.specs.declared.row.EndlessRow.{EndlessRow}

@@ -4,10 +4,10 @@ use Rattle.std.specs.Prelude.{pos, All, Any}
 use Rattle.std.proofs.lemmas.Bool.{cases_lt}
 use Rattle.std.proofs.lemmas.Int.{ints}
 use Rattle.std.proofs.lemmas.List.Sums.{sum_by-append}
-use Rattle.teg_settle.specs.dioid.declared.dates.Date.{Date}
-use Rattle.teg_settle.specs.dioid.declared.dates.Date.TheVariants.{Early, At}
-use Rattle.teg_settle.specs.dioid.Dates.{IsAtMostDate, delayed, later_of}
-use Rattle.teg_settle.proofs.dioid_proofs.DateOrder.{later_is_left}
+use Rattle.walk_times.specs.dioid.declared.dates.Date.{Date}
+use Rattle.walk_times.specs.dioid.declared.dates.Date.TheVariants.{Early, At}
+use Rattle.walk_times.specs.dioid.Dates.{IsAtMostDate, delayed, later_of}
+use Rattle.walk_times.proofs.dioid_proofs.DateOrder.{later_is_left}
 use Rattle.teg_net.specs.declared.entries.PlaceId.{PlaceId}
 use Rattle.teg_net.specs.declared.entries.Place.{Place}
 use Rattle.teg_net.specs.Nets.{NetLists, HasEndsInRange, IsInput}
@@ -16,16 +16,16 @@ use Rattle.teg_net.specs.Walks.{Walks, walk_time}
 use Rattle.teg_net.specs.ReadyDates.{ready_date, start_date}
 use Rattle.teg_net.proofs.StartDates.{IsStartDate-start_date}
 use Rattle.teg_net.proofs.PathLaws.{IsPathBetween-append}
-use Rattle.teg_settle.specs.teg_model.Datings.{IsLeastUnder, at_input}
-use Rattle.teg_settle.specs.teg_model.Starts.{start_of_firing}
-use Rattle.teg_settle.specs.teg_model.WalkDates.{IsDateOfWalk, IsGreatestOfWalks}
-use Rattle.teg_settle.proofs.teg_model_proofs.OfNet.{input_or_not}
-use Rattle.teg_settle.proofs.teg_model_proofs.GreatestWalks.{least_is_walk}
-use Rattle.teg_settle.proofs.teg_model_proofs.LiveRanks.{live_ranks}
+use Rattle.walk_times.specs.teg_model.Datings.{IsLeastUnder, at_input}
+use Rattle.walk_times.specs.teg_model.Starts.{start_of_firing}
+use Rattle.walk_times.specs.teg_model.WalkDates.{IsDateOfWalk, IsGreatestOfWalks}
+use Rattle.walk_times.proofs.teg_model_proofs.OfNet.{input_or_not}
+use Rattle.walk_times.proofs.teg_model_proofs.GreatestWalks.{least_is_walk}
+use Rattle.walk_times.proofs.teg_model_proofs.LiveRanks.{live_ranks}
 use Rattle.due_laws.specs.MeetingDueDates.{inputs_at_zero}
 use Rattle.bound_laws.proofs.Unrolled.{unrolled, Pathed, pathed, Stepped, stepped}
 use Rattle.bound_laws.proofs.WalkTimes.{number_of, Waiting, waiting}
-use Rattle.teg_settle.proofs.teg_loops_proofs.Visits.{rounds, rounds_lead, rounds_sum}
+use Rattle.teg_loops.proofs.Visits.{rounds, rounds_lead, rounds_sum}
 use Rattle.forever_laws.proofs.Late.{ReachedFrom}
 
 -- the start of a firing

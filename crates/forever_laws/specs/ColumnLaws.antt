@@ -1,12 +1,12 @@
 -- What holds of columns of walk series and due series: each input has them, and only one of each; and walk times have one length.
 use Rattle.std.specs.Prelude.{ℕ, ◌<◌, ◌≡◌, List, length}
-use Rattle.teg_settle.specs.dioid_matrix.Residuals.{RowFits}
-use Rattle.teg_settle.specs.series_ops.declared.gains.Gain.{Gain}
+use Rattle.walk_times.specs.dioid_matrix.Residuals.{RowFits}
+use Rattle.walk_times.specs.series_ops.declared.gains.Gain.{Gain}
 use Rattle.teg_net.specs.Nets.{NetLists, HasEndsInRange, IsInput}
 use Rattle.teg_net.specs.Circuits.{IsLive}
-use Rattle.teg_settle.specs.settled_laws.SettledForms.{SettledForm, settled_length}
-use Rattle.teg_settle.specs.walk_times.Transfers.{IsTransferOf, TransferSettlesPast}
-use Rattle.teg_settle.specs.periodic_laws.Equations.{gains}
+use Rattle.walk_times.specs.settled_laws.SettledForms.{SettledForm, settled_length}
+use Rattle.walk_times.specs.Transfers.{IsTransferOf, TransferSettlesPast}
+use Rattle.walk_times.specs.periodic_laws.Equations.{gains}
 use Rattle.endless_due.specs.declared.row.EndlessRow.{EndlessRow}
 use Rattle.endless_due.specs.EndlessRows.{IsEndlessOf}
 use Rattle.forever_laws.specs.SeriesColumns.{AreSeriesColumns, gain_residuals}

@@ -1,15 +1,15 @@
 -- What holds of endless due dates: late numbers, their search and their bound, latest inputs, and series of walk times and due dates.
 use Rattle.std.specs.Prelude.{ℕ, pos, ◌+◌, ◌-◌, ◌*◌, ◌^◌, ◌<◌, ◌≤◌, ◌≡◌, ◌≢◌, ◌⊎◌, ◌↔◌, List, Option, length, All}
-use Rattle.teg_settle.specs.dioid.declared.dates.Date.{Date}
-use Rattle.teg_settle.specs.dioid.declared.dates.Date.TheVariants.{At, Never}
-use Rattle.teg_settle.specs.series_laws.SeriesForms.{Form, value_at}
-use Rattle.teg_settle.specs.series_form.NumberBounds.{IsSeries}
-use Rattle.teg_settle.specs.series_ops.declared.gains.Gain.{Gain}
+use Rattle.walk_times.specs.dioid.declared.dates.Date.{Date}
+use Rattle.walk_times.specs.dioid.declared.dates.Date.TheVariants.{At, Never}
+use Rattle.walk_times.specs.series_laws.SeriesForms.{Form, value_at}
+use Rattle.walk_times.specs.series_form.NumberBounds.{IsSeries}
+use Rattle.walk_times.specs.series_ops.declared.gains.Gain.{Gain}
 use Rattle.teg_net.specs.Nets.{NetLists, IsNet, HasEndsInRange, IsInput, without_inputs}
 use Rattle.teg_net.specs.Circuits.{IsLive}
-use Rattle.teg_settle.specs.teg_model.Datings.{IsLeastUnder, IsLeastDating}
-use Rattle.teg_settle.specs.settled_laws.SettledForms.{SettledForm, StandsFor, row_of, step_of_form, settled_length}
-use Rattle.teg_settle.specs.walk_times.Transfers.{IsGreatestWalkTime, IsTransferOf}
+use Rattle.walk_times.specs.teg_model.Datings.{IsLeastUnder, IsLeastDating}
+use Rattle.walk_times.specs.settled_laws.SettledForms.{SettledForm, StandsFor, row_of, step_of_form, settled_length}
+use Rattle.walk_times.specs.Transfers.{IsGreatestWalkTime, IsTransferOf}
 use Rattle.due_laws.specs.MeetingDueDates.{InputsMeet, AreLatestInputs, inputs_at_zero}
 use Rattle.due_laws.specs.LatestDates.{IsLatestDate}
 use Rattle.due_laws.specs.LatestInputs.{LeadsToNoDue}

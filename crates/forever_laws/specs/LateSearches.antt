@@ -1,8 +1,8 @@
 -- Where a late number is looked for: as far as the dates and the due dates take to repeat together, and by their steps past that.
 use Rattle.std.specs.Prelude.{ℕ, pos, ◌+◌, ◌-◌, ◌*◌, ◌/◌, ◌<◌, ◌≤◌, ◌≡◌, ◌⊎◌, Some, length}
-use Rattle.teg_settle.specs.dioid.declared.dates.Date.{Date}
-use Rattle.teg_settle.specs.dioid.declared.dates.Date.TheVariants.{At}
-use Rattle.teg_settle.specs.dioid.Dates.{move}
+use Rattle.walk_times.specs.dioid.declared.dates.Date.{Date}
+use Rattle.walk_times.specs.dioid.declared.dates.Date.TheVariants.{At}
+use Rattle.walk_times.specs.dioid.Dates.{move}
 use Rattle.endless_due.specs.declared.row.EndlessRow.{EndlessRow}
 use Rattle.endless_due.specs.EndlessRows.{row_due}
 

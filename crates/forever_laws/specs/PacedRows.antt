@@ -1,10 +1,10 @@
 -- Rows whose due dates rise as fast as the dates that lead to them: what is late of such a row is late soon.
 use Rattle.std.specs.Prelude.{ℕ, ◌+◌, ◌*◌, ◌≤◌, List, [], length, All}
-use Rattle.teg_settle.specs.dioid.declared.dates.Date.{Date}
+use Rattle.walk_times.specs.dioid.declared.dates.Date.{Date}
 use Rattle.teg_net.specs.declared.entries.PlaceId.{PlaceId}
 use Rattle.teg_net.specs.Nets.{NetLists, HasEndsInRange}
 use Rattle.teg_net.specs.Circuits.{IsPathBetween, IsLive, time_of, tokens_of}
-use Rattle.teg_settle.specs.teg_model.Datings.{IsLeastUnder}
+use Rattle.walk_times.specs.teg_model.Datings.{IsLeastUnder}
 use Rattle.due_laws.specs.MeetingDueDates.{InputsMeet, inputs_at_zero}
 use Rattle.endless_due.specs.declared.row.EndlessRow.{EndlessRow}
 use Rattle.endless_due.specs.EndlessRows.{IsEndlessRow, due_on}

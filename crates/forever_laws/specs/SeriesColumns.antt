@@ -1,17 +1,17 @@
 -- The series of walk times and of due dates: shift k stands for firing k + 1 (chapter 5).
 use Rattle.std.specs.Prelude.{ℕ, ℤ, pos, ◌+◌, ◌<◌, ◌≤◌, ◌≡◌, List, Some, length, map, slice_get}
-use Rattle.teg_settle.specs.dioid.declared.algebra.Residuated.{Ghosts as ResiduatedOf}
-use Rattle.teg_settle.specs.dioid.declared.dates.Date.{Date}
-use Rattle.teg_settle.specs.dioid.declared.dates.Date.TheVariants.{At}
-use Rattle.teg_settle.specs.dioid_matrix.Residuals.{meet_below, lefts}
-use Rattle.teg_settle.specs.series_laws.Periodic.{Rising}
-use Rattle.teg_settle.specs.series_laws.SeriesForms.{Form, form_with, value_at, IsCanonical, HasValues}
-use Rattle.teg_settle.specs.series_ops.declared.gains.Gain.{Gain}
-use Rattle.teg_settle.specs.series_ops.Gains.{gain_left, gain_meet, LeftFits, MeetFits}
+use Rattle.walk_times.specs.dioid.declared.algebra.Residuated.{Ghosts as ResiduatedOf}
+use Rattle.walk_times.specs.dioid.declared.dates.Date.{Date}
+use Rattle.walk_times.specs.dioid.declared.dates.Date.TheVariants.{At}
+use Rattle.walk_times.specs.dioid_matrix.Residuals.{meet_below, lefts}
+use Rattle.walk_times.specs.series_laws.Periodic.{Rising}
+use Rattle.walk_times.specs.series_laws.SeriesForms.{Form, form_with, value_at, IsCanonical, HasValues}
+use Rattle.walk_times.specs.series_ops.declared.gains.Gain.{Gain}
+use Rattle.walk_times.specs.series_ops.Gains.{gain_left, gain_meet, LeftFits, MeetFits}
 use Rattle.teg_net.specs.Nets.{NetLists}
-use Rattle.teg_settle.specs.teg_model.Datings.{as_date}
-use Rattle.teg_settle.specs.walk_times.Transfers.{IsGreatestWalkTime}
-use Rattle.teg_settle.specs.periodic_laws.Equations.{gains}
+use Rattle.walk_times.specs.teg_model.Datings.{as_date}
+use Rattle.walk_times.specs.Transfers.{IsGreatestWalkTime}
+use Rattle.walk_times.specs.periodic_laws.Equations.{gains}
 use Rattle.endless_due.specs.declared.row.EndlessRow.{EndlessRow}
 use Rattle.endless_due.specs.EndlessRows.{row_due}
 

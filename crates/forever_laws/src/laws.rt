@@ -4,7 +4,7 @@ ghost use Rattle.forever_laws.specs.ColumnLaws.{ColumnsAreOne, ColumnsExist, Row
 ghost use Rattle.forever_laws.specs.EndlessDues.{DueSeriesFit, DuesAreSeries, FreeAtEachNumber, EndlessLateExcludesMeet, LateIsSoon, LateNumbersHaveLeast, LatestAtInputsAreLatest, LatestDatesFromZero, EndlessMeetOrLate, ResidualsAreFreeOrNumbers, ResidualsAreLatestDates, RowsGoOn, StepsAreFromZero, TransfersAreSeries, TurnsTellLate, WalkSeriesFit, ZeroInputsAreNoLists, ZeroMeetsWhereNoneLate};
 ghost use Rattle.forever_laws.specs.PacedRows.{NoRowsAreMet, PacedLateIsSoon};
 
-use teg_settle::walk_times_settle;
+use walk_times::walk_times_settle;
 
 /// In a live net each input has series of its walk times to the transitions of due rows, and these
 /// rows have due series (chapter 5).

@@ -5,10 +5,11 @@
 //! the laws, that the least late number of a row is found so and is not great, and that the meet of
 //! the residuals of due series by series of walk times has the latest dates of a transition. Each
 //! law is the contract of a function that does nothing when it runs. The crate stands on
-//! `endless_due` for rows, on `due_laws` for due dates of any kind, on `teg_settle` for what series
-//! of walk times are, on `bound_laws` for walks as paths, on `series_laws`, `series_form`,
-//! `series_ops`, `periodic_laws` and `dioid_matrix` for residuals, on `settled_laws` for settled
-//! forms, on `teg_model` for datings, on `teg_net` for nets, and on `dioid` for dates.
+//! `endless_due` for rows, on `due_laws` for due dates of any kind, on `walk_times` for what series
+//! of walk times are, on `list_spans` for dates of lists that never fall, on `bound_laws` for walks
+//! as paths, on `series_laws`, `series_form`, `series_ops`, `periodic_laws` and `dioid_matrix` for
+//! residuals, on `settled_laws` for settled forms, on `teg_model` for datings, on `teg_loops` and
+//! `teg_net` for nets, and on `dioid` for dates.
 #![tactic(auto)]
 
 mod laws;

@@ -1,28 +1,28 @@
 -- A walk from the release of an input is one from its first firing, so many numbers on.
 use Rattle.std.proofs.Common.{ℕ, ◌+◌, ◌-◌, ◌<◌, ◌≤◌, ◌≡◌, List, [], ◌∷◌, length, refl, subst, ◌∙◌, arith, inl, inr, ⊎_elim}
 use Rattle.std.specs.Prelude.{pos, ◌⊎◌}
-use Rattle.teg_settle.specs.dioid.declared.dates.Date.{Date}
-use Rattle.teg_settle.specs.dioid.declared.dates.Date.TheVariants.{Early, At, Never}
-use Rattle.teg_settle.specs.dioid.Dates.{IsAtMostDate, later_of, delayed, date_product}
-use Rattle.teg_settle.proofs.dioid_proofs.DateOrder.{at_most_refl, at_most_trans, same_by_at_most, delayed_rises, delayed_is_product, product_rises, later_left, later_either}
-use Rattle.teg_settle.specs.teg_net.declared.entries.Place.{Place}
-use Rattle.teg_settle.specs.teg_net.Nets.{NetLists, IsInput}
-use Rattle.teg_settle.specs.teg_net.Circuits.{IsLive, place_at}
-use Rattle.teg_settle.specs.teg_net.ReadyDates.{start_date}
-use Rattle.teg_settle.specs.teg_net.declared.walks.Step.{Step}
-use Rattle.teg_settle.specs.teg_net.declared.walks.Step.TheVariants.{By, Next}
-use Rattle.teg_settle.specs.teg_net.Walks.{Walks, walk_time}
-use Rattle.teg_settle.specs.teg_model.LiveRanks.{HasEndsInRange}
-use Rattle.teg_settle.specs.teg_model.Datings.{at_input, initial_date, system_of, IsFeasibleUnder, IsLeastUnder}
-use Rattle.teg_settle.specs.teg_model.WalkDates.{IsDateOfWalk}
-use Rattle.teg_settle.proofs.teg_model_proofs.DateFunctions.{Dating}
-use Rattle.teg_settle.proofs.teg_model_proofs.GreatestWalks.{not_before_ready, least_is_walk}
-use Rattle.teg_settle.proofs.teg_model_proofs.LiveRanks.{live_is_ranked}
-use Rattle.teg_settle.proofs.teg_model_proofs.OfNet.{feasible_in, input_or_not}
-use Rattle.teg_settle.proofs.teg_model_proofs.WalkSteps.{Keeps, feasible_keeps_in, walk_below}
-use Rattle.teg_settle.specs.settled_laws.SettledForms.{settled_date}
-use Rattle.teg_settle.proofs.settled_laws_proofs.Telling.{form_tells}
-use Rattle.teg_settle.proofs.walk_times_proofs.Walking.{input_within}
+use Rattle.walk_times.specs.dioid.declared.dates.Date.{Date}
+use Rattle.walk_times.specs.dioid.declared.dates.Date.TheVariants.{Early, At, Never}
+use Rattle.walk_times.specs.dioid.Dates.{IsAtMostDate, later_of, delayed, date_product}
+use Rattle.walk_times.proofs.dioid_proofs.DateOrder.{at_most_refl, at_most_trans, same_by_at_most, delayed_rises, delayed_is_product, product_rises, later_left, later_either}
+use Rattle.walk_times.specs.teg_net.declared.entries.Place.{Place}
+use Rattle.walk_times.specs.teg_net.Nets.{NetLists, IsInput}
+use Rattle.walk_times.specs.teg_net.Circuits.{IsLive, place_at}
+use Rattle.walk_times.specs.teg_net.ReadyDates.{start_date}
+use Rattle.walk_times.specs.teg_net.declared.walks.Step.{Step}
+use Rattle.walk_times.specs.teg_net.declared.walks.Step.TheVariants.{By, Next}
+use Rattle.walk_times.specs.teg_net.Walks.{Walks, walk_time}
+use Rattle.walk_times.specs.teg_model.LiveRanks.{HasEndsInRange}
+use Rattle.walk_times.specs.teg_model.Datings.{at_input, initial_date, system_of, IsFeasibleUnder, IsLeastUnder}
+use Rattle.walk_times.specs.teg_model.WalkDates.{IsDateOfWalk}
+use Rattle.walk_times.proofs.teg_model_proofs.DateFunctions.{Dating}
+use Rattle.walk_times.proofs.teg_model_proofs.GreatestWalks.{not_before_ready, least_is_walk}
+use Rattle.walk_times.proofs.teg_model_proofs.LiveRanks.{live_is_ranked}
+use Rattle.walk_times.proofs.teg_model_proofs.OfNet.{feasible_in, input_or_not}
+use Rattle.walk_times.proofs.teg_model_proofs.WalkSteps.{Keeps, feasible_keeps_in, walk_below}
+use Rattle.walk_times.specs.settled_laws.SettledForms.{settled_date}
+use Rattle.walk_times.proofs.settled_laws_proofs.Telling.{form_tells}
+use Rattle.walk_times.proofs.Walking.{input_within}
 use Rattle.io_laws.specs.InputOutput.{no_releases, AreTransferTimes, response, DatesAreOutputs, DatesAreOutputsOfTransfers}
 
 -- a walk goes on over so many numbers, from whichever number it starts

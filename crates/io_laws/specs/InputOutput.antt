@@ -1,13 +1,13 @@
 -- The dates of a net from its releases: those without inputs, and the responses to the releases (chapters 2 and 5).
 use Rattle.std.specs.Prelude.{ℕ, ◌+◌, ◌-◌, ◌<◌, ◌≤◌, ◌≡◌, ◌⊎◌, length}
-use Rattle.teg_settle.specs.dioid.declared.dates.Date.{Date}
-use Rattle.teg_settle.specs.dioid.declared.dates.Date.TheVariants.{Early}
-use Rattle.teg_settle.specs.dioid.Dates.{IsAtMostDate, date_product}
-use Rattle.teg_settle.specs.teg_net.Nets.{NetLists, HasEndsInRange, IsInput}
-use Rattle.teg_settle.specs.teg_net.Circuits.{IsLive}
-use Rattle.teg_settle.specs.teg_model.Datings.{IsLeastUnder}
-use Rattle.teg_settle.specs.settled_laws.SettledForms.{SettledForm, settled_date}
-use Rattle.teg_settle.specs.walk_times.Transfers.{AreWalkTimes, IsTransferOf}
+use Rattle.walk_times.specs.dioid.declared.dates.Date.{Date}
+use Rattle.walk_times.specs.dioid.declared.dates.Date.TheVariants.{Early}
+use Rattle.walk_times.specs.dioid.Dates.{IsAtMostDate, date_product}
+use Rattle.walk_times.specs.teg_net.Nets.{NetLists, HasEndsInRange, IsInput}
+use Rattle.walk_times.specs.teg_net.Circuits.{IsLive}
+use Rattle.walk_times.specs.teg_model.Datings.{IsLeastUnder}
+use Rattle.walk_times.specs.settled_laws.SettledForms.{SettledForm, settled_date}
+use Rattle.walk_times.specs.Transfers.{AreWalkTimes, IsTransferOf}
 
 -- no input waits for a release
 abbrev pub no_releases : ℕ → ℕ → Date

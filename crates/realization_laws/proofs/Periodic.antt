@@ -2,19 +2,19 @@
 use Rattle.std.proofs.Common.{ℕ, ℤ, zero, suc, pos, negsuc, ◌+◌, ◌≤◌, ◌≡◌, ◌⊎◌, inl, inr, List, [], ◌∷◌, ◌++◌, sym, ap, subst, ◌∙◌, arith, ⊎_elim, ◌+ℤ◌}
 use Rattle.std.proofs.lemmas.Int.{ints}
 use Rattle.std.proofs.lemmas.List.Sums.{sum_by-append, sum_by-cons}
-use Rattle.teg_settle.specs.dioid.declared.dates.Date.{Date}
-use Rattle.teg_settle.specs.dioid.declared.dates.Date.TheVariants.{Early, At}
-use Rattle.teg_settle.specs.dioid.Dates.{IsAtMostDate, delayed, move}
-use Rattle.teg_settle.proofs.dioid_proofs.DateOrder.{at_most_refl, at_most_trans}
-use Rattle.teg_settle.proofs.dioid_proofs.Moves.{delayed_is_move}
-use Rattle.teg_settle.specs.teg_net.declared.walks.Step.{Step}
-use Rattle.teg_settle.specs.teg_net.declared.walks.Step.TheVariants.{By, Next}
-use Rattle.teg_settle.specs.teg_net.Nets.{NetLists}
-use Rattle.teg_settle.specs.teg_net.Circuits.{place_at}
-use Rattle.teg_settle.specs.teg_net.Walks.{Walks, step_time, walk_time}
-use Rattle.teg_settle.specs.settled_laws.SettledForms.{SettledForm, step_of_form}
-use Rattle.teg_settle.specs.walk_times.Transfers.{IsGreatestWalkTime, AreWalkTimes}
-use Rattle.teg_settle.specs.walk_times.WalkTimes.{WalkTimesSettle}
+use Rattle.walk_times.specs.dioid.declared.dates.Date.{Date}
+use Rattle.walk_times.specs.dioid.declared.dates.Date.TheVariants.{Early, At}
+use Rattle.walk_times.specs.dioid.Dates.{IsAtMostDate, delayed, move}
+use Rattle.walk_times.proofs.dioid_proofs.DateOrder.{at_most_refl, at_most_trans}
+use Rattle.walk_times.proofs.dioid_proofs.Moves.{delayed_is_move}
+use Rattle.walk_times.specs.teg_net.declared.walks.Step.{Step}
+use Rattle.walk_times.specs.teg_net.declared.walks.Step.TheVariants.{By, Next}
+use Rattle.walk_times.specs.teg_net.Nets.{NetLists}
+use Rattle.walk_times.specs.teg_net.Circuits.{place_at}
+use Rattle.walk_times.specs.teg_net.Walks.{Walks, step_time, walk_time}
+use Rattle.walk_times.specs.settled_laws.SettledForms.{SettledForm, step_of_form}
+use Rattle.walk_times.specs.Transfers.{IsGreatestWalkTime, AreWalkTimes}
+use Rattle.walk_times.specs.WalkTimes.{WalkTimesSettle}
 use Rattle.realization_laws.specs.Realizations.{IsCausalPeriodic, TransfersArePeriodic}
 
 -- a walk waits one firing more

@@ -8,22 +8,22 @@ use Rattle.std.proofs.lemmas.List.Elements.{All-nil, All-cons}
 use Rattle.std.proofs.lemmas.List.Sums.{sum_by-cons}
 use Rattle.std.proofs.lemmas.Nat.{mod_below, div-add-mod', le-div}
 use Rattle.std.proofs.Math.Nat.{div-mul-le_self, mul-le-mul_left}
-use Rattle.teg_settle.specs.dioid.declared.dates.Date.{Date}
-use Rattle.teg_settle.specs.dioid.declared.dates.Date.TheVariants.{Early, At, Never}
-use Rattle.teg_settle.specs.dioid.Dates.{IsAtMostDate, delayed}
-use Rattle.teg_settle.proofs.dioid_proofs.DateOrder.{at_most_refl, at_most_trans, at_most_is, delayed_rises}
-use Rattle.teg_settle.specs.teg_net.declared.entries.PlaceId.{PlaceId}
-use Rattle.teg_settle.specs.teg_net.declared.entries.Place.{Place}
-use Rattle.teg_settle.specs.teg_net.declared.entries.Transition.{Transition}
-use Rattle.teg_settle.specs.teg_net.declared.walks.Step.{Step}
-use Rattle.teg_settle.specs.teg_net.declared.walks.Step.TheVariants.{By, Next}
-use Rattle.teg_settle.specs.teg_net.Nets.{NetLists}
-use Rattle.teg_settle.specs.teg_net.Circuits.{no_place, place_at}
-use Rattle.teg_settle.specs.teg_net.Walks.{Walks, step_time, walk_time}
-use Rattle.teg_settle.proofs.teg_model_proofs.Delays.{delayed_twice, delayed_not}
-use Rattle.teg_settle.specs.teg_model.LiveRanks.{HasEndsInRange}
-use Rattle.teg_settle.specs.teg_check.Ranks.{IsRanking, RankedNetsAreLive}
-use Rattle.teg_settle.specs.walk_times.Transfers.{IsGreatestWalkTime}
+use Rattle.walk_times.specs.dioid.declared.dates.Date.{Date}
+use Rattle.walk_times.specs.dioid.declared.dates.Date.TheVariants.{Early, At, Never}
+use Rattle.walk_times.specs.dioid.Dates.{IsAtMostDate, delayed}
+use Rattle.walk_times.proofs.dioid_proofs.DateOrder.{at_most_refl, at_most_trans, at_most_is, delayed_rises}
+use Rattle.walk_times.specs.teg_net.declared.entries.PlaceId.{PlaceId}
+use Rattle.walk_times.specs.teg_net.declared.entries.Place.{Place}
+use Rattle.walk_times.specs.teg_net.declared.entries.Transition.{Transition}
+use Rattle.walk_times.specs.teg_net.declared.walks.Step.{Step}
+use Rattle.walk_times.specs.teg_net.declared.walks.Step.TheVariants.{By, Next}
+use Rattle.walk_times.specs.teg_net.Nets.{NetLists}
+use Rattle.walk_times.specs.teg_net.Circuits.{no_place, place_at}
+use Rattle.walk_times.specs.teg_net.Walks.{Walks, step_time, walk_time}
+use Rattle.walk_times.proofs.teg_model_proofs.Delays.{delayed_twice, delayed_not}
+use Rattle.walk_times.specs.teg_model.LiveRanks.{HasEndsInRange}
+use Rattle.walk_times.specs.teg_check.Ranks.{IsRanking, RankedNetsAreLive}
+use Rattle.walk_times.specs.Transfers.{IsGreatestWalkTime}
 use Rattle.realization_laws.specs.Realizations.{IsCausalPeriodic, IsRealized, SeriesAreRealized}
 
 later_number : (time m : ℕ) → delayed time (At (pos m)) ≡ At (pos (m + time))

@@ -1,13 +1,13 @@
 -- Causal periodic series, and nets whose transfers they are (chapters 5 and 6, realization).
 use Rattle.std.specs.Prelude.{ℕ, pos, ◌+◌, ◌<◌, ◌≤◌, ◌≡◌, ◌⊎◌, length}
-use Rattle.teg_settle.specs.dioid.declared.dates.Date.{Date}
-use Rattle.teg_settle.specs.dioid.declared.dates.Date.TheVariants.{Early, At}
-use Rattle.teg_settle.specs.dioid.Dates.{IsAtMostDate, delayed}
-use Rattle.teg_settle.specs.teg_net.declared.entries.Place.{Place}
-use Rattle.teg_settle.specs.teg_net.declared.entries.Transition.{Transition}
-use Rattle.teg_settle.specs.teg_net.Nets.{NetLists, HasEndsInRange, IsInput}
-use Rattle.teg_settle.specs.teg_net.Circuits.{IsLive}
-use Rattle.teg_settle.specs.walk_times.Transfers.{IsGreatestWalkTime, AreWalkTimes}
+use Rattle.walk_times.specs.dioid.declared.dates.Date.{Date}
+use Rattle.walk_times.specs.dioid.declared.dates.Date.TheVariants.{Early, At}
+use Rattle.walk_times.specs.dioid.Dates.{IsAtMostDate, delayed}
+use Rattle.walk_times.specs.teg_net.declared.entries.Place.{Place}
+use Rattle.walk_times.specs.teg_net.declared.entries.Transition.{Transition}
+use Rattle.walk_times.specs.teg_net.Nets.{NetLists, HasEndsInRange, IsInput}
+use Rattle.walk_times.specs.teg_net.Circuits.{IsLive}
+use Rattle.walk_times.specs.Transfers.{IsGreatestWalkTime, AreWalkTimes}
 
 -- each value is Early or a number from 0 on, no value falls, and from some shift on they go on by a step in each period
 pub record IsCausalPeriodic (s : ℕ → Date) : Type 0 where

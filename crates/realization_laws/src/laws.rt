@@ -3,7 +3,7 @@
 ghost use Rattle.realization_laws.specs.Realizations.{SeriesAreRealized, TransfersArePeriodic};
 
 use teg_check::ranked_nets_are_live;
-use teg_settle::walk_times_settle;
+use walk_times::walk_times_settle;
 
 /// Realization: every causal periodic series has the greatest times of walks of a live net, from
 /// the first firing of one transition to each firing of another (chapters 5 and 6). The net has as

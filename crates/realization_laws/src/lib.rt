@@ -2,7 +2,7 @@
 //! live net of some size, and each transfer of a live net is such a series.
 //!
 //! Each law is the contract of a function that does nothing when it runs. The crate stands on
-//! `teg_settle` for transfers and, below it, for datings, nets and dates, and on `teg_check` for
+//! `walk_times` for transfers and, below it, for datings, nets and dates, and on `teg_check` for
 //! ranks; no crate of the program stands on it.
 #![tactic(auto)]
 
