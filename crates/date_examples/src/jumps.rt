@@ -2,7 +2,7 @@
 //! numbers at which one circuit overtakes another.
 use dioid::Date;
 use example_nets::{held, transition_named};
-use run_rows::{date_by_jumps, dates_by_jumps};
+use run_rows::{date_by_jumps, dates_by_jumps, settles_past};
 use std::alloc::Global;
 use std::test::Fail;
 use teg_check::LiveNet;
@@ -21,6 +21,12 @@ fn late_date(alloc: Global, held: &LiveNet) -> Result<Date, Fail> {
     let first = transition_named(held.net(), "a")?;
     let date = date_by_jumps(alloc, held.net(), held.live(), first, 1_000_000_000_000);
     Ok(date?)
+}
+
+// Whether jumps show the settled form to be longer than 200,000.
+fn is_longer(alloc: Global, held: &LiveNet) -> Result<bool, Fail> {
+    let longer = settles_past(alloc, held.net(), held.live(), 200_000);
+    Ok(longer?)
 }
 
 // Early and late dates of the machine.
@@ -49,6 +55,10 @@ const BY_TWOS: [Date; 5] = [
 fn late_dates_are_told(rt: HostRuntime) -> Result<(), Fail> {
     let date = late_date(rt.alloc(), &held(rt.alloc(), NEARLY_ALIKE)?);
     assert!(rt; date? == Date::At(999_999_999_000_000_000_000));
+    let longer = is_longer(rt.alloc(), &held(rt.alloc(), NEARLY_ALIKE)?);
+    assert!(rt; longer?);
+    let longer = is_longer(rt.alloc(), &held(rt.alloc(), IN_TWOS)?);
+    assert!(rt; !longer?);
     let dates = dates_of_machine(rt.alloc(), &held(rt.alloc(), IN_TWOS)?);
     assert!(rt; dates? == BY_TWOS);
     Ok(())

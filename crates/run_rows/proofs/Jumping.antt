@@ -1,5 +1,5 @@
 -- The last turn of rows of the least dating is a run that goes on for as many turns as its tokens and releases are in time.
-use Rattle.std.proofs.Common.{ℕ, ℤ, suc, ◌+◌, ◌-◌, ◌*◌, ◌<◌, ◌≤◌, ◌≡◌, [], length, get_or, sym, ap, subst, ◌∙◌, arith, ⊎_elim}
+use Rattle.std.proofs.Common.{ℕ, ℤ, suc, ◌+◌, ◌-◌, ◌*◌, ◌<◌, ◌≤◌, ◌≡◌, [], length, get_or, refl, sym, ap, subst, ◌∙◌, arith, ⊎_elim}
 use Rattle.std.specs.Prelude.{All, ◌/◌, ◌%◌}
 use Rattle.std.proofs.lemmas.Bool.{cases_lt}
 use Rattle.std.proofs.lemmas.List.{get_or_past}
@@ -25,7 +25,7 @@ use Rattle.teg_net.proofs.NetRules.{lists_by_rule}
 use Rattle.jump_laws.proofs.InLists.{listed_jump}
 use Rattle.jump_laws.proofs.Runs.{read_off}
 use Rattle.run_rows.specs.LeastRuns.{AreRowsPast}
-use Rattle.run_rows.specs.ReadRuns.{IsJumpRun, IsLastTurn, MovesInRows}
+use Rattle.run_rows.specs.ReadRuns.{IsJumpRun, IsJumpWindow, IsLastTurn, MovesInRows}
 use Rattle.run_rows.specs.RoomyRuns.{IsRoomy, residue_of, run_of, step_of}
 use Rattle.run_rows.specs.TurnsLeft.{AreInTimeFor, IsInLastTurn, IsPlaceInTime}
 
@@ -37,7 +37,7 @@ input_in net t i =
     (λ (l : length net.transitions ≤ t). absurd (rw (slice_get_past net.transitions t l) at i))
     (cases_lt t (length net.transitions))
 
-residue_same : (first turn k : ℕ) → residue_of first turn (k + turn) ≡ residue_of first turn k
+pub residue_same : (first turn k : ℕ) → residue_of first turn (k + turn) ≡ residue_of first turn k
 residue_same first turn k =
     let is : (k + turn) + (turn - first % turn) ≡ (k + (turn - first % turn)) + turn = omega arith in
     ap (λ z. z % turn) is ∙ add-mod_right (k + (turn - first % turn)) turn
@@ -200,3 +200,15 @@ module _ (net : NetLists) (ok : IsNet net) (live : IsLive net) (after : ℕ) (ro
         long = omega (arith, far);
         up_to = few;
       }
+
+  pub jump_window : IsJumpWindow net most after rows (run_of last.first last.turn (turns + 1) last.dates last.steps) ((turns + 1) - 1)
+  jump_window =
+      let back : (turns + 1) - 1 ≡ turns = omega arith in
+      rw back (record {
+        more = refl;
+        some = some;
+        first = lt.first;
+        fits = fits;
+        moves = λ x h. jumped x h;
+        in_time = λ i d l. record { each = (left.places i d l).each };
+      })

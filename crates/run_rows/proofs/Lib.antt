@@ -4,3 +4,4 @@ pub mod Joining
 pub mod Ordered
 pub mod InRuns
 pub mod ReadColumns
+pub mod PastLimit

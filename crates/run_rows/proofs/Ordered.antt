@@ -1,7 +1,7 @@
 -- For how many turns dates stay in order.
 use Rattle.std.proofs.Common.{ℕ, ℤ, pos, ◌+◌, ◌<◌, ◌≤◌, ◌≡◌, ◌+ℤ◌, List, length, get_or, subst, ◌∙◌, arith, ⊎_elim, inr}
 use Rattle.std.proofs.lemmas.List.{get_or_default}
-use Rattle.std.specs.Prelude.{◌*ℤ◌, ◌/◌}
+use Rattle.std.specs.Prelude.{◌*ℤ◌, ◌/◌, ◌<ℤ◌, ◌≤ℤ◌}
 use Rattle.std.proofs.lemmas.Bool.{cases_lt}
 use Rattle.std.proofs.lemmas.Int.{ints}
 use Rattle.dioid.specs.declared.dates.Date.{Date}
@@ -36,6 +36,10 @@ never_in_time q f g a = record { at = λ j o m. never_last (move (pos j *ℤ f) 
 
 pub early_in_time : (q : ℕ) (f g : ℤ) (b : Date) → InTimeFor q f g Early b
 early_in_time q f g b = record { at = λ j o m. tt }
+
+-- not where so many of its steps lead the first past the second
+pub late_by_turns : (q : ℕ) (f g a b : ℤ) → 1 ≤ q → (b +ℤ (pos q *ℤ g)) <ℤ (a +ℤ (pos q *ℤ f)) → InTimeFor q f g (At a) (At b) → ⊥
+late_by_turns q f g a b o late h = let there : (a +ℤ (pos q *ℤ f)) ≤ℤ (b +ℤ (pos q *ℤ g)) = h.at q o (omega arith) in omega (arith, ints, late, there)
 
 -- at one number more of the last turn
 pub next_in_time : (rows : TableDates) (turn number q r : ℕ) (f g : ℕ → ℤ) (a b : ℕ → Date) → r ≤ q

@@ -1,13 +1,15 @@
 -- Runs that are read off rows.
-use Rattle.std.specs.Prelude.{ℕ, ◌+◌, ◌-◌, ◌*◌, ◌<◌, ◌≤◌, ◌≡◌, List, [], length, slice_index_or}
+use Rattle.std.specs.Prelude.{ℕ, ◌+◌, ◌-◌, ◌*◌, ◌<◌, ◌≤◌, ◌≡◌, List, [], All, length, slice_index_or}
 use Rattle.dioid.specs.declared.dates.Date.{Date}
 use Rattle.dioid.specs.declared.dates.Date.TheVariants.{Early}
 use Rattle.dioid.specs.Dates.{move}
 use Rattle.teg_net.specs.Nets.{NetLists}
 use Rattle.teg_model.specs.Datings.{IsLeastDating}
 use Rattle.date_rows.specs.DateTables.{TableDates, date_at}
+use Rattle.jump_laws.specs.Jumps.{MovesUpTo}
 use Rattle.jump_laws.specs.Runs.{Run, IsRunOf}
 use Rattle.run_rows.specs.RoomyRuns.{step_of}
+use Rattle.run_rows.specs.TurnsLeft.{IsPlaceInTime}
 
 -- the dates of transition t from number `first` of the rows on, so many
 pub record IsColumn (rows : TableDates) (t first count : ℕ) (dates : List Date) : Type 0 where
@@ -43,3 +45,14 @@ pub record IsJumpRun (net : NetLists) (most after count number : ℕ) (r : Run) 
   pub on : after + count < end
   pub long : after + count + most ≤ end
   pub up_to : end ≤ number
+
+-- the last two turns of the rows, and as many numbers before them as a place may have tokens, move by the steps of the run, and so
+-- do the least dates for so many turns more, in each of which the tokens are in time
+pub record IsJumpWindow (net : NetLists) (most after : ℕ) (rows : TableDates) (r : Run) (turns : ℕ) : Type 0 where
+  pub more : r.turns ≡ turns + 1
+  pub some : 1 ≤ r.turn
+  pub first : r.first + r.turn ≡ after + rows.count + 1
+  pub fits : most + r.turn + r.turn ≤ rows.count
+  pub moves : (x : ℕ → ℕ → Date) → IsLeastDating net x
+      → MovesUpTo (length net.transitions) x (after + (((rows.count - r.turn) - r.turn) - most)) r.turn ((after + rows.count) + turns * r.turn) (step_of r)
+  pub in_time : All (IsPlaceInTime turns after rows r) net.places

@@ -27,13 +27,13 @@ const NUMBERS_A_ROW: u64 = 32;
 
 // The rows past a number, and the jump after them, if there is one.
 #[derive(Drop)]
-struct Stretch {
-    rows: Rows,
-    jump: Option<EvenRun>,
+pub(crate) struct Stretch {
+    pub(crate) rows: Rows,
+    pub(crate) jump: Option<EvenRun>,
 }
 
 // The greatest number of tokens of a place, and at least 1.
-fn most_tokens(net: &Net) -> u64
+pub(crate) fn most_tokens(net: &Net) -> u64
     ensures one { 1 ≤ result }
     ensures most { result ≤ most_place_tokens }
     ensures all { All (λ p. p.tokens ≤ result) net.now.places }
@@ -81,7 +81,7 @@ fn grow(
 
 // The rows past a number up to one after which they jump, or up to the last number, or so many: the
 // rows are doubled until they jump, so that it takes few more rows than the jump needs.
-fn next_stretch(
+pub(crate) fn next_stretch(
     alloc: Global,
     net: &Net,
     live: &Live,
@@ -157,7 +157,7 @@ fn room_left(room: u64, made: u64, passed: u64) -> u64
 
 // The runs with these rows and the jump after them, or, where they are not all kept, the jump alone:
 // it has as many numbers as a place may have tokens, so rows go on from it.
-fn runs_past(
+pub(crate) fn runs_past(
     alloc: Global,
     net: &Net,
     runs: RunRows,
@@ -339,15 +339,37 @@ pub fn dates_by_jumps(
     requires last { number ≤ greatest_firing_number }
     ensures { IfOk result (λ rows. AreLeastRuns net.now number rows.runs) }
 {
+    match dates_by_few_rows(alloc, net, live, number, MOST_ROWS)? {
+        Some(rows) => Ok(rows),
+        None => Err(OutOfMemory),
+    }
+}
+
+/// The same by so many rows at most, and one more for each 32 numbers that are jumped over; where
+/// these do not lead to the number there are no dates. `OutOfMemory` comes only where no memory is
+/// found.
+pub fn dates_by_few_rows(
+    alloc: Global,
+    net: &Net,
+    live: &Live,
+    number: u64,
+    rows: u64,
+) -> Result<Option<RunRows>, OutOfMemory>
+    requires stands { IsRanking net.now live.now }
+    requires last { number ≤ greatest_firing_number }
+    requires some { 1 ≤ rows }
+    requires few { rows ≤ most_rows }
+    ensures { IfOk result (λ rows. IfSome rows (λ rows. AreLeastRuns net.now number rows.runs)) }
+{
     let most = most_tokens(net);
     let runs = RunRows::new(alloc);
-    let ahead = go_on(alloc, net, live, runs, 0, most, number, MOST_ROWS, true)?;
+    let ahead = go_on(alloc, net, live, runs, 0, most, number, rows, true)?;
     if number <= ahead.after {
-        return Ok(ahead.runs);
+        return Ok(Some(ahead.runs));
     }
     if ahead.rows.count() < number - ahead.after {
-        return Err(OutOfMemory);
+        return Ok(None);
     }
     let made = run_of_rows(alloc, net, &ahead.rows, ahead.after)?;
-    Ok(ahead.runs.with(made)?)
+    Ok(Some(ahead.runs.with(made)?))
 }

@@ -14,7 +14,7 @@ ghost use Rattle.run_rows.specs.TurnsLeft.{AreInTimeFor, InTimeFor, IsPlaceInTim
 use crate::runs::EvenRun;
 use date_rows::{DateCell, NetInputs, Rows, Source};
 use dioid::Date;
-use teg_net::{Again, InputList, Net, Role, TransitionId};
+use teg_net::{Again, InputList, Net, Place, Role, TransitionId};
 
 // How many times a gain goes into a slack, at most so many.
 fn turns_of_slack(slack: u128, gain: u128, most: u64) -> u64
@@ -73,11 +73,26 @@ fn turns_of_dates(token: Date, token_step: i128, date: Date, step: i128, most: u
 
 // What is read of a place: where it leads from and to, its tokens and its holding time.
 #[derive(Clone, Copy, Drop)]
-struct Way {
-    from: TransitionId,
-    to: TransitionId,
-    tokens: u64,
-    hold: u64,
+pub(crate) struct Way {
+    pub(crate) from: TransitionId,
+    pub(crate) to: TransitionId,
+    pub(crate) tokens: u64,
+    pub(crate) hold: u64,
+}
+
+// The way of a place.
+pub(crate) fn way_of(place: &Place) -> Way
+    ensures from { result.from ≡ place.now.from }
+    ensures to { result.to ≡ place.now.to }
+    ensures tokens { result.tokens ≡ place.now.tokens }
+    ensures hold { result.hold ≡ place.now.hold }
+{
+    Way {
+        from: place.from,
+        to: place.to,
+        tokens: u64::from(place.tokens),
+        hold: place.hold,
+    }
 }
 
 // So for the place: the token that it takes from so many numbers before, at each number of the last
@@ -118,13 +133,7 @@ fn turns_of_places(net: &Net, rows: &Rows, last: &EvenRun, after: u64, most: u64
 {
     let mut turns = most;
     for place in net.places() {
-        let way = Way {
-            from: place.from,
-            to: place.to,
-            tokens: u64::from(place.tokens),
-            hold: place.hold,
-        };
-        turns = turns_of_way(rows, last, after, way, turns);
+        turns = turns_of_way(rows, last, after, way_of(place), turns);
     }
     turns
 }

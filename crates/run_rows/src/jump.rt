@@ -1,9 +1,9 @@
 //! A jump: the turn in which the last rows move, and for how many turns more they do.
-ghost use Rattle.std.specs.Prelude.{◌≡◌, ◌+◌, ◌*◌, ◌<◌, ◌≤◌, All, IfOk, IfSome};
+ghost use Rattle.std.specs.Prelude.{◌≡◌, ◌+◌, ◌-◌, ◌*◌, ◌<◌, ◌≤◌, All, IfOk, IfSome};
 ghost use Rattle.teg_check.specs.Ranks.{IsRanking};
 ghost use Rattle.teg_net.specs.Limits.{greatest_firing_number};
 ghost use Rattle.run_rows.specs.LeastRuns.{AreRowsPast};
-ghost use Rattle.run_rows.specs.ReadRuns.{IsJumpRun};
+ghost use Rattle.run_rows.specs.ReadRuns.{IsJumpRun, IsJumpWindow};
 
 use crate::columns::last_turn;
 use crate::in_time::turns_left;
@@ -31,8 +31,10 @@ pub(crate) fn jump(
     requires tokens { All (λ p. p.tokens ≤ most) net.now.places }
     requires before { after + rows.now.count ≤ number }
     requires number { number ≤ greatest_firing_number }
-    ensures { IfOk result (λ run. IfSome run (IsJumpRun net.now most after
+    ensures run { IfOk result (λ run. IfSome run (IsJumpRun net.now most after
         rows.now.count number)) }
+    ensures window { IfOk result (λ jump. IfSome jump (λ run. IsJumpWindow net.now most after
+        rows.now run (run.turns - 1))) }
 {
     // The net keeps its rules.
     net.rules();

@@ -26,9 +26,12 @@ mod by_jumps;
 mod columns;
 mod in_time;
 mod jump;
+mod late;
 mod past;
+mod past_limit;
 mod runs;
 mod turn;
 
-pub use by_jumps::{date_by_jumps, date_past_rows, dates_by_jumps};
+pub use by_jumps::{date_by_jumps, date_past_rows, dates_by_few_rows, dates_by_jumps};
+pub use past_limit::settles_past;
 pub use runs::RunRows;

@@ -9,7 +9,7 @@ use dioid::Date;
 use teg_net::{Net, PlaceId, TransitionId};
 
 // The greatest firing number.
-const GREATEST: u64 = 1_000_000_000_000_000_000;
+pub(crate) const GREATEST: u64 = 1_000_000_000_000_000_000;
 
 // The dates up to the number `after`, from which rows go on.
 #[derive(Drop)]

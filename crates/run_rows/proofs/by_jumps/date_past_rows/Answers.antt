@@ -9,7 +9,7 @@ jump-requires-clause-rows c =
 
 pub go_on-requires-clause-runs : goal.go_on-requires-clause-runs
 go_on-requires-clause-runs c =
-    let jump = rw c.in-Some.is at c.in_ok-jump.ensures in
+    let jump = rw c.in-Some.is at c.in_ok-jump.ensures.run in
     let to = jump.run.to in
     let end_own = c.end-end.ensures in
     let end_is : c.end-end.result ≡ jump.end = omega (arith, end_own, to) in
@@ -18,7 +18,7 @@ go_on-requires-clause-runs c =
 
 pub go_on-requires-clause-before : goal.go_on-requires-clause-before
 go_on-requires-clause-before c =
-    let jump = rw c.in-Some.is at c.in_ok-jump.ensures in
+    let jump = rw c.in-Some.is at c.in_ok-jump.ensures.run in
     let to = jump.run.to in
     let end_own = c.end-end.ensures in
     let end_is : c.end-end.result ≡ jump.end = omega (arith, end_own, to) in

@@ -21,7 +21,8 @@ returns-in-Some c =
           (omega (arith, count, stage, c.requires.number, c.requires.before));
       some = omega (arith, count, more);
       few = omega (arith, count, stage, c.requires.before);
-      ends = rw c.in-Some.is at c.in_ok-run.ensures;
+      ends = rw c.in-Some.is at c.in_ok-run.ensures.run;
+      window = rw c.in-Some.is at c.in_ok-run.ensures.window;
     }
 
 pub returns : goal.returns
@@ -36,4 +37,5 @@ returns c =
       some = omega (arith, all, c.requires.before, c.requires.some);
       few = omega (arith, within, c.requires.before);
       ends = tt;
+      window = tt;
     }

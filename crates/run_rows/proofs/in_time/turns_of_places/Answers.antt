@@ -9,9 +9,10 @@ loop-place-preserved c =
     let own = c.turns_of_way-turns.ensures in
     let r = c.turns_of_way-turns.result in
     let item = rw c.places-place-items.ensures.value at c.place-item.is in
+    let way = c.way_of.ensures in
     let below = rw c.places-place-items.ensures.value at c.loop-place-test.true in
     record {
       within = omega (arith, own.within, inv.within);
-      in_time = next_all (IsPlaceInTime r c.args.after c.args.rows.now c.args.last.now) c.args.net.now.places c.loop-place.place-index c.place-item.result below item (rw c.from.ensures at own.in_time)
+      in_time = next_all (IsPlaceInTime r c.args.after c.args.rows.now c.args.last.now) c.args.net.now.places c.loop-place.place-index c.place-item.result below item (rw (way.from, way.to, way.tokens, way.hold) at own.in_time)
           (λ i d m. fewer_way _ r _ _ _ _ _ _ _ own.within (inv.in_time i d m));
     }

@@ -4,7 +4,7 @@ use Rattle.std.proofs.Math.Nat.{le-div_iff_mul-le}
 use Rattle.teg_check.proofs.Liveness.{ranking_is_live}
 use Rattle.run_rows.specs.ReadRuns.{MovesInRows}
 use Rattle.run_rows.proofs.GoneOn.{dated, earliest, is}
-use Rattle.run_rows.proofs.Jumping.{jump_is_roomy, jump_run}
+use Rattle.run_rows.proofs.Jumping.{jump_is_roomy, jump_run, jump_window}
 use Rattle.run_rows.proofs.jump.jump.Goals as goal
 
 -- so many turns fit
@@ -32,8 +32,8 @@ lasting-requires c =
     (earliest net ranks) (is net ok ranks rank) (dated net ok ranks rank)
     (rw turn_is (omega (arith, fits, count_is, c.requires.before, c.requires.number)))
 
-pub returns : goal.returns
-returns c =
+pub returns-clause-run : goal.returns-clause-run
+returns-clause-run c =
     let net = c.args.net.now in
     let ranks = c.args._live.now in
     let rows = c.args.rows.now in
@@ -51,3 +51,20 @@ returns c =
     (rw (turn_is, ← count_is) (c.lists_go_on.ensures c.if-not-lists_go_on.false)) (λ t l. subst (λ z. MovesInRows c.args.after rows last z t) (sym from_is) (c.moves.ensures c.if-not-moves.false t l))
     left.in_time (omega (arith, c.if-turns-lt2.false))
     c.args.number (rw turn_is (omega (arith, fits, count_is, c.requires.before))) (rw turn_is long))
+
+pub returns-clause-window : goal.returns-clause-window
+returns-clause-window c =
+    let net = c.args.net.now in
+    let ranks = c.args._live.now in
+    let rows = c.args.rows.now in
+    let last = c.in_ok-last.last in
+    let turn_is = c.in_ok-last.ensures.turn in
+    let count_is = c.count-count.ensures.value in
+    let left = c.turns_left-turns.ensures in
+    let from_is : (((rows.count - last.turn) - last.turn) - c.args.most) + 1 ≡ (((c.count-count.result - c.in-Some.turn) - c.in-Some.turn) - c.args.most) + 1 = rw (turn_is, count_is) refl in
+    let some = c.in-Some.ensures.some in
+    rw c.lasting.ensures
+    (jump_window net c.rules.ensures (ranking_is_live net ranks c.requires.stands) c.args.after rows c.requires.rows last c.in_ok-last.ensures.last c.args.most c.turns_left-turns.result
+    c.requires.one (rw turn_is some) (rw turn_is c.in-Some.ensures.fits) c.requires.tokens
+    (rw (turn_is, ← count_is) (c.lists_go_on.ensures c.if-not-lists_go_on.false)) (λ t l. subst (λ z. MovesInRows c.args.after rows last z t) (sym from_is) (c.moves.ensures c.if-not-moves.false t l))
+    left.in_time (omega (arith, c.if-turns-lt2.false)))

@@ -1,6 +1,6 @@
 use Rattle.std.proofs.Common.{◌+◌, ◌≡◌, refl, arith}
 use Rattle.run_rows.proofs.Joining.{joined}
-use Rattle.run_rows.proofs.by_jumps.dates_by_jumps.Goals as goal
+use Rattle.run_rows.proofs.by_jumps.dates_by_few_rows.Goals as goal
 
 pub returns-then-number-ahead : goal.returns-then-number-ahead
 returns-then-number-ahead c =
