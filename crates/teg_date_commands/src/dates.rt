@@ -12,6 +12,7 @@ use crate::limits::most_of;
 use crate::one_date::date_of_part;
 use dioid::Date;
 use periodic_laws::live_nets_settle;
+use run_rows::settles_past;
 use settled_laws::forms_tell_dates;
 use std::alloc::Global;
 use teg_check::LiveNet;
@@ -40,6 +41,17 @@ fn tell_too_long(
     }
 }
 
+// That jumps do not show the settled form to be longer than the limit: where they do, no rows up to
+// there are made.
+fn not_shown_longer(alloc: Global, net: &LiveNet, limit: u32) -> Result<(), SettleRefusal>
+    ensures { IfErr result (FormExceedsLimit net.now (Some limit)) }
+{
+    if settles_past(alloc, net.net(), net.live(), limit)? {
+        return Err(SettleRefusal::TooLong { limit });
+    }
+    Ok(())
+}
+
 // The shortest settled form of the least dates, of at most this length where there is a limit.
 fn settled(alloc: Global, net: &LiveNet, limit: Option<u32>) -> Result<Settled, SettleRefusal>
     requires { IfSome limit (λ most. most ≤ greatest_limit) }
@@ -48,7 +60,10 @@ fn settled(alloc: Global, net: &LiveNet, limit: Option<u32>) -> Result<Settled, 
     ensures too_long { IfErr result (FormExceedsLimit net.now limit) }
 {
     match limit {
-        Some(most) => settle_within(alloc, net.net(), net.live(), most),
+        Some(most) => {
+            not_shown_longer(alloc, net, most)?;
+            settle_within(alloc, net.net(), net.live(), most)
+        }
         None => Ok(settle(alloc, net.net(), net.live())?),
     }
 }
@@ -84,6 +99,7 @@ fn least_date(
         Some(most) => {
             // That the settled form of a dating tells its dates.
             forms_tell_dates();
+            not_shown_longer(alloc, net, most)?;
             let settled = settle_dates_within(alloc, net.net(), net.live(), most)?;
             Ok(settled.date(transition, number))
         }
