@@ -3,7 +3,6 @@ ghost use Rattle.std.specs.Prelude.{IfErr, IfOk, string_bytes, ◌≡◌, ◌≤
 ghost use Rattle.teg_jit.specs.csv_records.Records.{most_file_bytes};
 ghost use Rattle.pace_example.specs.Advice.{IsAdvice, IsWhyNot, pace_line};
 
-use crate::no_advice::NoAdvice;
 use pace_calls::pace;
 use std::alloc::{AllocError, Global};
 use teg_check::check;
@@ -11,6 +10,7 @@ use teg_due::read_due;
 use teg_jit::{Plan, latest_inputs};
 use teg_net::Ratio;
 use teg_reader::read_net;
+use teg_refusals::Refusal;
 
 /// What a planner is told of a net and of due dates.
 #[derive(Drop)]
@@ -36,7 +36,7 @@ fn line_of(alloc: Global, pace: Option<Ratio>) -> Result<String, AllocError>
 /// call that refuses: the net file says no net, the net has a circuit without tokens, the due file
 /// says no due dates, or a firing comes later than it is due whatever the inputs do; or where no
 /// memory is found.
-pub fn advise(alloc: Global, net: &[u8], due: &[u8]) -> Result<Advice, NoAdvice>
+pub fn advise(alloc: Global, net: &[u8], due: &[u8]) -> Result<Advice, Refusal>
     requires { length due.now ≤ most_file_bytes }
     ensures advice { IfOk result (λ advice. IsAdvice net.now due.now (string_bytes advice.pace)
         advice.plan) }

@@ -4,12 +4,11 @@
 //! over the circuits of the net, and the plan has the latest inputs; or each refusal has its cause.
 //! It has no proof file: the contracts of the calls that it makes tell all that it promises. It
 //! stands on `teg_reader` and `teg_due` for files, on `teg_net` and `teg_check` for a live net, on
-//! `pace_calls` for the pace, on `teg_jit` for the latest inputs, and on `teg_text` for the words
-//! of its line. Its example stands in `library_examples`.
+//! `pace_calls` for the pace, on `teg_jit` for the latest inputs, on `teg_refusals` for the refusals
+//! of all these calls as one type, and on `teg_text` for the words of its line. Its example stands
+//! in `library_examples`.
 #![tactic(auto)]
 
 mod advice;
-mod no_advice;
 
 pub use advice::{Advice, advise};
-pub use no_advice::NoAdvice;
