@@ -45,14 +45,26 @@ pub fn ask_held<T, F: FnOnce(Global, &LiveNet) -> Result<T, Fail> + Drop>(
     ask(alloc, &held)
 }
 
+/// What the question answers of the net of the file, held, which it may change.
+pub fn ask_changed<T, F: FnOnce(Global, &mut LiveNet) -> Result<T, Fail> + Drop>(
+    alloc: Global,
+    file: &[u8],
+    ask: F,
+) -> Result<T, Fail>
+    requires { F.IsAlwaysCallable ask }
+{
+    let mut held = held(alloc, file)?;
+    ask(alloc, &mut held)
+}
+
 // What the reader of an answer's text tells of the net of the file and of this text.
-fn told_of<T, F: FnOnce(Global, &Net, &str) -> Result<T, OutOfMemory> + Drop>(
+fn told_of<T, F: Fn(Global, &Net, &str) -> Result<T, OutOfMemory>>(
     alloc: Global,
     file: &[u8],
     text: &str,
-    reader: F,
+    reader: &F,
 ) -> Result<T, Fail>
-    requires { F.IsAlwaysCallable reader }
+    requires { F.IsAlwaysCallable reader.now }
 {
     let net = read(alloc, file)?;
     let told = reader(alloc, &net, text);
@@ -64,15 +76,31 @@ pub fn tells<T, F>(
     alloc: Global,
     file: &[u8],
     text: &str,
-    reader: F,
+    reader: &F,
     wanted: &T,
 ) -> Result<bool, Fail>
 where
     T: PartialEq + Drop,
-    F: FnOnce(Global, &Net, &str) -> Result<T, OutOfMemory> + Drop,
-    requires { F.IsAlwaysCallable reader }
+    F: Fn(Global, &Net, &str) -> Result<T, OutOfMemory>,
+    requires { F.IsAlwaysCallable reader.now }
 {
     Ok(told_of(alloc, file, text, reader)? == *wanted)
+}
+
+/// Files, texts, and what the reader of an answer's text tells of the net of each file and of its
+/// text; a failure with the first text of which it tells something else.
+pub fn tells_all<T, F>(alloc: Global, rows: &[(&[u8], &str, T)], reader: &F) -> Result<(), Fail>
+where
+    T: PartialEq + Drop,
+    F: Fn(Global, &Net, &str) -> Result<T, OutOfMemory>,
+    requires { F.IsAlwaysCallable reader.now }
+{
+    for (file, text, wanted) in rows {
+        if !tells(alloc, file, text, reader, wanted)? {
+            return Err(Fail::new(*text));
+        }
+    }
+    Ok(())
 }
 
 /// The rows of a due file of at most 1,000 bytes.
