@@ -1,11 +1,9 @@
 //! Answers on nets that were worked out by hand, where no command shows them.
-use example_nets::{LOOP, read};
+use example_nets::{LOOP, ask_net};
 use std::alloc::{AllocError, Global};
 use std::test::Fail;
 use teg_certificates::check_cycle;
-use teg_net::{
-    Circuit, CycleAnswer, Net, OutOfMemory, PartAnswer, PlaceId, Potential, Ratio, TransitionId,
-};
+use teg_net::{Circuit, CycleAnswer, Net, PartAnswer, PlaceId, Potential, Ratio, TransitionId};
 
 // An input whose list of two dates ends, and a transition that follows it by 2.
 const ENDED_LIST: &[u8] =
@@ -25,16 +23,22 @@ fn circuit(alloc: Global) -> Result<Circuit, AllocError> {
     Ok(Circuit { places })
 }
 
-// The answer on the loop, with this potential of b.
-fn answer_of(alloc: Global, value: i128) -> Result<CycleAnswer, AllocError> {
-    let part = PartAnswer::Best {
+// The answer on its one part, with this potential of b.
+fn part_of(alloc: Global, value: i128) -> Result<PartAnswer, AllocError> {
+    Ok(PartAnswer::Best {
         ratio: Ratio::of(5, 1),
         circuit: circuit(alloc)?,
-        potentials: vec![in alloc; potential(0, 0), potential(1, value)]?,
-    };
+        potentials: Vec::from_slice(alloc, &[potential(0, 0), potential(1, value)])?,
+    })
+}
+
+// The answer on the loop, with this potential of b.
+fn answer_of(alloc: Global, value: i128) -> Result<CycleAnswer, AllocError> {
+    let mut parts = Vec::new(alloc);
+    parts.push(part_of(alloc, value)?)?;
     Ok(CycleAnswer {
         part_of: Vec::from_slice(alloc, &[0, 0])?,
-        parts: vec![in alloc; part]?,
+        parts,
         best: Some(0),
     })
 }
@@ -54,21 +58,18 @@ fn begins_at_zero(net: &Net) -> bool {
 }
 
 // Whether the right potential alone is told to be one.
-fn are_told(alloc: Global, ring: &Net) -> Result<bool, AllocError> {
+fn are_told(alloc: Global, ring: &Net) -> Result<bool, Fail> {
     Ok(is_certificate(alloc, ring, 3)? && !is_certificate(alloc, ring, 0)?)
 }
 
 // Whether the net begins at 0 without its input lists alone.
-fn loses_list(alloc: Global, net: &Net) -> Result<bool, OutOfMemory> {
+fn loses_list(alloc: Global, net: &Net) -> Result<bool, Fail> {
     Ok(!begins_at_zero(net) && begins_at_zero(&net.without_inputs(alloc)?))
 }
 
 #[test]
 fn answers_that_were_worked_out(rt: HostRuntime) -> Result<(), Fail> {
-    let alloc = rt.alloc();
-    let are_told = are_told(alloc, &read(alloc, LOOP)?);
-    assert!(rt; are_told?);
-    let loses_list = loses_list(alloc, &read(alloc, ENDED_LIST)?);
-    assert!(rt; loses_list?);
+    assert!(rt; ask_net(rt.alloc(), LOOP, are_told)?);
+    assert!(rt; ask_net(rt.alloc(), ENDED_LIST, loses_list)?);
     Ok(())
 }

@@ -1,5 +1,5 @@
 //! Conditions of calls, tested before the calls are made.
-use example_nets::{LOOP, held};
+use example_nets::{LOOP, ask_held};
 use std::alloc::Global;
 use std::test::Fail;
 use teg_check::LiveNet;
@@ -37,15 +37,18 @@ fn form_is_told(alloc: Global, ring: &LiveNet, path: &LiveNet) -> Result<bool, F
 }
 
 // Whether both are so told.
-fn are_told(alloc: Global, ring: &LiveNet, path: &LiveNet) -> Result<bool, Fail> {
+fn both_are_told(alloc: Global, ring: &LiveNet, path: &LiveNet) -> Result<bool, Fail> {
     Ok(parts_are_told(alloc, ring.net(), path.net())? && form_is_told(alloc, ring, path)?)
+}
+
+// The same of the path as its file has it.
+fn are_told(alloc: Global, ring: &LiveNet) -> Result<bool, Fail> {
+    ask_held(alloc, PATH, |alloc, path| both_are_told(alloc, ring, path))
 }
 
 #[test]
 fn parts_and_forms_are_those_of_one_net(rt: HostRuntime) -> Result<(), Fail> {
-    let ring = held(rt.alloc(), LOOP)?;
-    let are_told = are_told(rt.alloc(), &ring, &held(rt.alloc(), PATH)?);
-    assert!(rt; are_told?);
+    assert!(rt; ask_held(rt.alloc(), LOOP, are_told)?);
     Ok(())
 }
 

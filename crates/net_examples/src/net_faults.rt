@@ -1,6 +1,6 @@
 //! Nets that a program makes from lists of its own: the first rule that lists break.
-use example_nets::{place, transition, transitions};
-use std::alloc::{AllocError, Global};
+use example_nets::{place, says, transition, transitions};
+use std::alloc::Global;
 use std::test::Fail;
 use teg_net::{
     Again, DateList, InputFault, InputList, Net, NetFault, Place, PlaceFault, PlaceId, Role,
@@ -38,8 +38,14 @@ const COUNTS: [(u32, u32, NetFault); 5] = [
     (1, 4_000, NetFault::SamePlace(PlaceId { index: 1 })),
 ];
 
-// The fault of the input and the machine with this place alone: its ends, its hold, its tokens and
-// its ready dates.
+// The fault of the input and the machine with this place alone.
+fn fault_of_one(alloc: Global, one: Place) -> Result<Option<NetFault>, Fail> {
+    let mut places = Vec::new(alloc);
+    places.push(one)?;
+    Ok(fault(transitions(alloc)?, places, Vec::new(alloc)))
+}
+
+// The same of a place that has these ends, this hold, these tokens and these ready dates.
 fn fault_of_place(
     alloc: Global,
     ends: (u32, u32),
@@ -52,8 +58,7 @@ fn fault_of_place(
     one.hold = hold;
     one.tokens = tokens;
     one.ready = DateList::new(Vec::from_slice(alloc, ready)?);
-    let places = vec![in alloc; one]?;
-    Ok(fault(transitions(alloc)?, places, Vec::new(alloc)))
+    fault_of_one(alloc, one)
 }
 
 // Ends, a hold, tokens and ready dates of a place, and its fault.
@@ -102,7 +107,8 @@ fn fault_of_list(
         dates: DateList::new(Vec::from_slice(alloc, dates)?),
         again,
     };
-    let inputs = vec![in alloc; list]?;
+    let mut inputs = Vec::new(alloc);
+    inputs.push(list)?;
     Ok(fault(transitions(alloc)?, Vec::new(alloc), inputs))
 }
 
@@ -152,13 +158,16 @@ fn fault_of_name(alloc: Global) -> Result<Option<NetFault>, Fail> {
 
 // The fault of two lists of one input.
 fn fault_of_two(alloc: Global) -> Result<Option<NetFault>, Fail> {
-    let twice = vec![in alloc; empty_list(alloc), empty_list(alloc)]?;
+    let mut twice = Vec::new(alloc);
+    twice.push(empty_list(alloc))?;
+    twice.push(empty_list(alloc))?;
     Ok(fault(transitions(alloc)?, Vec::new(alloc), twice))
 }
 
-// The line of the fault.
-fn line_of(alloc: Global, fault: NetFault) -> Result<String, AllocError> {
-    format!(in alloc; "{fault}")
+// The fault of one date more than a list may have.
+fn fault_of_many(alloc: Global) -> Result<Option<NetFault>, Fail> {
+    let dates = vec![in alloc; 5u64; 100_001]?;
+    fault_of_list(alloc, 0, dates.as_slice(), None)
 }
 
 #[test]
@@ -167,8 +176,7 @@ fn input_lists_are_tested(rt: HostRuntime) -> Result<(), Fail> {
         let told = fault_of_list(rt.alloc(), *number, dates, *onward)?;
         assert!(rt; is_of_list(told, *fault), "{number}");
     }
-    let many = vec![in rt.alloc(); 5u64; 100_001]?;
-    let told = fault_of_list(rt.alloc(), 0, many.as_slice(), None)?;
+    let told = fault_of_many(rt.alloc())?;
     assert!(rt; is_of_list(told, Some(InputFault::ManyDates)));
     let name = NetFault::SameTransition(TransitionId::new(2));
     assert!(rt; fault_of_name(rt.alloc())? == Some(name));
@@ -177,10 +185,11 @@ fn input_lists_are_tested(rt: HostRuntime) -> Result<(), Fail> {
 }
 
 #[test]
-fn faults_have_lines(rt: HostRuntime) -> Result<(), Fail> {
-    let list = line_of(rt.alloc(), NetFault::SameInput(1))?;
-    assert!(rt; list.as_str() == "input list 1 is of a transition that has an earlier one");
+fn faults_have_lines(rt: HostRuntime) {
+    let list = Err::<u8, NetFault>(NetFault::SameInput(1));
+    let line = "input list 1 is of a transition that has an earlier one";
+    assert!(rt; says(rt.alloc(), list, line));
     let hold = NetFault::BadPlace(PlaceId::new(3), PlaceFault::LongHold);
-    assert!(rt; line_of(rt.alloc(), hold)?.as_str() == "place 3 has a hold past 1000000000");
-    Ok(())
+    let line = "place 3 has a hold past 1000000000";
+    assert!(rt; says(rt.alloc(), Err::<u8, NetFault>(hold), line));
 }

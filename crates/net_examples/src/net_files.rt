@@ -1,6 +1,6 @@
 //! Files at their limits are written, and copied, as their nets are. What else files are answered is
 //! told by rows of `tools/rows`, those of `net_keys.rows` and its like.
-use example_nets::read;
+use example_nets::ask_net;
 use std::alloc::{AllocError, Global};
 use std::test::Fail;
 use teg_net::Net;
@@ -97,15 +97,10 @@ fn written_for(alloc: Global, net: &Net) -> Result<Vec<u8>, Fail> {
     Ok(write_net(alloc, net)?)
 }
 
-// What is written for the net of a file.
-fn written(alloc: Global, file: &[u8]) -> Result<Vec<u8>, Fail> {
-    written_for(alloc, &read(alloc, file)?)
-}
-
 // Whether what is written is written again for its own net, and has at least so many bytes.
 fn is_written(alloc: Global, file: &[u8], bytes: usize) -> Result<bool, Fail> {
-    let first = written(alloc, file)?;
-    let second = written(alloc, first.as_slice())?;
+    let first = ask_net(alloc, file, written_for)?;
+    let second = ask_net(alloc, first.as_slice(), written_for)?;
     Ok(second.as_slice() == first.as_slice() && second.len() >= bytes)
 }
 

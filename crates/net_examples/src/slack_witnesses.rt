@@ -3,7 +3,7 @@ ghost use Rattle.std.specs.Prelude.{IfOk};
 ghost use Rattle.teg_net.specs.Certificates.{IsCertificate};
 ghost use Rattle.teg_net.specs.Circuits.{IsLive};
 
-use example_nets::{held, place_named};
+use example_nets::{ask_held, place_named};
 use std::alloc::Global;
 use std::test::Fail;
 use teg_certificates::{RiseWitness, check_cycle, shows_critical, shows_no_circuit, shows_rise};
@@ -28,6 +28,12 @@ place = [
 ]
 ";
 
+const DRILL_FREE: PlaceId = PlaceId { index: 1 };
+
+const TO_PAINT: PlaceId = PlaceId { index: 3 };
+
+const PAINT_ROOM: PlaceId = PlaceId { index: 5 };
+
 // The cycle times of a net that is held, by its parts.
 fn answer_of(alloc: Global, held: &LiveNet) -> Result<CycleAnswer, OutOfMemory>
     ensures { IfOk result (IsCertificate held.now) }
@@ -36,45 +42,34 @@ fn answer_of(alloc: Global, held: &LiveNet) -> Result<CycleAnswer, OutOfMemory>
     cycle(alloc, held.net(), held.live(), &parts)
 }
 
-// The places of these numbers.
-fn places_of(alloc: Global, numbers: &[u32]) -> Result<Vec<PlaceId>, Fail> {
-    let mut places = Vec::new(alloc);
-    for number in numbers {
-        places.push(PlaceId::new(*number))?;
-    }
-    Ok(places)
-}
-
 // What would show that the hold of `drill_free` rises by so much, with these potentials.
 fn drill_rise(alloc: Global, by: u64, potentials: &[i128]) -> Result<RiseWitness, Fail> {
     Ok(RiseWitness {
         by,
         circuit: Circuit {
-            places: vec![in alloc; PlaceId::new(1); 1]?,
+            places: Vec::from_slice(alloc, &[DRILL_FREE])?,
         },
-        potentials: potentials.to_vec(alloc)?,
+        potentials: Vec::from_slice(alloc, potentials)?,
     })
 }
 
-// Whether these places show that the place of this number is critical.
-fn is_critical(
-    alloc: Global,
-    net: &Net,
-    answer: &CycleAnswer,
-    place: u32,
-    circuit: &[u32],
-) -> Result<bool, Fail> {
-    let places = places_of(alloc, circuit)?;
-    Ok(shows_critical(net, answer, PlaceId::new(place), &places))
-}
-
 // A place, places of a circuit, and whether they show that it is critical.
-const CRITICAL: [(u32, &[u32], bool); 4] = [
-    (3, &[3, 5], true),
-    (5, &[3, 5], true),
-    (1, &[3, 5], false),
-    (1, &[1], false),
+const CRITICAL: [(PlaceId, &[PlaceId], bool); 4] = [
+    (TO_PAINT, &[TO_PAINT, PAINT_ROOM], true),
+    (PAINT_ROOM, &[TO_PAINT, PAINT_ROOM], true),
+    (DRILL_FREE, &[TO_PAINT, PAINT_ROOM], false),
+    (DRILL_FREE, &[DRILL_FREE], false),
 ];
+
+// Whether each row of `CRITICAL` is told so.
+fn are_critical(net: &Net, answer: &CycleAnswer) -> bool {
+    for (place, circuit, is_right) in &CRITICAL {
+        if shows_critical(net, answer, *place, circuit) != *is_right {
+            return false;
+        }
+    }
+    true
+}
 
 // Whether the hold of the place of this number is shown to rise by so much, by the circuit of
 // `drill_free` and this potential of the drill.
@@ -99,24 +94,14 @@ const RISES: [(u32, u64, i128, bool); 5] = [
     (1, 1, 1, false),
 ];
 
-// The row of `CRITICAL` that is told otherwise.
-fn wrong_circuit(alloc: Global, net: &Net, answer: &CycleAnswer) -> Result<Option<usize>, Fail> {
-    for (row, (place, circuit, is_right)) in CRITICAL.iter().enumerate() {
-        if is_critical(alloc, net, answer, *place, circuit)? != *is_right {
-            return Ok(Some(row));
-        }
-    }
-    Ok(None)
-}
-
-// The row of `RISES` that is told otherwise.
-fn wrong_rise(alloc: Global, net: &Net, answer: &CycleAnswer) -> Result<Option<usize>, Fail> {
-    for (row, (place, by, drill, is_right)) in RISES.iter().enumerate() {
+// Whether each row of `RISES` is told so.
+fn are_rises(alloc: Global, net: &Net, answer: &CycleAnswer) -> Result<bool, Fail> {
+    for (place, by, drill, is_right) in &RISES {
         if is_rise(alloc, net, answer, *place, *by, *drill)? != *is_right {
-            return Ok(Some(row));
+            return Ok(false);
         }
     }
-    Ok(None)
+    Ok(true)
 }
 
 // Whether the place of shipping alone is told to be on no circuit, and by the parts alone.
@@ -127,23 +112,20 @@ fn is_no_circuit_told(net: &Net, numbers: &[u32]) -> bool {
         && !shows_no_circuit(net, &[0, 0, 1, 1], PlaceId::new(6))
 }
 
-// Whether all is told so of the line by its cycle times.
-fn is_told(alloc: Global, held: &LiveNet) -> Result<bool, Fail> {
-    let net = held.net();
-    let answer = answer_of(alloc, held)?;
+// Whether all is told so of the line by these cycle times.
+fn is_told_by(alloc: Global, net: &Net, answer: &CycleAnswer) -> Result<bool, Fail> {
     Ok(
-        check_cycle(net, &answer)
+        check_cycle(net, answer)
             && is_no_circuit_told(net, &answer.part_of)
-            && wrong_circuit(alloc, net, &answer)?.is_none()
-            && wrong_rise(alloc, net, &answer)?.is_none(),
+            && are_critical(net, answer)
+            && are_rises(alloc, net, answer)?,
     )
 }
 
-#[test]
-fn slacks_are_shown(rt: HostRuntime) -> Result<(), Fail> {
-    let is_told = is_told(rt.alloc(), &held(rt.alloc(), LINE)?);
-    assert!(rt; is_told?);
-    Ok(())
+// The same by its own.
+fn is_told(alloc: Global, held: &LiveNet) -> Result<bool, Fail> {
+    let answer = answer_of(alloc, held)?;
+    is_told_by(alloc, held.net(), &answer)
 }
 
 // Whether the checkers say yes to what is handed out for the place of this name.
@@ -176,22 +158,31 @@ const SLACKS: [(&str, Slack); 3] = [
     ("to_ship", Slack::NoCircuit),
 ];
 
-// The place of `SLACKS` that is told otherwise.
-fn wrong_slack(alloc: Global, held: &LiveNet) -> Result<Option<&'static str>, Fail> {
-    let net = held.net();
-    let answer = answer_of(alloc, held)?;
+// Whether each row of `SLACKS` is told so, and shown.
+fn are_slacks(alloc: Global, net: &Net, answer: &CycleAnswer) -> Result<bool, Fail>
+    requires certificate { IsCertificate net.now answer.now }
+    requires live { IsLive net.now }
+{
     for (name, slack) in &SLACKS {
-        let is_told = slack_of(alloc, net, &answer, name)? == *slack;
-        if !is_told || !is_shown(alloc, net, &answer, name)? {
-            return Ok(Some(*name));
+        if slack_of(alloc, net, answer, name)? != *slack {
+            return Ok(false);
+        }
+        if !is_shown(alloc, net, answer, name)? {
+            return Ok(false);
         }
     }
-    Ok(None)
+    Ok(true)
+}
+
+// Whether they are, by the cycle times of the line.
+fn are_handed_out(alloc: Global, held: &LiveNet) -> Result<bool, Fail> {
+    let answer = answer_of(alloc, held)?;
+    are_slacks(alloc, held.net(), &answer)
 }
 
 #[test]
-fn slacks_and_what_shows_them_are_handed_out(rt: HostRuntime) -> Result<(), Fail> {
-    let wrong = wrong_slack(rt.alloc(), &held(rt.alloc(), LINE)?);
-    assert!(rt; wrong?.is_none());
+fn slacks_are_shown_and_what_shows_them_is_handed_out(rt: HostRuntime) -> Result<(), Fail> {
+    assert!(rt; ask_held(rt.alloc(), LINE, is_told)?);
+    assert!(rt; ask_held(rt.alloc(), LINE, are_handed_out)?);
     Ok(())
 }
