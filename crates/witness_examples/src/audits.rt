@@ -1,12 +1,13 @@
 //! Whole audits over a shelf and a sink in memory: each kind of answer, texts that are not so, several
 //! questions in one call, and reads and writes that fail.
 use answer_audit::{AuditStatus, audit};
+use example_nets::{shelf_of, sink_of, words_of};
 use std::alloc::Global;
 use std::test::Fail;
-use teg_outside::{MemoryShelf, MemorySink};
+use teg_outside::MemoryShelf;
 
-const RAILWAY: &str =
-    "transition = [{ name = \"North\" }, { name = \"Centre>North\" }, { name = \"Centre>South\" }, { name = \"South\" }]
+const RAILWAY: &[u8] =
+    b"transition = [{ name = \"North\" }, { name = \"Centre>North\" }, { name = \"Centre>South\" }, { name = \"South\" }]
 place = [
  { name = \"north_down\", from = \"North\", to = \"Centre>North\", hold = 24, tokens = 1 },
  { name = \"north_up\", from = \"Centre>North\", to = \"North\", hold = 24, tokens = 1 },
@@ -17,15 +18,15 @@ place = [
 ]
 ";
 
-const LATE: &str = "late ship 2 due 20 least 22
+const LATE: &[u8] = b"late ship 2 due 20 least 22
 path material 1 by feed saw 1 by to_drill drill 1 by drill_free drill 2 by to_ship ship 2
 ";
 
 // The files of the shelf, by name.
-const FILES: [(&str, &str); 32] = [
+const FILES: [(&str, &[u8]); 32] = [
     (
         "loop",
-        "transition = [{ name = \"a\" }, { name = \"b\" }]
+        b"transition = [{ name = \"a\" }, { name = \"b\" }]
 place = [
  { name = \"ab\", from = \"a\", to = \"b\", hold = 3 },
  { name = \"ba\", from = \"b\", to = \"a\", hold = 2, tokens = 1 },
@@ -34,7 +35,7 @@ place = [
     ),
     (
         "dead",
-        "transition = [{ name = \"a\" }, { name = \"b\" }]
+        b"transition = [{ name = \"a\" }, { name = \"b\" }]
 place = [
  { name = \"ab\", from = \"a\", to = \"b\" },
  { name = \"ba\", from = \"b\", to = \"a\" },
@@ -43,13 +44,13 @@ place = [
     ),
     (
         "plain",
-        "transition = [{ name = \"a\" }, { name = \"b\" }]
+        b"transition = [{ name = \"a\" }, { name = \"b\" }]
 place = [{ name = \"ab\", from = \"a\", to = \"b\", hold = 3 }]
 ",
     ),
     (
         "shop",
-        "transition = [{ name = \"material\", role = \"input\" }, { name = \"saw\" }, { name = \"drill\" }, { name = \"ship\" }]
+        b"transition = [{ name = \"material\", role = \"input\" }, { name = \"saw\" }, { name = \"drill\" }, { name = \"ship\" }]
 place = [
  { name = \"feed\", from = \"material\", to = \"saw\", hold = 2 },
  { name = \"saw_free\", from = \"saw\", to = \"saw\", hold = 4, tokens = 1 },
@@ -60,77 +61,80 @@ place = [
 ",
     ),
     ("railway", RAILWAY),
-    ("live", "live\ntransitions 2\nplaces 2\n"),
-    ("other counts", "live\ntransitions 2\nplaces 3\n"),
-    ("deadlock", "refused: token-free circuit ab ba\n"),
-    ("list", "dates of 2 firings\ntransition a b\n1 0 3\n2 5 8\n"),
+    ("live", b"live\ntransitions 2\nplaces 2\n"),
+    ("other counts", b"live\ntransitions 2\nplaces 3\n"),
+    ("deadlock", b"refused: token-free circuit ab ba\n"),
+    (
+        "list",
+        b"dates of 2 firings\ntransition a b\n1 0 3\n2 5 8\n",
+    ),
     (
         "other list",
-        "dates of 2 firings\ntransition a b\n1 0 3\n2 5 9\n",
+        b"dates of 2 firings\ntransition a b\n1 0 3\n2 5 9\n",
     ),
     (
         "turned list",
-        "dates of 2 firings\ntransition b a\n1 0 3\n2 5 9\n",
+        b"dates of 2 firings\ntransition b a\n1 0 3\n2 5 9\n",
     ),
-    ("date", "date b 2 8\n"),
-    ("other date", "date b 2 9\n"),
-    ("none", "no circuit\n"),
+    ("date", b"date b 2 8\n"),
+    ("other date", b"date b 2 9\n"),
+    ("none", b"no circuit\n"),
     (
         "slack",
-        "cycle time 5/1\nplace ab critical\nplace ba critical\n",
+        b"cycle time 5/1\nplace ab critical\nplace ba critical\n",
     ),
     (
         "cycle",
-        "cycle time 5/1\ncircuit ab ba\npart 1 ratio 5/1\ncircuit ab ba\npotential a 0\npotential b 3\n",
+        b"cycle time 5/1\ncircuit ab ba\npart 1 ratio 5/1\ncircuit ab ba\npotential a 0\npotential b 3\n",
     ),
     (
         "dates",
-        "settled after 0 period 1\ntransition a 0 step 5\ntransition b 3 step 5\n",
+        b"settled after 0 period 1\ntransition a 0 step 5\ntransition b 3 step 5\n",
     ),
-    ("size", "size ba 3/1 extra 1\ncircuit ab ba\n"),
-    ("due", "b,1,10\n"),
+    ("size", b"size ba 3/1 extra 1\ncircuit ab ba\n"),
+    ("due", b"b,1,10\n"),
     (
         "plan",
-        "latest inputs for 1 firings\nlatest a 1 7 by ab\nlatest b 1 10 due\n",
+        b"latest inputs for 1 firings\nlatest a 1 7 by ab\nlatest b 1 10 due\n",
     ),
     (
         "other plan",
-        "latest inputs for 1 firings\nlatest a 1 6 by ab\nlatest b 1 10 due\n",
+        b"latest inputs for 1 firings\nlatest a 1 6 by ab\nlatest b 1 10 due\n",
     ),
     (
         "other step",
-        "latest inputs for 1 firings\nlatest a 1 7 by ba\nlatest b 1 10 due\n",
+        b"latest inputs for 1 firings\nlatest a 1 7 by ba\nlatest b 1 10 due\n",
     ),
-    ("soon", "b,1,2\n"),
+    ("soon", b"b,1,2\n"),
     (
         "no plan",
-        "latest inputs for 1 firings\nlatest a 1 -1 by ab\nlatest b 1 2 due\n",
+        b"latest inputs for 1 firings\nlatest a 1 -1 by ab\nlatest b 1 2 due\n",
     ),
-    ("rows", "ship,1,15\nship,2,20\n"),
+    ("rows", b"ship,1,15\nship,2,20\n"),
     ("late", LATE),
     (
         "table",
-        "North,0\nCentre>North,3\nCentre>South,0\nSouth,15\nNorth,1,10\n",
+        b"North,0\nCentre>North,3\nCentre>South,0\nSouth,15\nNorth,1,10\n",
     ),
     (
         "kept",
-        "settled after 2 period 1\nkept\ncircuit south_down south_up\ndelays North 10 0 0\ndelays Centre>North 0 1 3\ndelays Centre>South 0 5 5\ndelays South 0 5 5\n",
+        b"settled after 2 period 1\nkept\ncircuit south_down south_up\ndelays North 10 0 0\ndelays Centre>North 0 1 3\ndelays Centre>South 0 5 5\ndelays South 0 5 5\n",
     ),
     (
         "over",
-        "settled after 3 period 1\nrecovered after 3\ndelays North 10 0 0 0\ndelays Centre>North 0 0 0 0\ndelays Centre>South 0 3 1 0\ndelays South 0 3 1 0\n",
+        b"settled after 3 period 1\nrecovered after 3\ndelays North 10 0 0 0\ndelays Centre>North 0 0 0 0\ndelays Centre>South 0 3 1 0\ndelays South 0 3 1 0\n",
     ),
     (
         "over later",
-        "settled after 3 period 1\nrecovered after 4\ndelays North 10 0 0 0\ndelays Centre>North 0 0 0 0\ndelays Centre>South 0 3 1 0\ndelays South 0 3 1 0\n",
+        b"settled after 3 period 1\nrecovered after 4\ndelays North 10 0 0 0\ndelays Centre>North 0 0 0 0\ndelays Centre>South 0 3 1 0\ndelays South 0 3 1 0\n",
     ),
     (
         "no fit",
-        "refused: place north_up does not fit the timetable\n",
+        b"refused: place north_up does not fit the timetable\n",
     ),
     (
         "other delay",
-        "settled after 2 period 1\nkept\ncircuit south_down south_up\ndelays North 10 0 0\ndelays Centre>North 0 1 4\ndelays Centre>South 0 5 5\ndelays South 0 5 5\n",
+        b"settled after 2 period 1\nkept\ncircuit south_down south_up\ndelays North 10 0 0\ndelays Centre>North 0 1 4\ndelays Centre>South 0 5 5\ndelays South 0 5 5\n",
     ),
 ];
 
@@ -346,49 +350,65 @@ const CALLS: [Call<'static>; 43] = [
     ),
 ];
 
-// A shelf with the files, whose reads with these numbers fail.
-fn shelf(alloc: Global, failing: &[u64]) -> Result<MemoryShelf, Fail> {
-    let mut files = Vec::new(alloc);
-    for (name, text) in &FILES {
-        files.push((
-            String::from_str(alloc, name)?,
-            Vec::from_slice(alloc, text.as_bytes())?,
-        ))?;
-    }
-    let failing = Vec::from_slice(alloc, failing)?;
-    Ok(MemoryShelf::new(alloc, files, failing))
+// Whether the call with these words ends and writes so into a sink of so much room.
+fn ends_so(
+    alloc: Global,
+    words: &[String],
+    shelf: &mut MemoryShelf,
+    room: usize,
+    call: &Call<'_>,
+) -> Result<bool, Fail> {
+    let (_, status, text) = *call;
+    let mut out = sink_of(alloc, 7, room, &[])?;
+    let ended = audit(alloc, words, shelf, &mut out);
+    Ok(ended == status && out.contents() == text.as_bytes())
+}
+
+// The same from a shelf whose reads with these numbers fail.
+fn reads_so(
+    alloc: Global,
+    words: &[String],
+    failing: &[u64],
+    room: usize,
+    call: &Call<'_>,
+) -> Result<bool, Fail> {
+    let mut shelf = shelf_of(alloc, &FILES, failing)?;
+    ends_so(alloc, words, &mut shelf, room, call)
 }
 
 // Whether the call with these reads that fail, into a sink of so much room, ends and writes so.
 fn is_so(alloc: Global, call: &Call<'_>, failing: &[u64], room: usize) -> Result<bool, Fail> {
-    let (asked, status, text) = *call;
-    let mut words = Vec::new(alloc);
-    for word in asked {
-        words.push(String::from_str(alloc, word)?)?;
-    }
-    let mut shelf = shelf(alloc, failing)?;
-    let mut out = MemorySink::new(alloc, 7, room, Vec::new(alloc))?;
-    let ended = audit(alloc, &words, &mut shelf, &mut out);
-    Ok(ended == status && out.contents() == text.as_bytes())
+    let words = words_of(alloc, call.0)?;
+    reads_so(alloc, &words, failing, room, call)
 }
 
 #[test]
 fn answers_are_audited(rt: HostRuntime) -> Result<(), Fail> {
     for call in &CALLS {
-        assert!(rt; is_so(rt.alloc(), call, &[], 4096)?);
+        let (_, _, text) = *call;
+        assert!(rt; is_so(rt.alloc(), call, &[], 4096)?, "{text}");
     }
     Ok(())
 }
 
+// A call whose answer is lost at each read, and cut where the sink has no more room.
+const LOST: Call<'static> = (
+    &["loop", "plan", "due"],
+    AuditStatus::NotRead,
+    "not read plan\n",
+);
+
+const CUT: Call<'static> = (
+    &["loop", "plan", "due"],
+    AuditStatus::WriteFault,
+    "shown latest in",
+);
+
 #[test]
 fn each_read_and_write_may_fail(rt: HostRuntime) -> Result<(), Fail> {
-    let alloc = rt.alloc();
-    let asked: &[&str] = &["loop", "plan", "due"];
-    let lost = (asked, AuditStatus::NotRead, "not read plan\n");
     for number in 1..4u64 {
-        assert!(rt; is_so(alloc, &lost, &[number], 4096)?);
+        assert!(rt; is_so(rt.alloc(), &LOST, &[number], 4096)?);
     }
-    let cut = (asked, AuditStatus::WriteFault, "shown latest in");
-    assert!(rt; is_so(alloc, &cut, &[], 15)?);
+    assert!(rt; is_so(rt.alloc(), &CUT, &[], 15)?);
     Ok(())
 }

@@ -1,13 +1,13 @@
 //! Delays that a timetable keeps.
 use delay_check::shown_kept;
 use delay_laws::{Delay, Timetable};
+use example_nets::ask_net;
 use std::alloc::{AllocError, Global};
 use std::test::Fail;
-use teg_net::{Net, OutOfMemory, TransitionId};
-use teg_reader::read_net;
+use teg_net::{Net, TransitionId};
 
-pub(crate) const RAILWAY: &str =
-    "transition = [{ name = \"North\" }, { name = \"Centre>North\" }, { name = \"Centre>South\" }, { name = \"South\" }]
+pub(crate) const RAILWAY: &[u8] =
+    b"transition = [{ name = \"North\" }, { name = \"Centre>North\" }, { name = \"Centre>South\" }, { name = \"South\" }]
 place = [
  { name = \"north_down\", from = \"North\", to = \"Centre>North\", hold = 24, tokens = 1 },
  { name = \"north_up\", from = \"Centre>North\", to = \"North\", hold = 24, tokens = 1 },
@@ -39,32 +39,9 @@ pub(crate) fn table(alloc: Global, by: u64) -> Result<Timetable, AllocError> {
         })?;
     }
     Ok(Timetable {
-        firsts: Vec::from_array(alloc, [0, 3, 0, 15])?,
+        firsts: Vec::from_slice(alloc, &[0, 3, 0, 15])?,
         delays,
     })
-}
-
-// How many places the circuit has that the text shows of the railway with this period and
-// timetable.
-fn shown_of(
-    alloc: Global,
-    railway: &Net,
-    period: u64,
-    table: &Timetable,
-    text: &str,
-) -> Result<Option<usize>, OutOfMemory> {
-    Ok(match shown_kept(alloc, railway, period, table, text)? {
-        Some(circuit) => Some(circuit.places.len()),
-        None => None,
-    })
-}
-
-// The same with this period and delay.
-fn shown(alloc: Global, period: u64, by: u64, text: &str) -> Result<Option<usize>, Fail> {
-    let table = table(alloc, by)?;
-    let railway = read_net(alloc, RAILWAY.as_bytes())?;
-    let told = shown_of(alloc, &railway, period, &table, text);
-    Ok(told?)
 }
 
 // The first lines alone.
@@ -189,11 +166,32 @@ const TEXTS: [(u64, u64, &str, Option<usize>); 18] = [
     (30, 10, HUGE, None),
 ];
 
-#[test]
-fn kept_delays_are_shown(rt: HostRuntime) -> Result<(), Fail> {
-    for (period, by, text, places) in &TEXTS {
-        let told = shown(rt.alloc(), *period, *by, text)?;
-        assert!(rt; told == *places, "{period} {by} {text}");
+// Whether the text of a row shows such a circuit of the railway.
+fn is_so(
+    alloc: Global,
+    railway: &Net,
+    row: &(u64, u64, &str, Option<usize>),
+) -> Result<bool, Fail> {
+    let (period, by, text, places) = *row;
+    let table = table(alloc, by)?;
+    let shown = shown_kept(alloc, railway, period, &table, text)?;
+    Ok(match shown {
+        Some(circuit) => places == Some(circuit.places.len()),
+        None => places.is_none(),
+    })
+}
+
+// Whether all do as they say; otherwise the text of the first that does not.
+fn are_so(alloc: Global, railway: &Net) -> Result<(), Fail> {
+    for row in &TEXTS {
+        if !is_so(alloc, railway, row)? {
+            return Err(Fail::new(row.2));
+        }
     }
     Ok(())
+}
+
+#[test]
+fn kept_delays_are_shown(rt: HostRuntime) -> Result<(), Fail> {
+    ask_net(rt.alloc(), RAILWAY, are_so)
 }

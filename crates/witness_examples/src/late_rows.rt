@@ -1,20 +1,10 @@
 //! The first row that comes late.
 use dating_check::shown_first_late;
+use example_nets::{SHOP, ask_net, due_rows};
 use std::alloc::Global;
-use teg_due::read_due;
-use teg_net::Net;
-use teg_reader::read_net;
-
-const SHOP: &str =
-    "transition = [{ name = \"material\", role = \"input\" }, { name = \"saw\" }, { name = \"drill\" }, { name = \"ship\" }]
-place = [
- { name = \"feed\", from = \"material\", to = \"saw\", hold = 2 },
- { name = \"saw_free\", from = \"saw\", to = \"saw\", hold = 4, tokens = 1 },
- { name = \"to_drill\", from = \"saw\", to = \"drill\", hold = 5 },
- { name = \"drill_free\", from = \"drill\", to = \"drill\", hold = 7, tokens = 1 },
- { name = \"to_ship\", from = \"drill\", to = \"ship\", hold = 8 },
-]
-";
+use std::test::Fail;
+use teg_due::Due;
+use teg_net::{Net, OutOfMemory};
 
 const LATE: &str = "late ship 2 due 20 least 22
 path material 1 by feed saw 1 by to_drill drill 1 by drill_free drill 2 by to_ship ship 2
@@ -25,25 +15,6 @@ const SOONER: &str = "late ship 2 due 10 least 15
 path drill 1 by drill_free drill 2 by to_ship ship 2
 ";
 
-// The least date that the text shows of the shop with these due dates.
-fn shown_of(alloc: Global, shop: &Net, due: &str, text: &str) -> Option<u128> {
-    let bytes = due.as_bytes();
-    if bytes.len() > 100 {
-        return None;
-    }
-    let due = read_due(alloc, shop, bytes).ok()?;
-    match shown_first_late(alloc, shop, &due, text) {
-        Ok(Some(late)) => Some(late.least),
-        _ => None,
-    }
-}
-
-// The same of the shop as its file has it.
-fn shown(alloc: Global, due: &str, text: &str) -> Option<u128> {
-    let shop = read_net(alloc, SHOP.as_bytes()).ok()?;
-    shown_of(alloc, &shop, due, text)
-}
-
 // Due dates, texts, and the least date that these show.
 const TEXTS: [(&str, &str, Option<u128>); 4] = [
     ("ship,1,15\nship,2,20\n", LATE, Some(22)),
@@ -53,9 +24,27 @@ const TEXTS: [(&str, &str, Option<u128>); 4] = [
     ("ship,2,10\n", SOONER, None),
 ];
 
-#[test]
-fn late_rows_are_shown(rt: HostRuntime) {
-    for (due, text, least) in &TEXTS {
-        assert!(rt; shown(rt.alloc(), due, text) == *least, "{due}");
+// The least date that the text shows of the shop with these due dates.
+fn least(alloc: Global, shop: &Net, due: &Due, text: &str) -> Result<Option<u128>, OutOfMemory> {
+    Ok(match shown_first_late(alloc, shop, due, text)? {
+        Some(late) => Some(late.least),
+        None => None,
+    })
+}
+
+// Whether all texts show so of the shop; otherwise the due dates of the first that does not.
+fn are_so(alloc: Global, shop: &Net) -> Result<(), Fail> {
+    for (file, text, wanted) in &TEXTS {
+        let due = due_rows(alloc, shop, file.as_bytes())?;
+        let least = least(alloc, shop, &due, text);
+        if least? != *wanted {
+            return Err(Fail::new(*file));
+        }
     }
+    Ok(())
+}
+
+#[test]
+fn late_rows_are_shown(rt: HostRuntime) -> Result<(), Fail> {
+    ask_net(rt.alloc(), SHOP, are_so)
 }

@@ -2,11 +2,11 @@
 use crate::kept_delays::{RAILWAY, table};
 use dating_check::shown_settled;
 use delay_laws::{Timetable, is_table_of};
+use example_nets::ask_net;
 use release_nets::{Planned, Unplanned, release_net};
 use std::alloc::Global;
 use std::test::Fail;
 use teg_net::{Net, PlaceId, is_circuit};
-use teg_reader::read_net;
 use witness_check::{begins_lowest, is_seen_live};
 
 // The delayed dates of the railway, of which the first train is late by 10, and its releases.
@@ -53,16 +53,18 @@ fn why_not(alloc: Global, railway: &Net, table: &Timetable) -> Result<Option<Unp
     }
 }
 
+// Whether those are shown, and not followed where trains leave so often.
+fn are_followed(alloc: Global, railway: &Net) -> Result<bool, Fail> {
+    let (table, place) = (table(alloc, 10)?, PlaceId::new(1));
+    Ok(
+        shown_after(alloc, railway, &table)? == Some(2)
+            && why_not(alloc, railway, &table)? == Some(Unplanned::Unworkable { place }),
+    )
+}
+
 #[test]
 fn release_nets_have_delayed_dates(rt: HostRuntime) -> Result<(), Fail> {
-    let alloc = rt.alloc();
-    let railway = read_net(alloc, RAILWAY.as_bytes())?;
-    let table = table(alloc, 10)?;
-    let after = shown_after(alloc, &railway, &table);
-    assert!(rt; after? == Some(2));
-    let why = why_not(alloc, &railway, &table);
-    let place = PlaceId::new(1);
-    assert!(rt; why? == Some(Unplanned::Unworkable { place }));
+    assert!(rt; ask_net(rt.alloc(), RAILWAY, are_followed)?);
     Ok(())
 }
 
@@ -82,11 +84,18 @@ fn begins_there(railway: &Net, places: &[PlaceId]) -> bool {
     is_circuit(railway, places) && begins_lowest(railway, places)
 }
 
+// Whether all rows of `CIRCUITS` are so.
+fn are_circuits(_alloc: Global, railway: &Net) -> Result<bool, Fail> {
+    for (places, is_so) in &CIRCUITS {
+        if begins_there(railway, places) != *is_so {
+            return Ok(false);
+        }
+    }
+    Ok(true)
+}
+
 #[test]
 fn circuits_begin_lowest(rt: HostRuntime) -> Result<(), Fail> {
-    let railway = read_net(rt.alloc(), RAILWAY.as_bytes())?;
-    for (places, is_so) in &CIRCUITS {
-        assert!(rt; begins_there(&railway, places) == *is_so);
-    }
+    assert!(rt; ask_net(rt.alloc(), RAILWAY, are_circuits)?);
     Ok(())
 }

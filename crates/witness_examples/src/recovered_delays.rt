@@ -1,9 +1,10 @@
 //! Delays of a timetable that die out.
 use crate::kept_delays::{RAILWAY, table};
 use delay_check::shown_recovered;
+use example_nets::ask_net;
 use std::alloc::Global;
 use std::test::Fail;
-use teg_reader::read_net;
+use teg_net::Net;
 
 const OVER: &str = "settled after 3 period 1
 recovered after 3
@@ -162,7 +163,7 @@ delays South 0 3 1 0
 ";
 
 // The number after which these show that no delay is left, by period, delay and text.
-const TEXTS: [(u64, u64, &str, Option<u64>); 26] = [
+const TEXTS: [(u64, u64, &str, Option<u64>); 28] = [
     (32, 10, OVER, Some(3)),
     (31, 10, SLOWER, Some(5)),
     (32, 0, ON_TIME, Some(0)),
@@ -191,30 +192,29 @@ const TEXTS: [(u64, u64, &str, Option<u64>); 26] = [
     (30, 10, KEPT, None),
     (30, 10, KEPT_AS_OVER, None),
     (32, 10, SHORT, None),
+    (32, 10, HUGE, None),
+    (32, 10, HUGE_LAST, None),
 ];
 
-// What the text shows of the railway with this period and delay.
-fn shown(alloc: Global, period: u64, by: u64, text: &str) -> Result<Option<u64>, Fail> {
+// Whether the text of a row shows so of the railway.
+fn is_so(alloc: Global, railway: &Net, row: &(u64, u64, &str, Option<u64>)) -> Result<bool, Fail> {
+    let (period, by, text, last) = *row;
     let table = table(alloc, by)?;
-    let railway = read_net(alloc, RAILWAY.as_bytes())?;
-    let told = shown_recovered(alloc, &railway, period, &table, text);
-    Ok(told?)
+    let shown = shown_recovered(alloc, railway, period, &table, text);
+    Ok(shown? == last)
+}
+
+// Whether all do as they say; otherwise the text of the first that does not.
+fn are_so(alloc: Global, railway: &Net) -> Result<(), Fail> {
+    for row in &TEXTS {
+        if !is_so(alloc, railway, row)? {
+            return Err(Fail::new(row.2));
+        }
+    }
+    Ok(())
 }
 
 #[test]
 fn delays_that_die_out_are_shown(rt: HostRuntime) -> Result<(), Fail> {
-    for (period, by, text, last) in &TEXTS {
-        let told = shown(rt.alloc(), *period, *by, text)?;
-        assert!(rt; told == *last, "{period} {by} {text}");
-    }
-    Ok(())
-}
-
-#[test]
-fn huge_numbers_show_nothing(rt: HostRuntime) -> Result<(), Fail> {
-    for text in &[HUGE, HUGE_LAST] {
-        let told = shown(rt.alloc(), 32, 10, text)?;
-        assert!(rt; told.is_none(), "{text}");
-    }
-    Ok(())
+    ask_net(rt.alloc(), RAILWAY, are_so)
 }

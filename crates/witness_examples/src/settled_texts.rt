@@ -1,22 +1,12 @@
 //! Texts of settled dates.
 use dating_check::shown_settled;
+use example_nets::{KANBAN, tells_all};
 use std::alloc::Global;
-use teg_reader::read_net;
+use std::test::Fail;
+use teg_net::{Net, OutOfMemory};
 
-const KANBAN: &str = "transition = [{ name = \"m1\" }, { name = \"m2\" }, { name = \"m3\" }]
-place = [
- { name = \"s1\", from = \"m1\", to = \"m1\", hold = 4, tokens = 1 },
- { name = \"s2\", from = \"m2\", to = \"m2\", hold = 6, tokens = 1 },
- { name = \"s3\", from = \"m3\", to = \"m3\", hold = 5, tokens = 1 },
- { name = \"f12\", from = \"m1\", to = \"m2\", hold = 4 },
- { name = \"f23\", from = \"m2\", to = \"m3\", hold = 6 },
- { name = \"c21\", from = \"m2\", to = \"m1\", tokens = 2 },
- { name = \"c32\", from = \"m3\", to = \"m2\", tokens = 2 },
-]
-";
-
-const TRAINS: &str =
-    "transition = [{ name = \"North\" }, { name = \"Centre>North\" }, { name = \"Centre>South\" }, { name = \"South\" }]
+const TRAINS: &[u8] =
+    b"transition = [{ name = \"North\" }, { name = \"Centre>North\" }, { name = \"Centre>South\" }, { name = \"South\" }]
 place = [
  { name = \"north_down\", from = \"North\", to = \"Centre>North\", hold = 24, tokens = 1 },
  { name = \"north_up\", from = \"Centre>North\", to = \"North\", hold = 24, tokens = 1 },
@@ -27,22 +17,13 @@ place = [
 ]
 ";
 
-const ENDS: &str = "transition = [{ name = \"feed\", role = \"input\" }, { name = \"saw\" }]
+const ENDS: &[u8] = b"transition = [{ name = \"feed\", role = \"input\" }, { name = \"saw\" }]
 input = [{ transition = \"feed\", dates = [0, 3] }]
 place = [{ name = \"to_saw\", from = \"feed\", to = \"saw\", hold = 2 }]
 ";
 
-// The number and the period that the text shows of this net.
-fn shown(alloc: Global, net: &str, text: &str) -> Option<(u64, u64)> {
-    let net = read_net(alloc, net.as_bytes()).ok()?;
-    match shown_settled(alloc, &net, text) {
-        Ok(Some(shown)) => Some((shown.after, shown.period)),
-        _ => None,
-    }
-}
-
 // Nets, texts, and the number and the period that these show.
-const TEXTS: [(&str, &str, Option<(u64, u64)>); 12] = [
+const TEXTS: [(&[u8], &str, Option<(u64, u64)>); 12] = [
     (
         KANBAN,
         "settled after 4 period 1
@@ -154,9 +135,15 @@ transition saw 2 5 8 step 0
     ),
 ];
 
+// The number and the period that the text shows.
+fn form(alloc: Global, net: &Net, text: &str) -> Result<Option<(u64, u64)>, OutOfMemory> {
+    Ok(match shown_settled(alloc, net, text)? {
+        Some(shown) => Some((shown.after, shown.period)),
+        None => None,
+    })
+}
+
 #[test]
-fn dates_are_shown(rt: HostRuntime) {
-    for (net, text, numbers) in &TEXTS {
-        assert!(rt; shown(rt.alloc(), net, text) == *numbers, "{text}");
-    }
+fn dates_are_shown(rt: HostRuntime) -> Result<(), Fail> {
+    tells_all(rt.alloc(), &TEXTS, &form)
 }

@@ -1,19 +1,10 @@
 //! The table of latest dates.
 use dating_check::{refutes_table, shown_table};
+use example_nets::{SHOP, ask_net, due_rows};
 use std::alloc::Global;
-use teg_due::read_due;
-use teg_reader::read_net;
-
-const SHOP: &str =
-    "transition = [{ name = \"material\", role = \"input\" }, { name = \"saw\" }, { name = \"drill\" }, { name = \"ship\" }]
-place = [
- { name = \"feed\", from = \"material\", to = \"saw\", hold = 2 },
- { name = \"saw_free\", from = \"saw\", to = \"saw\", hold = 4, tokens = 1 },
- { name = \"to_drill\", from = \"saw\", to = \"drill\", hold = 5 },
- { name = \"drill_free\", from = \"drill\", to = \"drill\", hold = 7, tokens = 1 },
- { name = \"to_ship\", from = \"drill\", to = \"ship\", hold = 8 },
-]
-";
+use std::test::Fail;
+use teg_due::Due;
+use teg_net::{Net, OutOfMemory};
 
 const PLAN: &str = "latest inputs for 3 firings
 input material 1 15 by feed
@@ -30,21 +21,10 @@ latest ship 2 40 due
 latest ship 3 free
 ";
 
-// The number that the text shows of the shop with these due dates, and whether it is refuted.
-fn found(alloc: Global, due: &str, text: &str) -> Option<(Option<u32>, bool)> {
-    let shop = read_net(alloc, SHOP.as_bytes()).ok()?;
-    let bytes = due.as_bytes();
-    if bytes.len() > 100 {
-        return None;
-    }
-    let due = read_due(alloc, &shop, bytes).ok()?;
-    let number = shown_table(alloc, &shop, &due, text).ok()?;
-    let refuted = refutes_table(alloc, &shop, &due, text).ok()?;
-    Some((number, refuted))
-}
+// Due dates, a text, the number that it shows, and whether it is refuted.
+type Table<'a> = (&'a str, &'a str, Option<u32>, bool);
 
-// Due dates, texts, the number that these show, and whether they are refuted.
-const TABLES: [(&str, &str, Option<u32>, bool); 9] = [
+const TABLES: [Table<'static>; 9] = [
     ("ship,2,40\ndrill,3,36\n", PLAN, Some(3), false),
     ("ship,2,40\ndrill,3,37\n", PLAN, None, true),
     ("ship,2,40\ndrill,3,36\nship,4,90\n", PLAN, None, true),
@@ -117,12 +97,28 @@ latest ship 1 15 due
     ),
 ];
 
-#[test]
-fn tables_are_shown(rt: HostRuntime) {
-    for (due, text, number, refuted) in &TABLES {
-        assert!(rt;
-            found(rt.alloc(), due, text) == Some((*number, *refuted)),
-            "{due}"
-        );
+// Whether the text of a row shows so of the shop with these due dates.
+fn is_so(alloc: Global, shop: &Net, due: &Due, row: &Table<'_>) -> Result<bool, OutOfMemory> {
+    let (_, text, number, refuted) = *row;
+    Ok(
+        shown_table(alloc, shop, due, text)? == number
+            && refutes_table(alloc, shop, due, text)? == refuted,
+    )
+}
+
+// Whether all do as they say; otherwise the text of the first that does not.
+fn are_so(alloc: Global, shop: &Net) -> Result<(), Fail> {
+    for row in &TABLES {
+        let due = due_rows(alloc, shop, row.0.as_bytes())?;
+        let is_so = is_so(alloc, shop, &due, row);
+        if !is_so? {
+            return Err(Fail::new(row.1));
+        }
     }
+    Ok(())
+}
+
+#[test]
+fn tables_are_shown(rt: HostRuntime) -> Result<(), Fail> {
+    ask_net(rt.alloc(), SHOP, are_so)
 }
