@@ -248,14 +248,14 @@ def item_of(text, name):
 
 def statements_of(text, name, above=()):
     """The statements of a function in the text of a source file, four spaces to the left. Those of another function of
-    that file stand in the place of a line that calls it, without the line that it answers: a test may lend what it owns
-    to functions of its own."""
+    that file stand in the place of a line that calls it or hands it on, without the line that it answers: a test may
+    lend what it owns to functions of its own."""
     lines = item_of(text, name).splitlines()
     begun = next((at for at, line in enumerate(lines) if re.search(r"(^| )\{$", line)), len(lines))
     others = [it for it in re.findall(r"^(?:pub )?fn (\w+)", text, re.M) if it not in (name, *above)]
     told = []
     for at, line in enumerate(lines[begun + 1 : -1], begun + 2):
-        called = [it for it in others if re.search(rf"(?<![\w.:]){it}\(", line)]
+        called = [it for it in others if re.search(rf"(?<![\w.:]){it}[(,)]", line)]
         if called:
             told += [it for other in called for it in statements_of(text, other, (name, *above))]
         elif not above or at < len(lines) - 1 or line.endswith((";", "}")):

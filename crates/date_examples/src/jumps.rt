@@ -1,11 +1,18 @@
 //! Dates of late firings of nets whose rates nearly agree, by rows that are made only near the
 //! numbers at which one circuit overtakes another.
+ghost use Rattle.std.specs.Prelude.{◌<◌, ◌≤◌, length};
+ghost use Rattle.teg_check.specs.Ranks.{IsRanking};
+ghost use Rattle.teg_net.specs.Limits.{greatest_firing_number};
+
+use date_rows::Rows;
 use dioid::Date;
-use example_nets::{held, transition_named};
-use run_rows::{date_by_jumps, dates_by_jumps, settles_past};
+use example_nets::{ask_held, transition_named};
+use run_rows::{date_by_jumps, date_past_rows, dates_by_jumps, settles_past};
 use std::alloc::Global;
 use std::test::Fail;
-use teg_check::LiveNet;
+use teg_check::{Live, LiveNet};
+use teg_net::{Net, OutOfMemory, TransitionId};
+use teg_settle::{DateOrRows, date_within};
 
 // Two machines, of which the second one is slower by one unit in 1,000,000,000, with room for 1,000
 // parts between them: the first one waits for it from firing 999,000,000,002 on.
@@ -16,50 +23,75 @@ const NEARLY_ALIKE: &[u8] =
 const IN_TWOS: &[u8] =
     b"transition = [{name = 'in', role = 'input'}, {name = 'm'}]\nplace = [{name = 'feed', from = 'in', to = 'm'}, {name = 'free', from = 'm', to = 'm', hold = 3, tokens = 1}]\n[[input]]\ntransition = 'in'\ndates = [0, 0]\nevery = 2\ngap = 7\n";
 
-// The date of firing 1,000,000,000,000 of a.
-fn late_date(alloc: Global, held: &LiveNet) -> Result<Date, Fail> {
+// Whether firing 1,000,000,000,000 of a has its date.
+fn has_late_date(alloc: Global, held: &LiveNet) -> Result<bool, Fail> {
     let first = transition_named(held.net(), "a")?;
-    let date = date_by_jumps(alloc, held.net(), held.live(), first, 1_000_000_000_000);
-    Ok(date?)
+    let date = date_by_jumps(alloc, held.net(), held.live(), first, 1_000_000_000_000)?;
+    Ok(date == Date::At(999_999_999_000_000_000_000))
 }
 
 // Whether jumps show the settled form to be longer than 200,000.
 fn is_longer(alloc: Global, held: &LiveNet) -> Result<bool, Fail> {
-    let longer = settles_past(alloc, held.net(), held.live(), 200_000);
-    Ok(longer?)
+    Ok(settles_past(alloc, held.net(), held.live(), 200_000)?)
 }
 
-// Early and late dates of the machine.
-fn dates_of_machine(alloc: Global, held: &LiveNet) -> Result<[Date; 5], Fail> {
+// Whether they do not.
+fn is_not_longer(alloc: Global, held: &LiveNet) -> Result<bool, Fail> {
+    Ok(!is_longer(alloc, held)?)
+}
+
+// Whether the machine has these early and late dates: it works at 0 and 3, at 7 and 10, and so on.
+fn works_by_twos(alloc: Global, held: &LiveNet) -> Result<bool, Fail> {
     let machine = transition_named(held.net(), "m")?;
     let rows = dates_by_jumps(alloc, held.net(), held.live(), 1_000_000)?;
-    Ok([
-        rows.date(machine, 1),
-        rows.date(machine, 2),
-        rows.date(machine, 3),
-        rows.date(machine, 999_999),
-        rows.date(machine, 1_000_000),
-    ])
+    Ok(
+        rows.date(machine, 1) == Date::At(0)
+            && rows.date(machine, 2) == Date::At(3)
+            && rows.date(machine, 3) == Date::At(7)
+            && rows.date(machine, 999_999) == Date::At(3_499_993)
+            && rows.date(machine, 1_000_000) == Date::At(3_499_996),
+    )
 }
 
-// Those dates: the machine works at 0 and 3, at 7 and 10, and so on.
-const BY_TWOS: [Date; 5] = [
-    Date::At(0),
-    Date::At(3),
-    Date::At(7),
-    Date::At(3_499_993),
-    Date::At(3_499_996),
-];
+// The date of the firing of this number from 10 to 10^18 by rows up to number 2,010, if these tell
+// it, or by jumps from them on, if they jump.
+fn date_past(
+    alloc: Global,
+    net: &Net,
+    live: &Live,
+    transition: TransitionId,
+    number: u64,
+) -> Result<Option<Date>, OutOfMemory>
+    requires stands { IsRanking net.now live.now }
+    requires transition { transition.index < length net.now.transitions }
+    requires first { 1 ≤ number }
+    requires last { number ≤ greatest_firing_number }
+{
+    let none = Rows::new(alloc, net);
+    match date_within(alloc, net, live, transition, number, none, 2010)? {
+        DateOrRows::Known(date) => Ok(Some(date)),
+        DateOrRows::Made(rows) => date_past_rows(alloc, net, live, &rows, transition, number),
+    }
+}
+
+// Whether firings of a have their dates by rows, and by jumps past them.
+fn jumps_past_rows(alloc: Global, held: &LiveNet) -> Result<bool, Fail> {
+    let (net, live) = (held.net(), held.live());
+    let first = transition_named(net, "a")?;
+    let early = date_past(alloc, net, live, first, 2_000)?;
+    let late = date_past(alloc, net, live, first, 1_000_000_000_000)?;
+    Ok(
+        early == Some(Date::At(1_998_999_998_001))
+            && late == Some(Date::At(999_999_999_000_000_000_000)),
+    )
+}
 
 #[test]
 fn late_dates_are_told(rt: HostRuntime) -> Result<(), Fail> {
-    let date = late_date(rt.alloc(), &held(rt.alloc(), NEARLY_ALIKE)?);
-    assert!(rt; date? == Date::At(999_999_999_000_000_000_000));
-    let longer = is_longer(rt.alloc(), &held(rt.alloc(), NEARLY_ALIKE)?);
-    assert!(rt; longer?);
-    let longer = is_longer(rt.alloc(), &held(rt.alloc(), IN_TWOS)?);
-    assert!(rt; !longer?);
-    let dates = dates_of_machine(rt.alloc(), &held(rt.alloc(), IN_TWOS)?);
-    assert!(rt; dates? == BY_TWOS);
+    assert!(rt; ask_held(rt.alloc(), NEARLY_ALIKE, has_late_date)?);
+    assert!(rt; ask_held(rt.alloc(), NEARLY_ALIKE, is_longer)?);
+    assert!(rt; ask_held(rt.alloc(), IN_TWOS, is_not_longer)?);
+    assert!(rt; ask_held(rt.alloc(), IN_TWOS, works_by_twos)?);
+    assert!(rt; ask_held(rt.alloc(), NEARLY_ALIKE, jumps_past_rows)?);
     Ok(())
 }

@@ -4,7 +4,7 @@ ghost use Rattle.std.specs.Prelude.{◌≤◌};
 ghost use Rattle.teg_timetable.specs.release_nets.PlannedNets.{greatest_period};
 
 use endless_due::{EndlessRefusal, EndlessRow, is_endless_of, read_endless};
-use example_nets::{held, read, says};
+use example_nets::{ask_held, ask_net, says};
 use std::alloc::{AllocError, Global};
 use std::fmt::Display;
 use std::test::Fail;
@@ -110,8 +110,7 @@ fn is_told(alloc: Global, shuttle: &LiveNet) -> Result<bool, Fail> {
 #[test]
 fn kept_delays_are_shown(rt: HostRuntime) -> Result<(), Fail> {
     laws();
-    let is_told = is_told(rt.alloc(), &held(rt.alloc(), SHUTTLE)?);
-    assert!(rt; is_told?);
+    assert!(rt; ask_held(rt.alloc(), SHUTTLE, is_told)?);
     Ok(())
 }
 
@@ -141,15 +140,14 @@ const TABLES: [(&[u64], &[(u32, u64)], bool); 5] = [
     (&[0, 3], &[(1, 0)], false),
 ];
 
-// The row of `TABLES` that is told otherwise.
-fn wrong_table(alloc: Global, shuttle: &Net) -> Result<Option<usize>, AllocError> {
-    for (row, (firsts, delays, is_right)) in TABLES.iter().enumerate() {
-        let table = table_of(alloc, firsts, delays)?;
-        if is_table_of(shuttle, &table) != *is_right {
-            return Ok(Some(row));
+// Whether each row of `TABLES` is told so.
+fn are_tables(alloc: Global, shuttle: &Net) -> Result<bool, Fail> {
+    for (firsts, delays, is_right) in &TABLES {
+        if is_table_of(shuttle, &table_of(alloc, firsts, delays)?) != *is_right {
+            return Ok(false);
         }
     }
-    Ok(None)
+    Ok(true)
 }
 
 // A row of this transition by these dates, which goes on by 4 each 2 dates.
@@ -172,24 +170,29 @@ const ROWS: [(u32, &[u64], bool); 5] = [
     (1, &[10], false),
 ];
 
-// The row of `ROWS` that is told otherwise.
-fn wrong_row(alloc: Global, feed: &Net) -> Result<Option<usize>, AllocError> {
-    for (number, (index, dates, is_right)) in ROWS.iter().enumerate() {
-        let row = [row_of(alloc, *index, dates)?];
-        if is_endless_of(feed, &row) != *is_right {
-            return Ok(Some(number));
-        }
+// Whether so many rows of this transition by these dates may stand in one list.
+fn may_stand(
+    alloc: Global,
+    feed: &Net,
+    index: u32,
+    dates: &[u64],
+    times: u32,
+) -> Result<bool, AllocError> {
+    let mut rows = Vec::new(alloc);
+    for _ in 0..times {
+        rows.push(row_of(alloc, index, dates)?)?;
     }
-    Ok(None)
+    Ok(is_endless_of(feed, &rows))
 }
 
-// Whether two rows of the saw may stand in one list.
-fn may_be_twice(alloc: Global, feed: &Net) -> Result<bool, AllocError> {
-    let mut twice = Vec::new(alloc);
-    for _ in 0..2 {
-        twice.push(row_of(alloc, 1, &[10, 12])?)?;
+// Whether each row of `ROWS` is told so.
+fn are_rows(alloc: Global, feed: &Net) -> Result<bool, AllocError> {
+    for (index, dates, is_right) in &ROWS {
+        if may_stand(alloc, feed, *index, dates, 1)? != *is_right {
+            return Ok(false);
+        }
     }
-    Ok(is_endless_of(feed, &twice))
+    Ok(true)
 }
 
 // How many inputs have latest releases for parts from the saw every 4.
@@ -201,19 +204,16 @@ fn releases(alloc: Global, feed: &LiveNet) -> Result<usize, Fail> {
 // Whether rows of the saw are told as they are, and parts from it have releases.
 fn is_fed(alloc: Global, feed: &LiveNet) -> Result<bool, Fail> {
     Ok(
-        wrong_row(alloc, feed.net())?.is_none()
-            && !may_be_twice(alloc, feed.net())?
+        are_rows(alloc, feed.net())?
+            && !may_stand(alloc, feed.net(), 1, &[10, 12], 2)?
             && releases(alloc, feed)? == 1,
     )
 }
 
 #[test]
 fn rows_of_a_program_are_tested(rt: HostRuntime) -> Result<(), Fail> {
-    let alloc = rt.alloc();
-    let table = wrong_table(alloc, &read(alloc, SHUTTLE)?);
-    assert!(rt; table?.is_none());
-    let is_fed = is_fed(alloc, &held(alloc, FEED)?);
-    assert!(rt; is_fed?);
+    assert!(rt; ask_net(rt.alloc(), SHUTTLE, are_tables)?);
+    assert!(rt; ask_held(rt.alloc(), FEED, is_fed)?);
     Ok(())
 }
 

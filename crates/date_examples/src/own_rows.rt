@@ -6,7 +6,7 @@ ghost use Rattle.date_rows.specs.KeptRows.{AreLeastRows};
 ghost use Rattle.date_rows.specs.teg_model.Datings.{listed_releases, system_of};
 
 use date_rows::{NetInputs, PlaceOrder, Rows, nets_keep_bounds, nets_keep_short_bounds};
-use example_nets::{LOOP, held};
+use example_nets::{LOOP, ask_held};
 use std::alloc::Global;
 use std::test::Fail;
 use teg_check::LiveNet;
@@ -41,15 +41,33 @@ fn with_next_in_cells(net: &Net, order: &PlaceOrder, rows: Rows) -> Result<Rows,
     rows.with_next_in_cells(net, order, &NetInputs)
 }
 
-// The form that the first rows of a net show.
-fn form_of(alloc: Global, held: &LiveNet) -> Result<Option<Repetition>, Fail> {
-    let (net, live) = (held.net(), held.live());
-    let order = PlaceOrder::new(alloc, net, live)?;
-    let releases = own_releases(alloc, net)?;
-    let one = with_next(net, &order, Rows::new(alloc, net))?;
-    let two = with_next(net, &order, one)?;
-    let three = with_next_in_cells(net, &order, two)?;
-    Ok(shown_form(net, live, &releases, &three))
+// The first three rows of a net.
+fn three_rows(alloc: Global, net: &Net, order: &PlaceOrder) -> Result<Rows, OutOfMemory>
+    requires { OrdersPlaces net.now order.now }
+    ensures count { IfOk result (λ rows. rows.count ≡ 3) }
+    ensures rows { IfOk result
+        (AreLeastRows net.now (system_of net.now (listed_releases net.now))) }
+{
+    let one = with_next(net, order, Rows::new(alloc, net))?;
+    let two = with_next(net, order, one)?;
+    with_next_in_cells(net, order, two)
+}
+
+// The same in the order of its own places.
+fn own_rows(alloc: Global, held: &LiveNet) -> Result<Rows, OutOfMemory>
+    ensures count { IfOk result (λ rows. rows.count ≡ 3) }
+    ensures rows { IfOk result
+        (AreLeastRows held.now (system_of held.now (listed_releases held.now))) }
+{
+    let order = PlaceOrder::new(alloc, held.net(), held.live())?;
+    three_rows(alloc, held.net(), &order)
+}
+
+// The form that these show.
+fn form_of(alloc: Global, held: &LiveNet) -> Result<Option<Repetition>, OutOfMemory> {
+    let rows = own_rows(alloc, held)?;
+    let releases = own_releases(alloc, held.net())?;
+    Ok(shown_form(held.net(), held.live(), &releases, &rows))
 }
 
 // The number and the period of that form.
@@ -62,7 +80,6 @@ fn told_form(alloc: Global, held: &LiveNet) -> Result<Option<(u64, u64)>, Fail> 
 
 #[test]
 fn rows_show_a_form(rt: HostRuntime) -> Result<(), Fail> {
-    let told = told_form(rt.alloc(), &held(rt.alloc(), LOOP)?);
-    assert!(rt; told? == Some((0, 1)));
+    assert!(rt; ask_held(rt.alloc(), LOOP, told_form)? == Some((0, 1)));
     Ok(())
 }

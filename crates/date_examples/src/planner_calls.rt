@@ -1,7 +1,7 @@
 //! What planners ask of a net beside its dates: the earliest timetable of a period, how many firings
 //! come by a date, and how many tokens a place ever holds.
 use date_counts::count_by;
-use example_nets::{LOOP, held, place_named, transition_named};
+use example_nets::{LOOP, ask_held, place_named, transition_named};
 use std::alloc::Global;
 use std::test::Fail;
 use teg_check::LiveNet;
@@ -67,7 +67,6 @@ fn is_told(alloc: Global, held: &LiveNet) -> Result<bool, Fail> {
 
 #[test]
 fn planners_are_answered(rt: HostRuntime) -> Result<(), Fail> {
-    let is_told = is_told(rt.alloc(), &held(rt.alloc(), LOOP)?);
-    assert!(rt; is_told?);
+    assert!(rt; ask_held(rt.alloc(), LOOP, is_told)?);
     Ok(())
 }

@@ -5,7 +5,7 @@ ghost use Rattle.teg_form.specs.StandardForms.{IsStandardFormOf};
 ghost use Rattle.date_rows.specs.Streams.{IsStreamOf, rows_given};
 
 use dioid::Date;
-use example_nets::{LOOP, held};
+use example_nets::{LOOP, ask_held};
 use std::alloc::Global;
 use std::test::Fail;
 use teg_check::LiveNet;
@@ -67,8 +67,7 @@ fn gives_rows(alloc: Global, held: &LiveNet) -> Result<bool, Fail> {
 #[test]
 fn a_stream_gives_row_after_row(rt: HostRuntime) -> Result<(), Fail> {
     for file in [LOOP, MANY_TOKENS] {
-        let gives_rows = gives_rows(rt.alloc(), &held(rt.alloc(), file)?);
-        assert!(rt; gives_rows?);
+        assert!(rt; ask_held(rt.alloc(), file, gives_rows)?);
     }
     Ok(())
 }

@@ -1,11 +1,14 @@
 //! Tables of dates that are told, and checked by the net and the due dates alone: latest dates,
 //! plans, and rows that show how dates go on for ever. With one number changed they show nothing.
+ghost use Rattle.teg_due.specs.RowRules.{IsDueOf};
+
 use dating_certificates::{check_latest, check_plan, check_settled, check_shortest};
 use dioid::Date;
-use example_nets::{KANBAN, LOOP, SHOP, due_rows, read};
+use example_nets::{KANBAN, LOOP, SHOP, ask_net, due_rows};
 use std::alloc::Global;
 use std::test::Fail;
-use teg_net::Net;
+use teg_due::Due;
+use teg_net::{Net, OutOfMemory};
 
 // A line of three machines, of which the drill is down until 40 before its third job.
 const BROKEN: &[u8] = b"version = 2
@@ -32,19 +35,6 @@ fn dates_of(alloc: Global, text: &str) -> Result<Vec<Date>, Fail> {
         })?;
     }
     Ok(dates)
-}
-
-// Whether the dates of so many numbers are the latest ones, and whether they are a plan.
-fn asked(
-    alloc: Global,
-    net: &Net,
-    due: &[u8],
-    numbers: u32,
-    dates: &[Date],
-) -> Result<(bool, bool), Fail> {
-    let due = due_rows(alloc, net, due)?;
-    let is_latest = check_latest(alloc, net, &due, numbers, dates)?;
-    Ok((is_latest, check_plan(alloc, net, &due, numbers, dates)?))
 }
 
 // A net, what is due in it, a number, dates of so many numbers, and whether these are the latest
@@ -121,21 +111,44 @@ const LATEST: [Latest<'static>; 8] = [
     ),
 ];
 
-// What of a row is told.
-fn told_latest(alloc: Global, row: &Latest<'_>) -> Result<(bool, bool), Fail> {
-    let (net, due, numbers, text, _, _) = *row;
-    let dates = dates_of(alloc, text)?;
-    asked(alloc, &read(alloc, net)?, due, numbers, &dates)
+// Whether the dates are the latest ones, and whether they are a plan, as the row says.
+fn are_latest(
+    alloc: Global,
+    net: &Net,
+    due: &Due,
+    dates: &[Date],
+    row: &Latest<'_>,
+) -> Result<bool, OutOfMemory>
+    requires { IsDueOf net.now due.now.rows.items }
+{
+    let (_, _, numbers, _, is_latest, is_plan) = *row;
+    Ok(
+        check_latest(alloc, net, due, numbers, dates)? == is_latest
+            && check_plan(alloc, net, due, numbers, dates)? == is_plan,
+    )
+}
+
+// The same of the dates of the row's text.
+fn is_latest_text(alloc: Global, net: &Net, due: &Due, row: &Latest<'_>) -> Result<bool, Fail>
+    requires { IsDueOf net.now due.now.rows.items }
+{
+    let dates = dates_of(alloc, row.3)?;
+    let are_latest = are_latest(alloc, net, due, &dates, row);
+    Ok(are_latest?)
+}
+
+// The same of what is due in the net.
+fn is_latest(alloc: Global, net: &Net, row: &Latest<'_>) -> Result<bool, Fail> {
+    let due = due_rows(alloc, net, row.1)?;
+    is_latest_text(alloc, net, &due, row)
 }
 
 #[test]
 fn latest_dates_and_plans_are_checked(rt: HostRuntime) -> Result<(), Fail> {
     for row in &LATEST {
-        let (_, _, _, text, is_latest, is_plan) = *row;
-        assert!(rt;
-            told_latest(rt.alloc(), row)? == (is_latest, is_plan),
-            "{text}"
-        );
+        let (file, _, _, text, _, _) = *row;
+        let is_so = ask_net(rt.alloc(), file, |alloc, net| is_latest(alloc, net, row))?;
+        assert!(rt; is_so, "{text}");
     }
     Ok(())
 }
@@ -169,35 +182,34 @@ const SETTLED: [Settled<'static>; 8] = [
     (LOOP, 0, 1, ROUNDS, &[6, 6], false, false),
 ];
 
-// Whether rows of a net show how its dates go on, and that neither number can be less.
-fn shown(
+// Whether the rows show how the dates of the net go on, and that neither number can be less, as the
+// row says.
+fn are_shown(
     alloc: Global,
     net: &Net,
-    numbers: (u64, u64),
     dates: &[Date],
-    steps: &[i128],
-) -> Result<(bool, bool), Fail> {
-    let (after, period) = numbers;
-    let is_settled = check_settled(alloc, net, after, period, dates, steps)?;
-    let is_shortest = check_shortest(alloc, net, after, period, dates, steps)?;
-    Ok((is_settled, is_shortest))
+    row: &Settled<'_>,
+) -> Result<bool, OutOfMemory> {
+    let (_, after, period, _, steps, is_settled, is_shortest) = *row;
+    Ok(
+        check_settled(alloc, net, after, period, dates, steps)? == is_settled
+            && check_shortest(alloc, net, after, period, dates, steps)? == is_shortest,
+    )
 }
 
-// What of a row is told.
-fn told_settled(alloc: Global, row: &Settled<'_>) -> Result<(bool, bool), Fail> {
-    let (net, after, period, text, steps, _, _) = *row;
-    let dates = dates_of(alloc, text)?;
-    shown(alloc, &read(alloc, net)?, (after, period), &dates, steps)
+// The same of the rows of its text.
+fn is_settled(alloc: Global, net: &Net, row: &Settled<'_>) -> Result<bool, Fail> {
+    let dates = dates_of(alloc, row.3)?;
+    let are_shown = are_shown(alloc, net, &dates, row);
+    Ok(are_shown?)
 }
 
 #[test]
 fn settled_and_shortest_rows_are_checked(rt: HostRuntime) -> Result<(), Fail> {
     for row in &SETTLED {
-        let (_, _, _, text, _, is_settled, is_shortest) = *row;
-        assert!(rt;
-            told_settled(rt.alloc(), row)? == (is_settled, is_shortest),
-            "{text}"
-        );
+        let (file, _, _, text, _, _, _) = *row;
+        let is_so = ask_net(rt.alloc(), file, |alloc, net| is_settled(alloc, net, row))?;
+        assert!(rt; is_so, "{text}");
     }
     Ok(())
 }

@@ -1,30 +1,48 @@
 //! Nets that a program builds an entry at a time, and what a builder refuses.
 use net_builder::{BuildRefusal, NetBuilder};
 use std::alloc::Global;
+use std::process::Abort;
 use std::test::Fail;
 use teg_net::{
     Again, DateList, InputFault, InputList, Name, NetFault, Place, PlaceFault, PlaceId, Role,
     TransitionId,
 };
 
-#[test]
-fn a_net_is_built(rt: HostRuntime) -> Result<(), Fail> {
-    let alloc = rt.alloc();
-    let mut line = NetBuilder::new(alloc, "in", Role::Input)?;
+// A machine with a belt before it.
+fn add_machine(alloc: Global, line: &mut NetBuilder) -> Result<PlaceId, BuildRefusal> {
     let entry = TransitionId::new(0);
     let work = line.transition(alloc, "work", Role::Internal)?;
     line.place(alloc, "belt", entry, work, 2, 0)?;
     let busy = line.place(alloc, "busy", work, work, 3, 1)?;
+    Ok(busy)
+}
+
+// The net has the place.
+fn look_at_net(rt: &impl Abort, line: NetBuilder, busy: PlaceId) {
     let net = line.finish();
     assert!(rt; net.find_place("busy") == Some(busy));
+}
+
+#[test]
+fn a_net_is_built(rt: HostRuntime) -> Result<(), Fail> {
+    let alloc = rt.alloc();
+    let mut line = NetBuilder::new(alloc, "in", Role::Input)?;
+    let busy = add_machine(alloc, &mut line)?;
+    look_at_net(&rt, line, busy);
     Ok(())
 }
 
-// An input, number 0, and a machine that works on one part at a time.
-fn line(alloc: Global) -> Result<NetBuilder, Fail> {
-    let mut line = NetBuilder::new(alloc, "in", Role::Input)?;
+// Adds a machine that works on one part at a time.
+fn add_busy(alloc: Global, line: &mut NetBuilder) -> Result<(), BuildRefusal> {
     let work = line.transition(alloc, "work", Role::Internal)?;
     line.place(alloc, "busy", work, work, 3, 1)?;
+    Ok(())
+}
+
+// An input, number 0, and such a machine.
+fn busy_line(alloc: Global) -> Result<NetBuilder, Fail> {
+    let mut line = NetBuilder::new(alloc, "in", Role::Input)?;
+    add_busy(alloc, &mut line)?;
     Ok(line)
 }
 
@@ -42,78 +60,113 @@ fn refuses_places(alloc: Global, line: &mut NetBuilder) -> bool {
     for (from, to, hold, tokens, fault) in PLACES {
         let (from, to) = (TransitionId::new(from), TransitionId::new(to));
         let refused = line.place(alloc, "next", from, to, hold, tokens);
-        let fault = NetFault::BadPlace(PlaceId::new(1), fault);
-        if refused != Err(BuildRefusal::Breaks { fault }) {
+        if refused != breaks(NetFault::BadPlace(PlaceId::new(1), fault)) {
             return false;
         }
     }
     true
 }
 
-#[test]
-fn what_breaks_a_rule_is_not_added(rt: HostRuntime) -> Result<(), Fail> {
-    let alloc = rt.alloc();
-    let mut line = line(alloc)?;
+// Whether a bad name, and names of earlier entries, are refused.
+fn refuses_names(alloc: Global, line: &mut NetBuilder) -> bool {
     let work = TransitionId::new(1);
     let named = line.place(alloc, "no name", work, work, 3, 1);
-    assert!(rt; named == Err(BuildRefusal::BadName));
-    let same = line.transition(alloc, "in", Role::Output);
-    let fault = NetFault::SameTransition(TransitionId::new(2));
-    assert!(rt; same == Err(BuildRefusal::Breaks { fault }));
-    let same = line.place(alloc, "busy", work, work, 3, 1);
-    let fault = NetFault::SamePlace(PlaceId::new(1));
-    assert!(rt; same == Err(BuildRefusal::Breaks { fault }));
-    assert!(rt; refuses_places(alloc, &mut line));
-    assert!(rt; line.transitions().len() == 2 && line.places().len() == 1);
+    let transition = line.transition(alloc, "in", Role::Output);
+    let place = line.place(alloc, "busy", work, work, 3, 1);
+    named == Err(BuildRefusal::BadName)
+        && transition == breaks(NetFault::SameTransition(TransitionId::new(2)))
+        && place == breaks(NetFault::SamePlace(PlaceId::new(1)))
+}
+
+// Whether what breaks a rule is refused, and not added.
+fn refuses(alloc: Global, line: &mut NetBuilder) -> bool {
+    refuses_names(alloc, line)
+        && refuses_places(alloc, line)
+        && line.transitions().len() == 2
+        && line.places().len() == 1
+}
+
+#[test]
+fn what_breaks_a_rule_is_not_added(rt: HostRuntime) -> Result<(), Fail> {
+    assert!(rt; refuses(rt.alloc(), &mut busy_line(rt.alloc())?));
     Ok(())
 }
 
-// A place into the machine with these ready dates and so many tokens.
-fn ready_place(alloc: Global, ready: Vec<u64>, tokens: u32) -> Result<Place, Fail> {
+// A place into the machine with these ready dates and two tokens.
+fn ready_place(alloc: Global, ready: &[u64]) -> Result<Place, Fail> {
     let name = Name::new(alloc, "belt")?;
     Ok(Place {
         name,
         from: TransitionId::new(0),
         to: TransitionId::new(1),
         hold: 2,
-        tokens,
-        ready: DateList::new(ready),
+        tokens: 2,
+        ready: DateList::new(Vec::from_slice(alloc, ready)?),
     })
 }
 
-// The list of these dates of a transition, which goes on 4 later each.
-fn list(transition: u32, dates: Vec<u64>) -> InputList {
-    InputList {
-        transition: TransitionId::new(transition),
-        dates: DateList::new(dates),
-        again: Some(Again { every: 1, gap: 4 }),
-    }
+// Whether that is answered to such a place.
+fn takes_place(
+    alloc: Global,
+    line: &mut NetBuilder,
+    ready: &[u64],
+    answer: Result<PlaceId, BuildRefusal>,
+) -> Result<bool, Fail> {
+    let place = ready_place(alloc, ready)?;
+    Ok(line.add_place(place) == answer)
 }
 
-// Whether lists of the machine, and of the input with falling dates or a second time, are refused.
-fn refuses_lists(alloc: Global, line: &mut NetBuilder) -> Result<bool, Fail> {
-    let none = line.add_input(list(1, vec![in alloc; 0]?));
-    let falling = line.add_input(list(0, vec![in alloc; 2, 1]?));
-    line.add_input(list(0, vec![in alloc; 0]?))?;
-    let second = line.add_input(list(0, vec![in alloc; 0]?));
-    let is = |fault| Err(BuildRefusal::Breaks { fault });
+// Whether that is answered to the list of these dates of a transition, which goes on 4 later each.
+fn takes_list(
+    alloc: Global,
+    line: &mut NetBuilder,
+    transition: u32,
+    dates: &[u64],
+    answer: Result<(), BuildRefusal>,
+) -> Result<bool, Fail> {
+    let dates = DateList::new(Vec::from_slice(alloc, dates)?);
+    let list = InputList {
+        transition: TransitionId::new(transition),
+        dates,
+        again: Some(Again { every: 1, gap: 4 }),
+    };
+    Ok(line.add_input(list) == answer)
+}
+
+// The answer to what breaks this rule.
+fn breaks<T>(fault: NetFault) -> Result<T, BuildRefusal> {
+    Err(BuildRefusal::Breaks { fault })
+}
+
+// Whether one ready date is too few for two tokens, and two are not.
+fn takes_places(alloc: Global, line: &mut NetBuilder) -> Result<bool, Fail> {
+    let busy = PlaceId::new(1);
+    let few = breaks(NetFault::BadPlace(busy, PlaceFault::ReadyCount));
+    Ok(takes_place(alloc, line, &[5], few)? && takes_place(alloc, line, &[5, 7], Ok(busy))?)
+}
+
+// Whether a list of the input is added, and lists of the machine, and of the input with falling dates
+// or a second time, are refused.
+fn takes_lists(alloc: Global, line: &mut NetBuilder) -> Result<bool, Fail> {
+    let none = breaks(NetFault::BadInput(0, InputFault::NoInput));
+    let falling = breaks(NetFault::BadInput(0, InputFault::FallingDates));
+    let second = breaks(NetFault::SameInput(1));
     Ok(
-        none == is(NetFault::BadInput(0, InputFault::NoInput))
-            && falling == is(NetFault::BadInput(0, InputFault::FallingDates))
-            && second == is(NetFault::SameInput(1)),
+        takes_list(alloc, line, 1, &[0], none)?
+            && takes_list(alloc, line, 0, &[2, 1], falling)?
+            && takes_list(alloc, line, 0, &[0], Ok(()))?
+            && takes_list(alloc, line, 0, &[0], second)?,
     )
+}
+
+// Whether both are so, and the line has one list.
+fn takes_both(alloc: Global, line: &mut NetBuilder) -> Result<bool, Fail> {
+    Ok(takes_places(alloc, line)? && takes_lists(alloc, line)? && line.inputs().len() == 1)
 }
 
 #[test]
 fn ready_dates_and_input_lists_are_added(rt: HostRuntime) -> Result<(), Fail> {
-    let alloc = rt.alloc();
-    let mut line = line(alloc)?;
-    let few = line.add_place(ready_place(alloc, vec![in alloc; 5]?, 2)?);
-    let fault = NetFault::BadPlace(PlaceId::new(1), PlaceFault::ReadyCount);
-    assert!(rt; few == Err(BuildRefusal::Breaks { fault }));
-    let belt = line.add_place(ready_place(alloc, vec![in alloc; 5, 7]?, 2)?)?;
-    assert!(rt; refuses_lists(alloc, &mut line)?);
-    let net = line.finish();
-    assert!(rt; belt == PlaceId::new(1) && net.inputs().len() == 1);
+    let takes_both = takes_both(rt.alloc(), &mut busy_line(rt.alloc())?);
+    assert!(rt; takes_both?);
     Ok(())
 }

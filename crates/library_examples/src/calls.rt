@@ -55,15 +55,20 @@ fn read_nothing(rt: &impl Abort, alloc: Global) {
     assert!(rt; matches!(empty, Err(ReadRefusal::NoTransitions)));
 }
 
+// All this of the net.
+fn look_at_file(rt: &impl Abort, alloc: Global, net: &Net) -> Result<(), Fail> {
+    look_at_back(rt, net)?;
+    let file = write_net(alloc, &net)?;
+    read_again(rt, alloc, file)?;
+    read_nothing(rt, alloc);
+    Ok(())
+}
+
 #[test]
 fn a_net_is_read_and_written(rt: HostRuntime) -> Result<(), Fail> {
     let alloc = rt.alloc();
     let net = read_net(alloc, LOOP)?;
-    look_at_back(&rt, &net)?;
-    let file = write_net(alloc, &net)?;
-    read_again(&rt, alloc, file)?;
-    read_nothing(&rt, alloc);
-    Ok(())
+    look_at_file(&rt, alloc, &net)
 }
 
 // The place that leads back takes another holding time, and not that it has no token.
@@ -94,19 +99,24 @@ fn look_at_rows(rt: &impl Abort, due: Due) {
 }
 
 // A firing that is due twice is refused.
-fn read_twice(rt: &impl Abort, alloc: Global, net: Net) {
+fn read_twice(rt: &impl Abort, alloc: Global, net: &Net) {
     let twice = read_due(alloc, &net, b"b,1,10\nb,1,20\n");
     assert!(rt; matches!(twice, Err(DueRefusal::RepeatedDue { row: 2 })));
+}
+
+// The one and the other.
+fn read_rows(rt: &impl Abort, alloc: Global, net: &Net) -> Result<(), Fail> {
+    let due = read_due(alloc, &net, b"transition,number,date\nb,1,10\nb,2,20\n")?;
+    look_at_rows(rt, due);
+    read_twice(rt, alloc, net);
+    Ok(())
 }
 
 #[test]
 fn due_dates_are_read(rt: HostRuntime) -> Result<(), Fail> {
     let alloc = rt.alloc();
     let net = read_net(alloc, LOOP)?;
-    let due = read_due(alloc, &net, b"transition,number,date\nb,1,10\nb,2,20\n")?;
-    look_at_rows(&rt, due);
-    read_twice(&rt, alloc, net);
-    Ok(())
+    read_rows(&rt, alloc, &net)
 }
 
 // Two more tokens of the place that leads back are enough for a cycle time of 2.

@@ -1,6 +1,7 @@
 //! Chapters of the page on the library: a net that is read, checked, asked for its pace, changed
 //! and asked again, and an answer that is checked. What a test asks of a net that it owns stands in
 //! functions to which it lends the net.
+use example_nets::ask_changed;
 use std::alloc::Global;
 use std::process::Abort;
 use std::test::Fail;
@@ -36,11 +37,9 @@ fn cycle_times(alloc: Global, held: &LiveNet) -> Result<CycleAnswer, Fail> {
     Ok(answer)
 }
 
-#[test]
-fn a_net_has_a_pace_and_a_bottleneck(rt: HostRuntime) -> Result<(), Fail> {
-    let alloc = rt.alloc();
-    let held = LiveNet::new(alloc, read_net(alloc, NET)?)?;
-    let answer = cycle_times(alloc, &held)?;
+// The pace, and the circuit of the part that has one.
+fn look_at_pace(rt: &impl Abort, alloc: Global, held: &LiveNet) -> Result<(), Fail> {
+    let answer = cycle_times(alloc, held)?;
     assert!(rt; best_ratio(&answer) == Some(Ratio::of(3, 1)));
     for part in answer.parts.iter() {
         if let PartAnswer::Best { circuit, .. } = part {
@@ -48,6 +47,13 @@ fn a_net_has_a_pace_and_a_bottleneck(rt: HostRuntime) -> Result<(), Fail> {
         }
     }
     Ok(())
+}
+
+#[test]
+fn a_net_has_a_pace_and_a_bottleneck(rt: HostRuntime) -> Result<(), Fail> {
+    let alloc = rt.alloc();
+    let held = LiveNet::new(alloc, read_net(alloc, NET)?)?;
+    look_at_pace(&rt, alloc, &held)
 }
 
 // The machine takes 5 units for a part from now on.
@@ -65,10 +71,8 @@ fn pace_when_slower(alloc: Global, held: &mut LiveNet) -> Result<Option<Ratio>, 
 
 #[test]
 fn a_net_is_changed_and_asked_again(rt: HostRuntime) -> Result<(), Fail> {
-    let alloc = rt.alloc();
-    let mut held = LiveNet::new(alloc, read_net(alloc, NET)?)?;
-    let pace = pace_when_slower(alloc, &mut held);
-    assert!(rt; pace? == Some(Ratio::of(5, 1)));
+    let pace = ask_changed(rt.alloc(), NET, pace_when_slower)?;
+    assert!(rt; pace == Some(Ratio::of(5, 1)));
     Ok(())
 }
 

@@ -26,6 +26,18 @@ place = [
 input = [{transition = 'in', dates = [0], every = 1, gap = 4}]
 ";
 
+// Reads the net, holds it, and lends it to what looks at it.
+fn lend<R: Abort, F: FnOnce(&R, Global, &LiveNet) -> Result<(), Fail> + Drop>(
+    rt: &R,
+    alloc: Global,
+    look_at: F,
+) -> Result<(), Fail>
+    requires { F.IsAlwaysCallable look_at }
+{
+    let held = LiveNet::new(alloc, read_net(alloc, NET)?)?;
+    look_at(rt, alloc, &held)
+}
+
 // Work on the first part, and on the third.
 fn look_at_dates(rt: &impl Abort, alloc: Global, held: &LiveNet) -> Result<(), Fail> {
     let dates = first_dates(alloc, held.net(), held.live(), 3)?;
@@ -37,9 +49,7 @@ fn look_at_dates(rt: &impl Abort, alloc: Global, held: &LiveNet) -> Result<(), F
 
 #[test]
 fn firings_have_first_dates(rt: HostRuntime) -> Result<(), Fail> {
-    let alloc = rt.alloc();
-    let held = LiveNet::new(alloc, read_net(alloc, NET)?)?;
-    look_at_dates(&rt, alloc, &held)
+    lend(&rt, rt.alloc(), look_at_dates)
 }
 
 // Work on a part in a million.
@@ -53,9 +63,7 @@ fn look_at_form(rt: &impl Abort, alloc: Global, held: &LiveNet) -> Result<(), Fa
 
 #[test]
 fn dates_go_on_for_ever(rt: HostRuntime) -> Result<(), Fail> {
-    let alloc = rt.alloc();
-    let held = LiveNet::new(alloc, read_net(alloc, NET)?)?;
-    look_at_form(&rt, alloc, &held)
+    lend(&rt, rt.alloc(), look_at_form)
 }
 
 // The first part comes in at 6 at the latest.
@@ -78,9 +86,7 @@ fn plan_parts(rt: &impl Abort, alloc: Global, held: &LiveNet) -> Result<(), Fail
 
 #[test]
 fn due_dates_have_latest_inputs(rt: HostRuntime) -> Result<(), Fail> {
-    let alloc = rt.alloc();
-    let held = LiveNet::new(alloc, read_net(alloc, NET)?)?;
-    plan_parts(&rt, alloc, &held)
+    lend(&rt, rt.alloc(), plan_parts)
 }
 
 // A part comes in.
@@ -132,7 +138,5 @@ fn play(rt: &impl Abort, alloc: Global, held: &LiveNet) -> Result<(), Fail> {
 
 #[test]
 fn firings_are_replayed(rt: HostRuntime) -> Result<(), Fail> {
-    let alloc = rt.alloc();
-    let held = LiveNet::new(alloc, read_net(alloc, NET)?)?;
-    play(&rt, alloc, &held)
+    lend(&rt, rt.alloc(), play)
 }

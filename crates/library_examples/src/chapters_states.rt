@@ -4,7 +4,7 @@ ghost use Rattle.teg_due.specs.RowRules.{IsDueOf};
 
 use dioid::Date;
 use dispatch::Dispatcher;
-use example_nets::{ask_held, ask_net, due_rows, held, place_named, transition_named};
+use example_nets::{ask_held, ask_net, due_rows, place_named, transition_named};
 use pace_pieces::{Piece, pace_by_hold};
 use run_laws::Fired;
 use std::alloc::Global;
@@ -43,9 +43,15 @@ fn left_at_8(alloc: Global, shop: &LiveNet) -> Result<LiveNet, Fail> {
     Ok(live_net_after(alloc, shop, &run, 8)?)
 }
 
-/// The shop as it is at 8.
-pub fn shop_at_8(alloc: Global) -> Result<LiveNet, Fail> {
-    left_at_8(alloc, &held(alloc, NET)?)
+/// What the question tells of the shop as it is at 8.
+pub fn ask_at_8<F: FnOnce(Global, &LiveNet) -> Result<bool, Fail> + Drop>(
+    alloc: Global,
+    ask: F,
+) -> Result<bool, Fail>
+    requires { F.IsAlwaysCallable ask }
+{
+    let rest = ask_held(alloc, NET, left_at_8)?;
+    ask(alloc, &rest)
 }
 
 // The first dates from now on.
@@ -69,8 +75,7 @@ fn goes_on(alloc: Global, rest: &LiveNet) -> Result<bool, Fail> {
 
 #[test]
 fn a_net_goes_on_from_now(rt: HostRuntime) -> Result<(), Fail> {
-    let goes_on = goes_on(rt.alloc(), &shop_at_8(rt.alloc())?);
-    assert!(rt; goes_on?);
+    assert!(rt; ask_at_8(rt.alloc(), goes_on)?);
     Ok(())
 }
 

@@ -1,7 +1,7 @@
 //! Nets that are copied, held, changed and asked again, and the checkers of what answers show.
 use dating_certificates::check_rows;
 use dioid::Date;
-use example_nets::{LOOP, ask_held, ask_net, held, place_named};
+use example_nets::{LOOP, ask_changed, ask_held, ask_net, held, place_named};
 use scheduler_loop::Scheduler;
 use std::alloc::Global;
 use std::test::Fail;
@@ -48,9 +48,14 @@ fn takes_tokens(alloc: Global, held: &mut LiveNet) -> Result<bool, Fail> {
 }
 
 // Whether a copy of its net stays as it is where tokens are changed.
+fn changes_alone(alloc: Global, held: &mut LiveNet, copy: &Net) -> Result<bool, Fail> {
+    Ok(takes_tokens(alloc, held)? && tokens(copy)? == 1)
+}
+
+// The same of a copy that is made of it.
 fn keeps_copy(alloc: Global, held: &mut LiveNet) -> Result<bool, Fail> {
     let copy = held.net().copy(alloc)?;
-    Ok(takes_tokens(alloc, held)? && tokens(&copy)? == 1)
+    changes_alone(alloc, held, &copy)
 }
 
 // Whether the net has its places where it is held no longer.
@@ -60,8 +65,7 @@ fn is_let_go(held: LiveNet) -> bool {
 
 #[test]
 fn tokens_are_changed_where_the_net_stays_live(rt: HostRuntime) -> Result<(), Fail> {
-    let keeps_copy = keeps_copy(rt.alloc(), &mut held(rt.alloc(), LOOP)?);
-    assert!(rt; keeps_copy?);
+    assert!(rt; ask_changed(rt.alloc(), LOOP, keeps_copy)?);
     assert!(rt; is_let_go(held(rt.alloc(), LOOP)?));
     Ok(())
 }

@@ -1,7 +1,7 @@
 //! A plan that is asked for in the middle of the work, and a run that leaves no net.
 ghost use Rattle.std.specs.Prelude.{◌<◌};
 
-use crate::chapters_states::{NET, fired, shop_at_8};
+use crate::chapters_states::{NET, ask_at_8, fired};
 use example_nets::{ask_held, due_rows, transition_named};
 use std::alloc::Global;
 use std::test::Fail;
@@ -36,8 +36,7 @@ fn is_unpaid(alloc: Global, shop: &LiveNet) -> Result<bool, Fail> {
 
 #[test]
 fn plans_go_on_from_now(rt: HostRuntime) -> Result<(), Fail> {
-    let are_planned = are_planned(rt.alloc(), &shop_at_8(rt.alloc())?);
-    assert!(rt; are_planned?);
+    assert!(rt; ask_at_8(rt.alloc(), are_planned)?);
     assert!(rt; ask_held(rt.alloc(), NET, is_unpaid)?);
     Ok(())
 }

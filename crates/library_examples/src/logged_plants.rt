@@ -29,19 +29,6 @@ fn told(plant: &Plant) -> Result<(u64, Option<u64>, u64), Fail> {
     Ok((plant.fired(work), plant.date(work, 1), plant.tokens(belt)))
 }
 
-#[test]
-fn a_log_tells_what_stands_where(rt: HostRuntime) -> Result<(), Fail> {
-    let told = told(&plant(rt.alloc())?);
-    assert!(rt; told? == (1, Some(1), 1));
-    Ok(())
-}
-
-// What is left of the plant at 8.
-fn outlook(alloc: Global) -> Result<Outlook, Fail> {
-    let outlook = plant(alloc)?.from_now_on(alloc, 8);
-    Ok(outlook?)
-}
-
 // When the machine next works.
 fn next_date(alloc: Global, outlook: &Outlook) -> Result<Date, Fail> {
     let work = transition_named(outlook.net(), "work")?;
@@ -64,9 +51,20 @@ fn goes_on(alloc: Global, outlook: &Outlook) -> Result<bool, Fail> {
     )
 }
 
+// Whether it does so at 8.
+fn is_left(alloc: Global, plant: &Plant) -> Result<bool, Fail> {
+    let outlook = plant.from_now_on(alloc, 8)?;
+    goes_on(alloc, &outlook)
+}
+
+// Whether the log tells what stands where, and what is left from now on.
+fn is_asked(alloc: Global, plant: &Plant) -> Result<bool, Fail> {
+    Ok(told(plant)? == (1, Some(1), 1) && is_left(alloc, plant)?)
+}
+
 #[test]
-fn a_log_is_asked_from_now_on(rt: HostRuntime) -> Result<(), Fail> {
-    let goes_on = goes_on(rt.alloc(), &outlook(rt.alloc())?);
-    assert!(rt; goes_on?);
+fn a_log_tells_what_stands_where_and_goes_on(rt: HostRuntime) -> Result<(), Fail> {
+    let is_asked = is_asked(rt.alloc(), &plant(rt.alloc())?);
+    assert!(rt; is_asked?);
     Ok(())
 }

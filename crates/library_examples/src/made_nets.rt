@@ -76,45 +76,46 @@ fn entries_are_tested_alone(rt: HostRuntime) -> Result<(), Fail> {
 
 // Whether two places are equal that have these ends.
 fn are_same(alloc: Global, to: u32, other: u32) -> Result<bool, Fail> {
-    let (belt, second) = (
-        place(alloc, "belt", 0, to)?,
-        place(alloc, "belt", 0, other)?,
-    );
-    Ok(belt == second)
+    Ok(place(alloc, "belt", 0, to)? == place(alloc, "belt", 0, other)?)
 }
 
-// Whether the first of these transitions comes before the second by its name, and is equal to the
-// first of others alone.
-fn are_compared(own: &[Transition], others: &[Transition]) -> bool {
-    let [input, machine] = own else {
+// Whether the first of two transitions comes before the second by its name, and is equal to itself
+// alone.
+fn are_apart(both: &[Transition]) -> bool {
+    let [input, machine] = both else {
         return false;
     };
-    let [same, apart] = others else {
-        return false;
-    };
-    input.name < machine.name && input.name != machine.name && *input == *same && *input != *apart
+    input.name < machine.name && input.name != machine.name && *input != *machine
+}
+
+// Whether that is so of an input and a machine, which are equal to others made like them.
+fn are_compared(alloc: Global) -> Result<bool, Fail> {
+    let own = transitions(alloc)?;
+    Ok(are_apart(&own) && own == transitions(alloc)?)
 }
 
 #[test]
 fn entries_are_compared(rt: HostRuntime) -> Result<(), Fail> {
     let alloc = rt.alloc();
     assert!(rt; are_same(alloc, 1, 1)? && !are_same(alloc, 1, 2)?);
-    let (own, others) = (transitions(alloc)?, transitions(alloc)?);
-    assert!(rt; are_compared(&own, &others));
+    assert!(rt; are_compared(alloc)?);
     Ok(())
+}
+
+// Whether the net is equal to a copy of it, and no longer where its place takes longer.
+fn is_compared(alloc: Global, net: &mut Net) -> Result<bool, Fail> {
+    let (copy, busy) = (net.copy(alloc)?, PlaceId::new(0));
+    let is_same = *net == copy;
+    if net.contains_place(busy) {
+        net.set_hold(busy, 7);
+    }
+    Ok(is_same && *net != copy)
 }
 
 #[test]
 fn nets_are_compared(rt: HostRuntime) -> Result<(), Fail> {
-    let alloc = rt.alloc();
-    let mut net = net_of(alloc, &[("busy", 1, 1)])?;
-    let copy = net.copy(alloc)?;
-    assert!(rt; net == copy);
-    let busy = PlaceId::new(0);
-    if net.contains_place(busy) {
-        net.set_hold(busy, 7);
-    }
-    assert!(rt; net != copy);
+    let is_compared = is_compared(rt.alloc(), &mut net_of(rt.alloc(), &[("busy", 1, 1)])?);
+    assert!(rt; is_compared?);
     Ok(())
 }
 
@@ -143,18 +144,26 @@ fn walk_by(alloc: Global, place: u32) -> Result<Walk, Fail> {
     Ok(Walk {
         start: TransitionId::new(0),
         number: 1,
-        steps: vec![in alloc; Step::By(PlaceId::new(place))]?,
+        steps: Vec::from_slice(alloc, &[Step::By(PlaceId::new(place))])?,
     })
+}
+
+// Whether the circuits of these places are equal.
+fn are_same_circuits(alloc: Global, one: &[u32], other: &[u32]) -> Result<bool, Fail> {
+    Ok(circuit_of(alloc, one)? == circuit_of(alloc, other)?)
+}
+
+// Whether the walks by these places are equal.
+fn are_same_walks(alloc: Global, one: u32, other: u32) -> Result<bool, Fail> {
+    Ok(walk_by(alloc, one)? == walk_by(alloc, other)?)
 }
 
 #[test]
 fn circuits_and_walks_are_compared(rt: HostRuntime) -> Result<(), Fail> {
     let alloc = rt.alloc();
-    let (circuit, same) = (circuit_of(alloc, &[0, 1])?, circuit_of(alloc, &[0, 1])?);
-    let turned = circuit_of(alloc, &[1, 0])?;
-    assert!(rt; circuit == same && circuit != turned);
-    let (walk, same, other) = (walk_by(alloc, 0)?, walk_by(alloc, 0)?, walk_by(alloc, 1)?);
-    assert!(rt; walk == same && walk != other);
+    assert!(rt; are_same_circuits(alloc, &[0, 1], &[0, 1])?);
+    assert!(rt; !are_same_circuits(alloc, &[0, 1], &[1, 0])?);
+    assert!(rt; are_same_walks(alloc, 0, 0)? && !are_same_walks(alloc, 0, 1)?);
     Ok(())
 }
 
@@ -224,7 +233,7 @@ fn due_row(row: (u32, u32, u64)) -> DueRow {
 // Whether a due row of this transition, number and date may stand beside one of the machine's
 // first firing.
 fn may_be_due(alloc: Global, net: &Net, row: (u32, u32, u64)) -> Result<bool, Fail> {
-    let rows = vec![in alloc; due_row((1, 1, 5)), due_row(row)]?;
+    let rows = Vec::from_slice(alloc, &[due_row((1, 1, 5)), due_row(row)])?;
     Ok(is_due_of(net, &Due { rows }))
 }
 
@@ -255,32 +264,35 @@ const LOGS: [(u32, u64, bool); 3] = [
     (1, 1_000_000_000_000_000_001, false),
 ];
 
-// The row of `DUES` that is told otherwise.
-fn wrong_due(alloc: Global, net: &Net) -> Result<Option<usize>, Fail> {
-    for (number, (row, is_right)) in DUES.iter().enumerate() {
+// Whether each row of `DUES` is told so.
+fn are_due(alloc: Global, net: &Net) -> Result<bool, Fail> {
+    for (row, is_right) in &DUES {
         if may_be_due(alloc, net, *row)? != *is_right {
-            return Ok(Some(number));
+            return Ok(false);
         }
     }
-    Ok(None)
+    Ok(true)
 }
 
-// The row of `LOGS` that is told otherwise.
-fn wrong_log(net: &Net) -> Option<usize> {
-    for (number, (transition, date, is_right)) in LOGS.iter().enumerate() {
+// Whether each row of `LOGS` is told so.
+fn are_logged(net: &Net) -> bool {
+    for (transition, date, is_right) in &LOGS {
         let rows = [log_row(0, 5), log_row(*transition, *date)];
         if is_log_of(net, &rows) != *is_right {
-            return Some(number);
+            return false;
         }
     }
-    None
+    true
+}
+
+// Whether all rows are.
+fn are_told(alloc: Global, net: &Net) -> Result<bool, Fail> {
+    Ok(are_due(alloc, net)? && are_logged(net))
 }
 
 #[test]
 fn rows_of_a_program_are_tested(rt: HostRuntime) -> Result<(), Fail> {
-    let alloc = rt.alloc();
-    let due = wrong_due(alloc, &net_of(alloc, &[])?);
-    assert!(rt; due?.is_none());
-    assert!(rt; wrong_log(&net_of(alloc, &[])?).is_none());
+    let are_told = are_told(rt.alloc(), &net_of(rt.alloc(), &[])?);
+    assert!(rt; are_told?);
     Ok(())
 }

@@ -8,7 +8,7 @@ use std::alloc::Global;
 use teg_check::LiveNet;
 use teg_due::{read_due, read_log};
 use teg_jit::latest_inputs;
-use teg_net::Role;
+use teg_net::{Net, Role};
 use teg_reader::read_net;
 use teg_refusals::Refusal;
 
@@ -24,35 +24,63 @@ place = [
 const NO_TOKEN: &[u8] =
     b"transition = [{name = 'a'}]\nplace = [{name = 'p', from = 'a', to = 'a', hold = 1}]\n";
 
-// How many firings a plan of the net for these due dates has of each transition.
-fn planned(alloc: Global, net: &[u8], due: &[u8]) -> Result<u32, Refusal>
+// How many firings a plan for these due dates has of each transition.
+fn planned_for(alloc: Global, held: &LiveNet, due: &[u8]) -> Result<u32, Refusal>
     requires { length due.now ≤ most_file_bytes }
 {
-    let held = LiveNet::new(alloc, read_net(alloc, net)?)?;
     let due = read_due(alloc, held.net(), due)?;
     let plan = latest_inputs(alloc, held.net(), held.live(), &due)?;
     Ok(plan.numbers())
 }
 
-// How many firings of the net a log has.
+// The same of the net of a file.
+fn planned(alloc: Global, net: &[u8], due: &[u8]) -> Result<u32, Refusal>
+    requires { length due.now ≤ most_file_bytes }
+{
+    let held = LiveNet::new(alloc, read_net(alloc, net)?)?;
+    planned_for(alloc, &held, due)
+}
+
+// How many firings a log has.
+fn logged_of(alloc: Global, net: &Net, log: &[u8]) -> Result<usize, Refusal>
+    requires { length log.now ≤ most_file_bytes }
+{
+    let rows = read_log(alloc, net, log)?;
+    Ok(rows.len())
+}
+
+// The same of the net of a file.
 fn logged(alloc: Global, net: &[u8], log: &[u8]) -> Result<usize, Refusal>
     requires { length log.now ≤ most_file_bytes }
 {
     let net = read_net(alloc, net)?;
-    let rows = read_log(alloc, &net, log)?;
-    Ok(rows.len())
+    logged_of(alloc, &net, log)
+}
+
+// The number of a further transition of this name.
+fn further(alloc: Global, line: &mut NetBuilder, name: &str) -> Result<u32, Refusal> {
+    let transition = line.transition(alloc, name, Role::Internal)?;
+    Ok(transition.index)
 }
 
 // The number of a second transition of this name.
 fn second(alloc: Global, name: &str) -> Result<u32, Refusal> {
     let mut line = NetBuilder::new(alloc, "in", Role::Input)?;
-    Ok(line.transition(alloc, name, Role::Internal)?.index)
+    further(alloc, &mut line, name)
+}
+
+// Whether that is the answer.
+fn is<T: PartialEq + Drop>(answer: Result<T, Refusal>, wanted: T) -> bool {
+    match answer {
+        Ok(told) => told == wanted,
+        Err(_) => false,
+    }
 }
 
 #[test]
 fn a_program_has_one_refusal(rt: HostRuntime) {
     let alloc = rt.alloc();
-    assert!(rt; matches!(planned(alloc, NET, b"work,1,10\n"), Ok(1)));
+    assert!(rt; is(planned(alloc, NET, b"work,1,10\n"), 1));
     assert!(rt; says(alloc, planned(alloc, b"", b""), "no transitions"));
     let line = "token-free circuit of places 0";
     assert!(rt; says(alloc, planned(alloc, NO_TOKEN, b""), line));
@@ -60,21 +88,16 @@ fn a_program_has_one_refusal(rt: HostRuntime) {
     assert!(rt; says(alloc, planned(alloc, NET, b"none,1,10\n"), line));
     let line = "late transition 1 firing 1 due 1 least 2";
     assert!(rt; says(alloc, planned(alloc, NET, b"work,1,1\n"), line));
-    assert!(rt; matches!(logged(alloc, NET, b"in,0\nwork,2\n"), Ok(2)));
-    assert!(rt;
-        says(
-            alloc,
-            logged(alloc, NET, b"work\n"),
-            "log row 1 is not a firing"
-        )
-    );
+    assert!(rt; is(logged(alloc, NET, b"in,0\nwork,2\n"), 2));
+    let line = "log row 1 is not a firing";
+    assert!(rt; says(alloc, logged(alloc, NET, b"work\n"), line));
 }
 
 #[test]
 fn a_builder_refuses_by_it(rt: HostRuntime) {
     let alloc = rt.alloc();
-    assert!(rt; matches!(second(alloc, "work"), Ok(1)));
-    assert!(rt; matches!(second(alloc, "no name"), Err(Refusal::BadName)));
+    assert!(rt; is(second(alloc, "work"), 1));
+    assert!(rt; says(alloc, second(alloc, "no name"), "the text is no name"));
     let line = "transition 1 has the name of an earlier one";
     assert!(rt; says(alloc, second(alloc, "in"), line));
 }

@@ -1,10 +1,11 @@
 //! Answers of the guide, checked by what they print alone; with one digit changed they show
 //! nothing.
-use example_nets::{SHOP, due_rows, read};
+use example_nets::{SHOP, ask_net, tells_all};
 use late_lines::LateFiring;
 use std::alloc::Global;
 use std::test::Fail;
-use teg_net::{Net, PlaceId, Ratio, TransitionId};
+use teg_due::DueRow;
+use teg_net::{Net, OutOfMemory, PlaceId, TransitionId};
 use witness_check::{
     ShownLatest, ShownSize, shown_late, shown_latest, shown_pace, shown_size, shows_deadlock,
     shows_live,
@@ -125,132 +126,143 @@ part 3 no circuit
 member c
 ";
 
-// Texts of parts in another order, of one that is no part, and of parts that are taken as one.
-const OTHER_PARTS: [&str; 3] = [
+// The parts in another order.
+const PARTS_TURNED: &str =
     "cycle time 5/1\ncircuit own_b\npart 1 ratio 5/1\ncircuit own_b\npotential b 0
-part 2 ratio 3/1\ncircuit own_a\npotential a 0\npart 3 no circuit\nmember c\n",
+part 2 ratio 3/1\ncircuit own_a\npotential a 0\npart 3 no circuit\nmember c\n";
+
+// One more part, which has no member.
+const PARTS_AND_MORE: &str =
     "cycle time 5/1\ncircuit own_b\npart 1 ratio 3/1\ncircuit own_a\npotential a 0
-part 2 ratio 5/1\ncircuit own_b\npotential b 0\npart 3 no circuit\nmember c\npart 4 no circuit\n",
+part 2 ratio 5/1\ncircuit own_b\npotential b 0\npart 3 no circuit\nmember c\npart 4 no circuit\n";
+
+// Two parts that are taken as one.
+const PARTS_JOINED: &str =
     "cycle time 5/1\ncircuit own_b\npart 1 ratio 5/1\ncircuit own_b\npotential a 0
-potential b 0\npart 2 no circuit\nmember c\n",
+potential b 0\npart 2 no circuit\nmember c\n";
+
+// Nets, texts, and the cycle time that these show, with its tokens.
+const PACES: [(&[u8], &str, Option<(u64, u64)>); 10] = [
+    (LINE, PACE, Some((8, 1))),
+    (LINE, SLOWER, None),
+    (LINE, LIFTED, None),
+    (LINE, LOOSE, None),
+    (LINE, MOVED, None),
+    (LINE, TURNED, None),
+    (APART, PARTS, Some((5, 1))),
+    (APART, PARTS_TURNED, None),
+    (APART, PARTS_AND_MORE, None),
+    (APART, PARTS_JOINED, None),
 ];
 
-// The cycle time that the text shows of the line.
-fn pace_shown(alloc: Global, text: &str) -> Result<Option<Ratio>, Fail> {
-    let shown = shown_pace(alloc, &read(alloc, LINE)?, text);
-    Ok(shown?)
+// The cycle time that the text shows, and its tokens.
+fn pace(alloc: Global, net: &Net, text: &str) -> Result<Option<(u64, u64)>, OutOfMemory> {
+    Ok(match shown_pace(alloc, net, text)? {
+        Some(ratio) => Some((ratio.time(), ratio.tokens())),
+        None => None,
+    })
 }
 
 #[test]
-fn a_pace_is_shown(rt: HostRuntime) -> Result<(), Fail> {
-    assert!(rt; pace_shown(rt.alloc(), PACE)? == Some(Ratio::of(8, 1)));
-    assert!(rt; pace_shown(rt.alloc(), SLOWER)?.is_none());
-    assert!(rt; pace_shown(rt.alloc(), LIFTED)?.is_none());
-    assert!(rt; pace_shown(rt.alloc(), LOOSE)?.is_none());
-    assert!(rt; pace_shown(rt.alloc(), MOVED)?.is_none());
-    assert!(rt; pace_shown(rt.alloc(), TURNED)?.is_none());
-    Ok(())
-}
-
-#[test]
-fn parts_are_shown_in_order(rt: HostRuntime) -> Result<(), Fail> {
-    let net = read(rt.alloc(), APART)?;
-    assert!(rt; shown_pace(rt.alloc(), &net, PARTS)? == Some(Ratio::of(5, 1)));
-    for other in &OTHER_PARTS {
-        assert!(rt; shown_pace(rt.alloc(), &net, other)?.is_none());
-    }
-    Ok(())
-}
-
-// Whether the text shows that the net is live, and whether that it is not.
-fn life_shown(alloc: Global, net: &Net, text: &str) -> Result<(bool, bool), Fail> {
-    let is_live = shows_live(alloc, net, text)?;
-    Ok((is_live, shows_deadlock(alloc, net, text)?))
+fn paces_are_shown_by_parts_in_order(rt: HostRuntime) -> Result<(), Fail> {
+    tells_all(rt.alloc(), &PACES, &pace)
 }
 
 // Nets, texts, and whether these show that the net is live, and that it is not.
-const LIVES: [(&[u8], &str, bool, bool); 5] = [
-    (LINE, "live\ntransitions 3\nplaces 7\n", true, false),
-    (LINE, "live\ntransitions 3\nplaces 6\n", false, false),
-    (NO_CARDS, "live\ntransitions 2\nplaces 2\n", false, false),
+const LIVES: [(&[u8], &str, (bool, bool)); 5] = [
+    (LINE, "live\ntransitions 3\nplaces 7\n", (true, false)),
+    (LINE, "live\ntransitions 3\nplaces 6\n", (false, false)),
+    (NO_CARDS, "live\ntransitions 2\nplaces 2\n", (false, false)),
     (
         NO_CARDS,
         "refused: token-free circuit parts cards\n",
-        false,
-        true,
+        (false, true),
     ),
     (
         NO_CARDS,
         "refused: token-free circuit parts\n",
-        false,
-        false,
+        (false, false),
     ),
 ];
 
+// Whether the text shows that the net is live, and whether that it is not.
+fn life(alloc: Global, net: &Net, text: &str) -> Result<(bool, bool), OutOfMemory> {
+    let is_live = shows_live(alloc, net, text)?;
+    Ok((is_live, shows_deadlock(alloc, net, text)?))
+}
+
 #[test]
 fn it_is_shown_whether_a_net_is_live(rt: HostRuntime) -> Result<(), Fail> {
-    let alloc = rt.alloc();
-    for (file, text, is_live, is_dead) in &LIVES {
-        let shown = life_shown(alloc, &read(alloc, file)?, text);
-        assert!(rt; shown? == (*is_live, *is_dead), "{text}");
-    }
-    Ok(())
+    tells_all(rt.alloc(), &LIVES, &life)
 }
 
-// What the text shows of the size of a place of the line.
-fn size_shown(alloc: Global, text: &str) -> Result<Option<ShownSize>, Fail> {
-    let shown = shown_size(alloc, &read(alloc, LINE)?, text);
-    Ok(shown?)
-}
+// A target for `paint_room` of the line, and further tokens that are enough for it, if any are.
+type Further = (u64, u64, Option<u64>);
 
-// So many further tokens of `paint_room` for a cycle time of so much.
-fn enough(time: u64, extra: u64) -> Option<ShownSize> {
-    Some(ShownSize::Enough {
-        place: PlaceId::new(6),
-        target: Ratio::of(time, 1),
-        extra,
-    })
-}
-
-// Texts that show nothing of it: of one too many, of a target that more tokens reach alone, of a
-// circuit to which they come.
-const NO_SIZES: [&str; 3] = [
-    "size paint_room 7/1 extra 2\ncircuit to_paint paint_room\n",
-    "size paint_room 7/1 extra 0\n",
-    "size paint_room 6/1 impossible\ncircuit to_paint paint_room\n",
+// Texts of sizes of places of the line, and what they show of `paint_room`.
+const SIZES: [(&[u8], &str, Option<Further>); 6] = [
+    (
+        LINE,
+        "size paint_room 7/1 extra 1\ncircuit to_paint paint_room\n",
+        Some((7, 1, Some(1))),
+    ),
+    (LINE, "size paint_room 8/1 extra 0\n", Some((8, 1, Some(0)))),
+    (
+        LINE,
+        "size paint_room 6/1 impossible\ncircuit drill_free\n",
+        Some((6, 1, None)),
+    ),
+    // one too many, a target that more tokens reach alone, a circuit to which they come
+    (
+        LINE,
+        "size paint_room 7/1 extra 2\ncircuit to_paint paint_room\n",
+        None,
+    ),
+    (LINE, "size paint_room 7/1 extra 0\n", None),
+    (
+        LINE,
+        "size paint_room 6/1 impossible\ncircuit to_paint paint_room\n",
+        None,
+    ),
 ];
+
+// What the text shows of `paint_room`.
+fn size(alloc: Global, net: &Net, text: &str) -> Result<Option<Further>, OutOfMemory> {
+    let (place, target, extra) = match shown_size(alloc, net, text)? {
+        Some(
+            ShownSize::Enough {
+                place,
+                target,
+                extra,
+            },
+        ) => (place, target, Some(extra)),
+        Some(ShownSize::Impossible { place, target }) => (place, target, None),
+        None => return Ok(None),
+    };
+    let is_room = place == PlaceId::new(6);
+    Ok(is_room.then_some((target.time(), target.tokens(), extra)))
+}
 
 #[test]
 fn sizes_are_shown(rt: HostRuntime) -> Result<(), Fail> {
-    let alloc = rt.alloc();
-    let more = "size paint_room 7/1 extra 1\ncircuit to_paint paint_room\n";
-    assert!(rt; size_shown(alloc, more)? == enough(7, 1));
-    assert!(rt; size_shown(alloc, "size paint_room 8/1 extra 0\n")? == enough(8, 0));
-    let never = Some(ShownSize::Impossible {
-        place: PlaceId::new(6),
-        target: Ratio::of(6, 1),
-    });
-    let text = "size paint_room 6/1 impossible\ncircuit drill_free\n";
-    assert!(rt; size_shown(alloc, text)? == never);
-    for text in &NO_SIZES {
-        assert!(rt; size_shown(alloc, text)?.is_none(), "{text}");
-    }
-    Ok(())
+    tells_all(rt.alloc(), &SIZES, &size)
 }
 
-// What the line shows of the shop by the plan and this row of the due file.
-fn latest_shown(
-    alloc: Global,
-    shop: &Net,
-    row: usize,
-    line: &str,
-) -> Result<Option<ShownLatest>, Fail> {
-    let due = due_rows(alloc, shop, b"ship,2,40\ndrill,3,36\n")?;
-    match due.rows.get(row) {
-        Some(asked) => Ok(shown_latest(alloc, shop, asked, line, PLAN)?),
-        None => Ok(None),
-    }
-}
+// That the second part is due to be shipped at 40.
+const SHIPPED: DueRow = DueRow {
+    row: 1,
+    transition: TransitionId { index: 3 },
+    number: 2,
+    date: 40,
+};
+
+// That the third part is due to be drilled at 36.
+const DRILLED: DueRow = DueRow {
+    row: 2,
+    transition: TransitionId { index: 2 },
+    number: 3,
+    date: 36,
+};
 
 // That the first part comes in at 15 at the latest.
 const MATERIAL: ShownLatest = ShownLatest {
@@ -266,22 +278,27 @@ const SHIP: ShownLatest = ShownLatest {
     date: 40,
 };
 
-// Rows of the due file, lines, and what these show.
-const LATEST: [(usize, &str, Option<ShownLatest>); 4] = [
-    (1, "input material 1 15 by feed\n", Some(MATERIAL)),
-    (1, "input material 1 14 by feed\n", None),
-    (0, "input material 1 15 by feed\n", None),
-    (0, "latest ship 1 40 next\n", Some(SHIP)),
+// What is due, lines, and what these show of the shop by the plan.
+const LATEST: [(DueRow, &str, Option<ShownLatest>); 4] = [
+    (DRILLED, "input material 1 15 by feed\n", Some(MATERIAL)),
+    (DRILLED, "input material 1 14 by feed\n", None),
+    (SHIPPED, "input material 1 15 by feed\n", None),
+    (SHIPPED, "latest ship 1 40 next\n", Some(SHIP)),
 ];
+
+// Whether each row of `LATEST` shows so; otherwise the line of the first that does not.
+fn are_latest(alloc: Global, shop: &Net) -> Result<(), Fail> {
+    for (row, line, wanted) in &LATEST {
+        if shown_latest(alloc, shop, row, line, PLAN)? != *wanted {
+            return Err(Fail::new(*line));
+        }
+    }
+    Ok(())
+}
 
 #[test]
 fn latest_dates_are_shown(rt: HostRuntime) -> Result<(), Fail> {
-    let alloc = rt.alloc();
-    for (row, line, wanted) in &LATEST {
-        let shown = latest_shown(alloc, &read(alloc, SHOP)?, *row, line);
-        assert!(rt; shown? == *wanted, "{row} {line}");
-    }
-    Ok(())
+    ask_net(rt.alloc(), SHOP, are_latest)
 }
 
 const LATE: &str = "late ship 2 due 20 least 22
@@ -293,22 +310,22 @@ const LATER: &str = "late ship 2 due 20 least 23
 path material 1 by feed saw 1 by to_drill drill 1 by drill_free drill 2 by to_ship ship 2
 ";
 
-// The firing of the shop that the text shows to be late.
-fn late_shown(alloc: Global, text: &str) -> Result<Option<LateFiring>, Fail> {
-    let shown = shown_late(alloc, &read(alloc, SHOP)?, text);
-    Ok(shown?)
+// That the second part is shipped late.
+const SECOND: LateFiring = LateFiring {
+    transition: TransitionId { index: 3 },
+    number: 2,
+    due: 20,
+    least: 22,
+    start: 0,
+};
+
+// The late firing that the text shows.
+fn late_firing(alloc: Global, net: &Net, text: &str) -> Result<Option<LateFiring>, OutOfMemory> {
+    shown_late(alloc, net, text)
 }
 
 #[test]
 fn a_late_firing_is_shown(rt: HostRuntime) -> Result<(), Fail> {
-    let second = LateFiring {
-        transition: TransitionId::new(3),
-        number: 2,
-        due: 20,
-        least: 22,
-        start: 0,
-    };
-    assert!(rt; late_shown(rt.alloc(), LATE)? == Some(second));
-    assert!(rt; late_shown(rt.alloc(), LATER)?.is_none());
-    Ok(())
+    let rows = [(SHOP, LATE, Some(SECOND)), (SHOP, LATER, None)];
+    tells_all(rt.alloc(), &rows, &late_firing)
 }

@@ -111,14 +111,22 @@ fn are_worked_out(alloc: Global, two: &Gain, three: &Gain, five: &Gain) -> bool 
         && reads(alloc, Gain::one(alloc), b"series 0 period 1 step 0\n")
 }
 
+// Whether it goes through the bounds.
+fn is_bounded<D: Kleene + Residuated>(alloc: Global, a: &D) -> bool {
+    keeps(alloc, a) == Ok(true) && is_closed(alloc, a) == Ok(true)
+}
+
+// Whether lines and a level are gains as they were worked out.
+fn are_gains(alloc: Global) -> Result<bool, SeriesRefused> {
+    let two = line(alloc, 2)?;
+    let three = line(alloc, 3)?;
+    let five = level(alloc, 5)?;
+    Ok(is_bounded(alloc, &two) && are_worked_out(alloc, &two, &three, &five))
+}
+
 #[test]
 fn gains_that_were_worked_out_and_through_the_bounds(rt: HostRuntime) -> Result<(), Fail> {
-    let alloc = rt.alloc();
-    let (two, three) = (line(alloc, 2)?, line(alloc, 3)?);
-    let five = level(alloc, 5)?;
-    assert!(rt; are_worked_out(alloc, &two, &three, &five));
-    assert!(rt; keeps(alloc, &two) == Ok(true));
-    assert!(rt; is_closed(alloc, &two) == Ok(true));
-    assert!(rt; are_added(alloc)?);
+    assert!(rt; are_gains(rt.alloc())?);
+    assert!(rt; are_added(rt.alloc())?);
     Ok(())
 }

@@ -2,13 +2,13 @@
 use dioid::Date;
 use dioid_matrix::Matrix;
 use dioid_spectra::{choice, transpose};
+use example_nets::{ask_held, transition_named};
 use net_matrices::{series_of_dates, transfer_matrix};
 use series_form::Series;
 use series_ops::Gain;
 use std::alloc::Global;
 use std::test::Fail;
 use teg_check::LiveNet;
-use teg_reader::read_net;
 use teg_settle::settle;
 
 // A part comes in every 4 units, is 2 units on a belt, and a machine works 3 units on it.
@@ -29,37 +29,43 @@ fn value_at(matrix: &Matrix<Gain>, row: usize, column: usize, shift: u32) -> Opt
     None
 }
 
+// Whether the times from in to out are entries of the star, by shifts, and none leads back.
+fn are_entries(star: &Matrix<Gain>) -> bool {
+    for (shift, time) in [(0, 5), (1, 8), (1_000, 3_005)] {
+        if value_at(star, 2, 0, shift) != Some(Date::At(time)) {
+            return false;
+        }
+    }
+    value_at(star, 0, 2, 1_000) == Some(Date::Early)
+}
+
+// The rows of the output, C A*.
+fn rows_of_output(alloc: Global, star: &Matrix<Gain>) -> Result<Matrix<Gain>, Fail> {
+    let outputs = transpose(alloc, &choice::<Gain>(alloc, 3, &[2])?)?;
+    Ok(outputs.times(alloc, star)?)
+}
+
+// Whether they have the time of shift 1,000 in the column of the input, C A* B.
+fn is_product(alloc: Global, star: &Matrix<Gain>) -> Result<bool, Fail> {
+    let rows = rows_of_output(alloc, star)?;
+    let transfers = rows.times(alloc, &choice::<Gain>(alloc, 3, &[0])?)?;
+    Ok(value_at(&transfers, 0, 0, 1_000) == Some(Date::At(3_005)))
+}
+
+// Whether both are so.
+fn are_transfers(alloc: Global, star: &Matrix<Gain>) -> Result<bool, Fail> {
+    Ok(are_entries(star) && is_product(alloc, star)?)
+}
+
+// The same of the transfers of a net.
+fn has_transfers(alloc: Global, held: &LiveNet) -> Result<bool, Fail> {
+    let star = transfer_matrix(alloc, held)?;
+    are_transfers(alloc, &star)
+}
+
 #[test]
 fn transfers_are_entries(rt: HostRuntime) -> Result<(), Fail> {
-    let alloc = rt.alloc();
-    let held = LiveNet::new(alloc, read_net(alloc, NET)?)?;
-    let star = transfer_matrix(alloc, &held)?;
-    for (shift, time) in [(0, 5), (1, 8), (1_000, 3_005)] {
-        assert!(rt; value_at(&star, 2, 0, shift) == Some(Date::At(time)));
-    }
-    assert!(rt; value_at(&star, 0, 2, 1_000) == Some(Date::Early));
-    Ok(())
-}
-
-// The rows of these transitions and the columns of those, C A* B.
-fn chosen_of(
-    alloc: Global,
-    star: &Matrix<Gain>,
-    outputs: &Matrix<Gain>,
-    inputs: &Matrix<Gain>,
-) -> Result<Matrix<Gain>, Fail> {
-    let rows = transpose(alloc, outputs)?.times(alloc, star)?;
-    Ok(rows.times(alloc, inputs)?)
-}
-
-#[test]
-fn transfers_are_products(rt: HostRuntime) -> Result<(), Fail> {
-    let alloc = rt.alloc();
-    let star = transfer_matrix(alloc, &LiveNet::new(alloc, read_net(alloc, NET)?)?)?;
-    let inputs = choice::<Gain>(alloc, 3, &[0])?;
-    let outputs = choice::<Gain>(alloc, 3, &[2])?;
-    let transfers = chosen_of(alloc, &star, &outputs, &inputs)?;
-    assert!(rt; value_at(&transfers, 0, 0, 1_000) == Some(Date::At(3_005)));
+    assert!(rt; ask_held(rt.alloc(), NET, has_transfers)?);
     Ok(())
 }
 
@@ -67,17 +73,22 @@ fn transfers_are_products(rt: HostRuntime) -> Result<(), Fail> {
 fn dates_of(alloc: Global, held: &LiveNet, name: &str) -> Result<Series, Fail> {
     let net = held.net();
     let form = settle(alloc, net, held.live())?;
-    let id = net.find(name).ok_or("no such transition")?;
+    let id = transition_named(net, name)?;
     Ok(series_of_dates(alloc, net, &form, id)?)
+}
+
+// Whether the dates of work are values of their series, by shifts.
+fn has_dates(alloc: Global, held: &LiveNet) -> Result<bool, Fail> {
+    let dates = dates_of(alloc, held, "work")?;
+    Ok(
+        dates.at(0) == Date::At(2)
+            && dates.at(1) == Date::At(6)
+            && dates.at(1_000) == Date::At(4_002),
+    )
 }
 
 #[test]
 fn settled_rows_are_series(rt: HostRuntime) -> Result<(), Fail> {
-    let alloc = rt.alloc();
-    let held = LiveNet::new(alloc, read_net(alloc, NET)?)?;
-    let dates = dates_of(alloc, &held, "work")?;
-    for (shift, date) in [(0, 2), (1, 6), (1_000, 4_002)] {
-        assert!(rt; dates.at(shift) == Date::At(date));
-    }
+    assert!(rt; ask_held(rt.alloc(), NET, has_dates)?);
     Ok(())
 }

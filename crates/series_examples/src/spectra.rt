@@ -10,7 +10,7 @@ use std::test::Fail;
 // Two machines: row i, column j holds how long i waits for j.
 fn machines(alloc: Global, waits: Date) -> Result<Matrix<Date>, Fail> {
     let entries = [Date::At(3), Date::At(7), waits, Date::At(4)];
-    Ok(Matrix::new(2, 2, Vec::from_array(alloc, entries)?)?)
+    Ok(Matrix::new(2, 2, Vec::from_slice(alloc, &entries)?)?)
 }
 
 // Whether the matrix has this eigenvalue, with a vector that is told to be one of it.
@@ -43,11 +43,13 @@ fn made_and_turned(
     Ok((entry, at(&transpose(alloc, matrix)?, 0, 1)))
 }
 
-// Whether all is told so of two machines that wait for each other.
+// Whether all is told so of two machines that wait for each other, and that another vector is none.
 fn is_told(alloc: Global, matrix: &Matrix<Date>) -> Result<bool, Fail> {
+    let value = EigenValue { time: 9, steps: 2 };
     let entries = (Some(Date::At(7)), Some(Date::At(2)));
     Ok(
-        has_value(alloc, matrix, EigenValue { time: 9, steps: 2 })?
+        has_value(alloc, matrix, value)?
+            && !is_eigen(matrix, value, &[0, 0])
             && made_and_turned(alloc, matrix)? == entries,
     )
 }
@@ -69,10 +71,10 @@ fn slowest_rows_are_told(rt: HostRuntime) -> Result<(), Fail> {
 }
 
 // Two lists: the first has two dates, and these are the second.
-fn two_rows(alloc: Global, second: Vec<Date>) -> Result<Vec<Vec<Date>>, Fail> {
+fn two_rows(alloc: Global, second: &[Date]) -> Result<Vec<Vec<Date>>, Fail> {
     let mut rows = Vec::new(alloc);
-    rows.push(Vec::from_array(alloc, [Date::At(3), Date::At(7)])?)?;
-    rows.push(second)?;
+    rows.push(Vec::from_slice(alloc, &[Date::At(3), Date::At(7)])?)?;
+    rows.push(Vec::from_slice(alloc, second)?)?;
     Ok(rows)
 }
 
@@ -82,32 +84,16 @@ fn entry_of_rows(alloc: Global, rows: &[Vec<Date>]) -> Result<Option<Date>, Rows
 }
 
 #[test]
-fn rows_make_a_matrix(rt: HostRuntime) -> Result<(), Fail> {
+fn rows_make_a_matrix_and_uneven_ones_are_refused(rt: HostRuntime) -> Result<(), Fail> {
     let alloc = rt.alloc();
-    let rows = two_rows(alloc, Vec::from_array(alloc, [Date::At(2), Date::Never])?)?;
-    let told = entry_of_rows(alloc, &rows);
+    let told = entry_of_rows(alloc, &two_rows(alloc, &[Date::At(2), Date::Never])?);
     assert!(rt; told == Ok(Some(Date::Never)));
-    Ok(())
-}
-
-#[test]
-fn uneven_rows_are_refused(rt: HostRuntime) -> Result<(), Fail> {
-    let alloc = rt.alloc();
-    let rows = two_rows(alloc, Vec::from_array(alloc, [Date::At(2)])?)?;
-    let told = entry_of_rows(alloc, &rows);
+    let told = entry_of_rows(alloc, &two_rows(alloc, &[Date::At(2)])?);
     let uneven = RowsRefused::Uneven {
         row: 1,
         given: 1,
         wanted: 2,
     };
     assert!(rt; told == Err(uneven));
-    Ok(())
-}
-
-#[test]
-fn another_vector_is_none(rt: HostRuntime) -> Result<(), Fail> {
-    let matrix = machines(rt.alloc(), Date::At(2))?;
-    let is_one = is_eigen(&matrix, EigenValue { time: 9, steps: 2 }, &[0, 0]);
-    assert!(rt; !is_one);
     Ok(())
 }

@@ -1,62 +1,69 @@
-//! The workbench over a shelf and a sink in memory.
+//! The workbench over a shelf and a sink in memory. What a call has is owned at one place, and lent
+//! to all else.
+ghost use Rattle.std.specs.Prelude.{◌<◌};
+
+use example_nets::{shelf_of, sink_of, words_of};
 use std::alloc::Global;
 use std::test::Fail;
 use teg_outside::{MemoryShelf, MemorySink, Monitor};
-use teg_run::{Status, workbench};
+use teg_run::{Status, serve, workbench};
 
 /// A case: the words, what the files named `net` and `second` hold, how the call ends, and what it
 /// writes.
 pub type Case<'a> = (&'a [&'a str], &'a str, &'a str, Status, &'a str);
 
-// A file of a shelf.
-fn file_of(alloc: Global, name: &str, bytes: &[u8]) -> Result<(String, Vec<u8>), Fail> {
-    Ok((
-        String::from_str(alloc, name)?,
-        Vec::from_slice(alloc, bytes)?,
-    ))
+/// A sink: how much a call takes, at least 1, for how much there is room, and which writes fail.
+pub type Room<'a> = (usize, usize, &'a [u64]);
+
+/// A sink of which a call takes everything.
+pub const WIDE: Room<'static> = (65_536, 65_536, &[]);
+
+/// All that a call has: its words, a shelf with two files, named `net` and `second`, and a sink.
+#[derive(Drop)]
+pub struct Bench {
+    words: Vec<String>,
+    shelf: MemoryShelf,
+    out: MemorySink,
 }
 
-/// A shelf with two files, named `net` and `second`, whose reads with these numbers fail.
-pub fn shelf_of(
-    alloc: Global,
-    net: &[u8],
-    second: &[u8],
-    failing: &[u64],
-) -> Result<MemoryShelf, Fail> {
-    let failing = Vec::from_slice(alloc, failing)?;
-    let net = file_of(alloc, "net", net)?;
-    let files = vec![in alloc; net, file_of(alloc, "second", second)?]?;
-    Ok(MemoryShelf::new(alloc, files, failing))
-}
-
-/// A sink of which a call takes everything, with room for so many bytes.
-pub fn sink_of(alloc: Global, room: usize) -> Result<MemorySink, Fail> {
-    Ok(MemorySink::new(alloc, 65536, room, Vec::new(alloc))?)
-}
-
-/// The words, owned.
-pub fn owned(alloc: Global, words: &[&str]) -> Result<Vec<String>, Fail> {
-    let mut owned = Vec::new(alloc);
-    for word in words {
-        owned.push(String::from_str(alloc, word)?)?;
+impl Bench {
+    /// A bench whose reads with these numbers fail.
+    pub fn new(
+        alloc: Global,
+        words: &[&str],
+        files: (&[u8], &[u8]),
+        failing: &[u64],
+        into: Room<'_>,
+    ) -> Result<Bench, Fail>
+        requires { 0 < into.0 }
+    {
+        let (net, second) = files;
+        let (most, room, writes) = into;
+        let words = words_of(alloc, words)?;
+        let shelf = shelf_of(alloc, &[("net", net), ("second", second)], failing)?;
+        let out = sink_of(alloc, most, room, writes)?;
+        Ok(Bench { words, shelf, out })
     }
-    Ok(owned)
-}
 
-/// How a call with these words and monitors ends on two files, named `net` and `second`, of which
-/// the reads with these numbers fail.
-pub fn ending(
-    alloc: Global,
-    words: &[&str],
-    files: (&[u8], &[u8]),
-    failing: &[u64],
-    out: &mut MemorySink,
-    monitors: Vec<Box<dyn Monitor>>,
-) -> Result<Status, Fail> {
-    let (net, second) = files;
-    let words = owned(alloc, words)?;
-    let mut shelf = shelf_of(alloc, net, second, failing)?;
-    Ok(workbench(alloc, &words, &mut shelf, out, monitors))
+    /// How the call ends with these monitors.
+    pub fn run(&mut self, alloc: Global, monitors: Vec<Box<dyn Monitor>>) -> Status {
+        workbench(alloc, &self.words, &mut self.shelf, &mut self.out, monitors)
+    }
+
+    /// How it ends where these are lent to it.
+    pub fn serve(&mut self, alloc: Global, monitors: &mut [Box<dyn Monitor>]) -> Status {
+        serve(alloc, &self.words, &mut self.shelf, &mut self.out, monitors)
+    }
+
+    /// What it wrote.
+    pub fn written(&self) -> &[u8] {
+        self.out.contents()
+    }
+
+    /// Whether the call without monitors ends so, and writes just this text.
+    pub fn ends_so(&mut self, alloc: Global, status: Status, text: &str) -> bool {
+        self.run(alloc, Vec::new(alloc)) == status && self.written() == text.as_bytes()
+    }
 }
 
 /// Whether a call without monitors, of which this read fails, ends as the case says, and writes
@@ -64,7 +71,6 @@ pub fn ending(
 pub fn is_answered(alloc: Global, case: &Case<'_>, failing: u64) -> Result<bool, Fail> {
     let (words, net, second, status, text) = *case;
     let files = (net.as_bytes(), second.as_bytes());
-    let mut out = sink_of(alloc, 65536)?;
-    let ended = ending(alloc, words, files, &[failing], &mut out, Vec::new(alloc))?;
-    Ok(ended == status && out.contents() == text.as_bytes())
+    let mut bench = Bench::new(alloc, words, files, &[failing], WIDE)?;
+    Ok(bench.ends_so(alloc, status, text))
 }

@@ -1,11 +1,10 @@
 //! Reads and writes that fail, each in turn.
 ghost use Rattle.std.specs.Prelude.{◌<◌};
 
-use crate::bench::{Case, ending, is_answered};
+use crate::bench::{Bench, Case, Room, is_answered};
 use crate::nets::{DEAD_LOOP, LOOP};
 use std::alloc::Global;
 use std::test::Fail;
-use teg_outside::MemorySink;
 use teg_run::Status;
 
 const LOG: &str = "a,0\nb,3\na,5\n";
@@ -70,24 +69,29 @@ fn each_read_may_fail(rt: HostRuntime) -> Result<(), Fail> {
     Ok(())
 }
 
+// Whether what was written are the first bytes of the text, as many as there is room for.
+fn is_beginning(written: &[u8], text: &[u8], room: usize) -> bool {
+    written.len() == room.min(text.len()) && text.starts_with(written)
+}
+
+// Whether the call ends so, and what it writes are the first bytes of the text, as many as there is
+// room for.
+fn ends_so(alloc: Global, bench: &mut Bench, status: Status, text: &str, room: usize) -> bool {
+    let is_ended = bench.run(alloc, Vec::new(alloc)) == status;
+    is_ended && is_beginning(bench.written(), text.as_bytes(), room)
+}
+
 // Whether a call into this sink, which takes so many bytes in all, writes just these first bytes of
 // its text, and ends with WriteFault where they are not the whole.
-fn is_cut(
-    alloc: Global,
-    whole: &Case<'static>,
-    mut out: MemorySink,
-    room: usize,
-) -> Result<bool, Fail> {
+fn is_cut(alloc: Global, whole: &Case<'static>, into: Room<'_>, room: usize) -> Result<bool, Fail>
+    requires { 0 < into.0 }
+{
     let (words, net, second, status, text) = *whole;
     let files = (net.as_bytes(), second.as_bytes());
-    let ended = ending(alloc, words, files, &[], &mut out, Vec::new(alloc))?;
     let is_whole = text.len() <= room;
     let wanted = if is_whole { status } else { Status::WriteFault };
-    Ok(
-        ended == wanted
-            && out.contents().len() == room.min(text.len())
-            && text.as_bytes().starts_with(out.contents()),
-    )
+    let mut bench = Bench::new(alloc, words, files, &[], into)?;
+    Ok(ends_so(alloc, &mut bench, wanted, text, room))
 }
 
 // Whether calls into sinks of so many bytes a call are cut at the call that fails, each in turn.
@@ -95,19 +99,12 @@ fn are_cut(alloc: Global, whole: &Case<'static>, size: usize) -> Result<bool, Fa
     requires { 0 < size }
 {
     for failing in 0..40u64 {
-        let failed = Vec::from_slice(alloc, &[failing + 1])?;
-        let out = MemorySink::new(alloc, size, 65536, failed)?;
-        if !is_cut(alloc, whole, out, size.saturating_mul(failing as usize))? {
+        let room = size.saturating_mul(failing as usize);
+        if !is_cut(alloc, whole, (size, 65_536, &[failing + 1]), room)? {
             return Ok(false);
         }
     }
     Ok(true)
-}
-
-// Whether the list is cut where the room of a sink ends.
-fn is_cut_at(alloc: Global, room: usize) -> Result<bool, Fail> {
-    let out = MemorySink::new(alloc, 7, room, Vec::new(alloc))?;
-    is_cut(alloc, &LISTED, out, room)
 }
 
 #[test]
@@ -116,7 +113,10 @@ fn each_write_may_fail_and_room_may_end_anywhere(rt: HostRuntime) -> Result<(), 
         assert!(rt; are_cut(rt.alloc(), whole, 1)? && are_cut(rt.alloc(), whole, 5)?);
     }
     for room in 0..70usize {
-        assert!(rt; is_cut_at(rt.alloc(), room)?, "{room} bytes");
+        assert!(rt;
+            is_cut(rt.alloc(), &LISTED, (7, room, &[]), room)?,
+            "{room} bytes"
+        );
     }
     Ok(())
 }

@@ -1,6 +1,6 @@
 //! Monitors in any mix: those of the program in any order and number, and one that finds no memory
 //! for its line.
-use crate::bench::{ending, sink_of};
+use crate::bench::{Bench, WIDE};
 use crate::nets::LOOP;
 use std::alloc::Global;
 use std::test::Fail;
@@ -71,15 +71,19 @@ fn monitors_of(alloc: Global, mix: &[Watch]) -> Result<Vec<Box<dyn Monitor>>, Fa
     Ok(monitors)
 }
 
-// Whether the replay of a mix ends as it says and writes just its text.
-fn is_answered(alloc: Global, mix: &Mix<'_>) -> Result<bool, Fail> {
-    let (log, watches, status, text) = *mix;
-    let files = (LOOP.as_bytes(), log.as_bytes());
-    let words = ["replay", "net", "second"];
-    let mut out = sink_of(alloc, 65536)?;
+// Whether the call with the monitors of a mix ends as it says and writes just its text.
+fn ends_so(alloc: Global, bench: &mut Bench, mix: &Mix<'_>) -> Result<bool, Fail> {
+    let (_, watches, status, text) = *mix;
     let monitors = monitors_of(alloc, watches)?;
-    let ended = ending(alloc, &words, files, &[], &mut out, monitors)?;
-    Ok(ended == status && out.contents() == text.as_bytes())
+    Ok(bench.run(alloc, monitors) == status && bench.written() == text.as_bytes())
+}
+
+// The same of a replay of its log.
+fn is_answered(alloc: Global, mix: &Mix<'_>) -> Result<bool, Fail> {
+    let files = (LOOP.as_bytes(), mix.0.as_bytes());
+    let words = ["replay", "net", "second"];
+    let mut bench = Bench::new(alloc, &words, files, &[], WIDE)?;
+    ends_so(alloc, &mut bench, mix)
 }
 
 #[test]

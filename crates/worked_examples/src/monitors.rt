@@ -2,14 +2,14 @@
 //! just the firings that a replay accepts; and those that are lent have seen them.
 ghost use Rattle.std.specs.Prelude.{codes};
 
-use crate::bench::{ending, owned, shelf_of, sink_of};
+use crate::bench::{Bench, WIDE};
 use crate::nets::{DEAD_LOOP, LOOP};
 use std::alloc::Global;
 use std::cell::Cell;
 use std::rc::Rc;
 use std::test::Fail;
 use teg_outside::{Firing, FiringCount, Monitor, OutOfMemory};
-use teg_run::{Status, serve};
+use teg_run::Status;
 
 // Adds to the shared count 1 when it is dropped, and 1,000 for each firing that it sees.
 struct Counter {
@@ -72,36 +72,41 @@ fn counter_of(alloc: Global, count: &Rc<Cell<u32>>) -> Result<Vec<Box<dyn Monito
     Ok(monitors)
 }
 
-// The count after a call with these words on these files, of which this read fails.
+// The count after the call with a monitor that adds to it.
+fn count_after(alloc: Global, bench: &mut Bench, count: &Rc<Cell<u32>>) -> Result<u32, Fail> {
+    let monitors = counter_of(alloc, count)?;
+    let _ending = bench.run(alloc, monitors);
+    Ok(count.get())
+}
+
+// The same from 0 on.
+fn counted_from_zero(alloc: Global, bench: &mut Bench) -> Result<u32, Fail> {
+    let count = Rc::new(alloc, Cell::new(0u32))?;
+    count_after(alloc, bench, &count)
+}
+
+// The same of a call with these words on these files, of which this read fails.
 fn counted(
     alloc: Global,
     words: &[&str],
-    net: &[u8],
-    second: &[u8],
+    files: (&[u8], &[u8]),
     failing: u64,
 ) -> Result<u32, Fail> {
-    let mut out = sink_of(alloc, 65536)?;
-    let count = Rc::new(alloc, Cell::new(0u32))?;
-    let monitors = counter_of(alloc, &count)?;
-    ending(alloc, words, (net, second), &[failing], &mut out, monitors)?;
-    Ok(count.get())
+    let mut bench = Bench::new(alloc, words, files, &[failing], WIDE)?;
+    counted_from_zero(alloc, &mut bench)
 }
 
 // Whether each command on these files leaves the count at 1, but for a replay.
 fn are_counted(
     alloc: Global,
-    net: &[u8],
-    second: &[u8],
+    files: (&[u8], &[u8]),
     failing: u64,
     replayed: u32,
 ) -> Result<bool, Fail> {
     for words in COMMANDS {
-        let wanted = if words.contains(&"replay") {
-            replayed
-        } else {
-            1
-        };
-        if counted(alloc, words, net, second, failing)? != wanted {
+        let is_replay = words.contains(&"replay");
+        let wanted = if is_replay { replayed } else { 1 };
+        if counted(alloc, words, files, failing)? != wanted {
             return Ok(false);
         }
     }
@@ -125,41 +130,65 @@ const FILES: [(&str, &str, u64, u32); 10] = [
     (LOOP, LOG, 3, 3001),
 ];
 
-// Whether the monitors are dropped once, and see nothing, where the net or the log is too long.
+// Whether the monitors are dropped once, and see nothing, where the net or the log is this.
+fn are_counted_with(alloc: Global, long: &[u8]) -> Result<bool, Fail> {
+    Ok(
+        are_counted(alloc, (LOOP.as_bytes(), long), 0, 1)?
+            && are_counted(alloc, (long, LOG.as_bytes()), 0, 1)?,
+    )
+}
+
+// The same where it is too long.
 fn are_long_files_counted(alloc: Global) -> Result<bool, Fail> {
     let long = vec![in alloc; b'#'; MOST_BYTES + 1]?;
-    let is_log_counted = are_counted(alloc, LOOP.as_bytes(), long.as_slice(), 0, 1)?;
-    Ok(is_log_counted && are_counted(alloc, long.as_slice(), LOG.as_bytes(), 0, 1)?)
+    are_counted_with(alloc, &long)
 }
 
 #[test]
 fn monitors_are_dropped_once_and_see_what_is_accepted(rt: HostRuntime) -> Result<(), Fail> {
     for (net, second, failing, replayed) in &FILES {
-        let (first, log) = (net.as_bytes(), second.as_bytes());
-        assert!(rt;
-            are_counted(rt.alloc(), first, log, *failing, *replayed)?,
-            "{net} {second} {failing}"
-        );
+        let files = (net.as_bytes(), second.as_bytes());
+        let are_counted = are_counted(rt.alloc(), files, *failing, *replayed)?;
+        assert!(rt; are_counted, "{net} {second} {failing}");
     }
     assert!(rt; are_long_files_counted(rt.alloc())?);
     Ok(())
 }
 
-// How a replay whose third firing comes too early ends, with the monitors lent to it.
-fn lent(alloc: Global, monitors: &mut [Box<dyn Monitor>]) -> Result<Status, Fail> {
-    let words = owned(alloc, &["replay", "net", "second"])?;
-    let mut shelf = shelf_of(alloc, LOOP.as_bytes(), b"a,0\nb,3\na,4\n", &[])?;
-    let mut out = sink_of(alloc, 65536)?;
-    Ok(serve(alloc, &words, &mut shelf, &mut out, monitors))
+// Whether a replay whose third firing comes too early is refused, and the monitors that were lent to
+// it have seen the two before.
+fn have_seen(
+    alloc: Global,
+    bench: &mut Bench,
+    monitors: &mut [Box<dyn Monitor>],
+) -> Result<bool, Fail> {
+    if bench.serve(alloc, monitors) != Status::Log {
+        return Ok(false);
+    }
+    for monitor in monitors.iter() {
+        if monitor.line(alloc)?.as_str() != "firings 2" {
+            return Ok(false);
+        }
+    }
+    Ok(true)
+}
+
+// The same of a monitor that counts firings.
+fn has_seen(alloc: Global, bench: &mut Bench) -> Result<bool, Fail> {
+    let mut monitors: Vec<Box<dyn Monitor>> = Vec::new(alloc);
+    monitors.push(Box::new(alloc, FiringCount::new())?)?;
+    have_seen(alloc, bench, &mut monitors)
+}
+
+// The same of a bench of its own.
+fn are_lent(alloc: Global) -> Result<bool, Fail> {
+    let files = (LOOP.as_bytes(), b"a,0\nb,3\na,4\n".as_slice());
+    let mut bench = Bench::new(alloc, &["replay", "net", "second"], files, &[], WIDE)?;
+    has_seen(alloc, &mut bench)
 }
 
 #[test]
 fn monitors_are_lent(rt: HostRuntime) -> Result<(), Fail> {
-    let mut monitors: Vec<Box<dyn Monitor>> = Vec::new(rt.alloc());
-    monitors.push(Box::new(rt.alloc(), FiringCount::new())?)?;
-    assert!(rt; lent(rt.alloc(), &mut monitors)? == Status::Log);
-    for monitor in &monitors {
-        assert!(rt; monitor.line(rt.alloc())?.as_str() == "firings 2");
-    }
+    assert!(rt; are_lent(rt.alloc())?);
     Ok(())
 }
