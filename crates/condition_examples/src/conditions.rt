@@ -4,7 +4,7 @@ use call_conditions::{
 };
 use call_limits::{MONOMIAL_BOUND, MOST_EXPRESSION_NODES, MOST_FIRINGS, MOST_PLACE_TOKENS};
 use dioid::Date;
-use example_nets::{LOOP, held, place_named};
+use example_nets::{LOOP, ask_held, place_named, read};
 use std::alloc::Global;
 use std::test::Fail;
 use teg_calc::Expr;
@@ -19,10 +19,11 @@ place = [
 ]
 ";
 
-// Whether the place `ba` may have so many tokens.
-fn may_have(net: &Net, tokens: u32) -> Result<bool, Fail> {
+// Whether the place `ba` may have as many tokens as any place, and no more.
+fn takes_most_tokens(net: &Net) -> Result<bool, Fail> {
     let back = place_named(net, "ba")?;
-    Ok(may_have_tokens(net.place(back), tokens))
+    let place = net.place(back);
+    Ok(may_have_tokens(place, MOST_PLACE_TOKENS) && !may_have_tokens(place, MOST_PLACE_TOKENS + 1))
 }
 
 // Whether so many further tokens of `ba` are enough for a ratio of 5/2.
@@ -32,14 +33,25 @@ fn are_enough(alloc: Global, held: &LiveNet, extra: u64) -> Result<bool, Fail> {
     Ok(is_enough(alloc, held.net(), held.live(), back, &target, extra)?)
 }
 
+// Whether the ranks stand for the net that is held, and not for the ring in the other direction.
+fn are_ranks_of_one(alloc: Global, held: &LiveNet) -> Result<bool, Fail> {
+    let back = read(alloc, BACK)?;
+    Ok(is_ranked(held.net(), held.live()) && !is_ranked(&back, held.live()))
+}
+
+// Whether all is tested so of the ring.
+fn is_tested(alloc: Global, held: &LiveNet) -> Result<bool, Fail> {
+    Ok(
+        takes_most_tokens(held.net())?
+            && are_enough(alloc, held, 1)?
+            && !are_enough(alloc, held, 0)?
+            && are_ranks_of_one(alloc, held)?,
+    )
+}
+
 #[test]
 fn tokens_and_ranks_are_tested(rt: HostRuntime) -> Result<(), Fail> {
-    let ring = held(rt.alloc(), LOOP)?;
-    let back = held(rt.alloc(), BACK)?;
-    assert!(rt; may_have(ring.net(), MOST_PLACE_TOKENS)?);
-    assert!(rt; !may_have(ring.net(), MOST_PLACE_TOKENS + 1)?);
-    assert!(rt; is_ranked(ring.net(), ring.live()) && !is_ranked(back.net(), ring.live()));
-    assert!(rt; are_enough(rt.alloc(), &ring, 1)? && !are_enough(rt.alloc(), &ring, 0)?);
+    assert!(rt; ask_held(rt.alloc(), LOOP, is_tested)?);
     Ok(())
 }
 
@@ -73,6 +85,12 @@ fn stars(alloc: Global, nodes: u32) -> Result<Expr, Fail> {
     Ok(expr)
 }
 
+// Whether an expression of so many nodes has few, and short numbers.
+fn is_short_of(alloc: Global, nodes: u32) -> Result<bool, Fail> {
+    let expr = stars(alloc, nodes)?;
+    Ok(has_few_nodes(&expr) && has_short_numbers(&expr))
+}
+
 // Whether a monomial of this shift has short numbers.
 fn is_short(shift: u64) -> bool {
     has_short_numbers(&Expr::Mono {
@@ -84,10 +102,8 @@ fn is_short(shift: u64) -> bool {
 
 #[test]
 fn expressions_are_tested(rt: HostRuntime) -> Result<(), Fail> {
-    let few = stars(rt.alloc(), MOST_EXPRESSION_NODES)?;
-    assert!(rt; has_few_nodes(&few) && has_short_numbers(&few));
-    let many = Expr::Star(Box::new(rt.alloc(), few)?);
-    assert!(rt; !has_few_nodes(&many));
+    assert!(rt; is_short_of(rt.alloc(), MOST_EXPRESSION_NODES)?);
+    assert!(rt; !is_short_of(rt.alloc(), MOST_EXPRESSION_NODES + 1)?);
     assert!(rt; is_short(MONOMIAL_BOUND - 1) && !is_short(MONOMIAL_BOUND));
     assert!(rt; MOST_FIRINGS == 1 << 40);
     Ok(())

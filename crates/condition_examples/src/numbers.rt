@@ -1,6 +1,7 @@
 //! A net is asked in the order of its numbers.
-use example_nets::{LOOP, held};
+use example_nets::{LOOP, ask_net};
 use net_ids::{place_ids, transition_ids};
+use std::alloc::Global;
 use std::test::Fail;
 use teg_net::Net;
 
@@ -23,10 +24,13 @@ fn has_input(net: &Net) -> bool {
     false
 }
 
+// Whether the loop is asked so.
+fn is_asked(_alloc: Global, net: &Net) -> Result<bool, Fail> {
+    Ok(longest_hold(net) == 3 && !has_input(net))
+}
+
 #[test]
 fn a_net_is_asked_by_its_numbers(rt: HostRuntime) -> Result<(), Fail> {
-    let held = held(rt.alloc(), LOOP)?;
-    let net = held.net();
-    assert!(rt; longest_hold(net) == 3 && !has_input(net));
+    assert!(rt; ask_net(rt.alloc(), LOOP, is_asked)?);
     Ok(())
 }
