@@ -16,7 +16,7 @@ import sys
 
 from common import TOP, blocks_in
 
-ITEM = re.compile(r"(?:pub (?:fn|struct|enum|trait)|impl) (\w+ for \w+|\w+(?:::\w+)?)")
+ITEM = re.compile(r"(?:pub (?:fn|struct|enum|trait|const)|impl) (\w+ for \w+|\w+(?:::\w+)?)")
 SIGNATURE = r"fn (\w+).*?(?=\s(?:requires|ensures)\b|\s*\{|;)"
 
 
@@ -46,6 +46,8 @@ def items_of(text):
     for found in re.finditer(r"^(pub struct (\w+)(?:<[^\n{;]*>)?)(;| \{([^\n]*|\n.*?\n)\}$)", text, re.M | re.S):
         yield found[2], found[1] + (f" {{ {fields_of(found[4])} }}" if found[4] is not None else "")
     for found in re.finditer(r"^pub enum (\w+).*?^\}", text, re.M | re.S):
+        yield found[1], found[0]
+    for found in re.finditer(r"^pub const (\w+):[^;]*;", text, re.M):
         yield found[1], found[0]
     for found in re.finditer(r"^(pub trait (\w+)[^\n]*?) \{$(.*?)^\}", text, re.M | re.S):
         members = re.finditer(rf"^ {{4}}(?:{SIGNATURE}|const [^;]*)", found[3], re.M | re.S)
