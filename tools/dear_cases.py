@@ -494,6 +494,9 @@ def settled_cases():
     yield "date: overtaken after 19,990", ["date", "net", "c", "1000000"], {"net": late.text()}, DONE, "date c 1000000 10999989\n"
     yield ("date: overtaken after 199,000", ["date", "net", "c", "1000000", "--limit", "200000"],
            {"net": overtaken(0, 199_000, 40, 200).text()}, DONE, "date c 1000000 10999989\n")
+    much_later = {"net": overtaken(0, 1_000_000).text()}
+    for words in ["dates", "net"], ["date", "net", "c", "5"]:
+        yield f"{words[0]}: overtaken after 1,000,000, limit 200000", [*words, "--limit", "200000"], much_later, TOO_LONG, TOO_LONG_TEXT.format(200_000)
     yield overtaken_inputs(20, 990)
     yield overtaken_inputs(200, 990)
     yield overtaken_inputs(200, 990, 7)
