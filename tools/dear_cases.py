@@ -503,10 +503,11 @@ def settled_cases():
     for tokens, bound in ([101, 103], 6_207_001), ([991, 997], 7_995_001):
         yield (f"bound: own places of {tokens[0]} and {tokens[1]} tokens", ["bound", "net"], {"net": joined_own_places(tokens).text()},
                DONE, f"bound {bound}\nsettled after 0 period {tokens[0] * tokens[1]}\n")
-    slow, room, ahead = 3_600, 1_000, 5
-    late = two_rates(slow, room, ahead)
-    after = (slow + 1) * room - ahead
-    yield f"bound: settled after {after:,}", ["bound", "net"], {"net": late.text()}, DONE, bound_text(late, slow + 1, 1, after, 1)
+    for slow in 3_600, 999_999_999:
+        room, ahead = 1_000, 5
+        late = two_rates(slow, room, ahead)
+        after = (slow + 1) * room - ahead
+        yield f"bound: settled after {after:,}", ["bound", "net"], {"net": late.text()}, DONE, bound_text(late, slow + 1, 1, after, 1)
 
 
 def card_cases():

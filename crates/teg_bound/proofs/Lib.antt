@@ -8,3 +8,4 @@ pub mod Strong
 pub mod Returns
 pub mod MadeDates
 pub mod TwoStreams
+pub mod Jumped

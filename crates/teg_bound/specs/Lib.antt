@@ -3,3 +3,4 @@ pub mod Readings
 pub mod BoundTexts
 pub mod MadeRows
 pub mod ReturningRows
+pub mod JumpedRows

@@ -34,13 +34,13 @@ pub struct SettledNumbers {
 // The last number of rows that come again first after this period, all moved by this step.
 #[derive(Clone, Copy, Drop)]
 pub(crate) struct Returned {
-    last: u64,
-    period: u64,
-    step: i128,
+    pub(crate) last: u64,
+    pub(crate) period: u64,
+    pub(crate) step: i128,
 }
 
 // The step from one date to the other, 0 where one of them is no number.
-fn step_between(early: Date, late: Date) -> i128
+pub(crate) fn step_between(early: Date, late: Date) -> i128
     requires early { IsDateWithin (2 ^ 126) early }
     requires late { IsDateWithin (2 ^ 126) late }
     ensures { result ≡ between early late }
@@ -183,15 +183,12 @@ fn moved_from(alloc: Global, net: &Net, live: &Live, found: Returned) -> Result<
     Ok(after)
 }
 
-/// The number and the period of the shortest settled form of a live net without inputs, in which
-/// each transition reaches each (chapter 3, cyclicity), without its dates: for nets that settle
-/// late, as it keeps no rows but the last of two streams, as many of each as a place has tokens, at
-/// most 1,000, in memory of 64 bytes for each of them and of the transitions. For a settling length
-/// l and places of at most m tokens it takes time of order `p log p + (l + m) (n + p)` for n
-/// transitions and p places, and that of the comparisons of these rows, most of which end at the
-/// first row. `OutOfMemory` comes where no memory is found, and past 10^17 rows, which no machine
-/// makes.
-pub fn settled_numbers(alloc: Global, net: &Net, live: &Live) -> Result<SettledNumbers, OutOfMemory>
+// The number and the period of the shortest form by two streams, in memory that does not grow.
+pub(crate) fn numbers_by_streams(
+    alloc: Global,
+    net: &Net,
+    live: &Live,
+) -> Result<SettledNumbers, OutOfMemory>
     requires stands { IsRanking net.now live.now }
     requires alone { HasPlacesAlone net.now }
     requires strong { EachReachesEach net.now }

@@ -1,7 +1,7 @@
 use Rattle.teg_net.proofs.NetRules.{lists_by_rule, lists_rise, net_ends}
 use Rattle.teg_check.proofs.Liveness.{ranking_is_live}
 use Rattle.teg_bound.proofs.TwoStreams.{form_within, shortest}
-use Rattle.teg_bound.proofs.two_streams.settled_numbers.Goals as goal
+use Rattle.teg_bound.proofs.two_streams.numbers_by_streams.Goals as goal
 
 pub first_return-requires : goal.first_return-requires
 first_return-requires c =
