@@ -226,21 +226,27 @@ const SIZES: [(&[u8], &str, Option<Further>); 6] = [
     ),
 ];
 
-// What the text shows of `paint_room`.
+// What is shown of `paint_room`.
+fn further(shown: &ShownSize) -> Option<Further> {
+    match shown {
+        ShownSize::Enough {
+            place,
+            target,
+            extra,
+        } if *place == PlaceId::new(6) => Some((target.time(), target.tokens(), Some(*extra))),
+        ShownSize::Impossible { place, target } if *place == PlaceId::new(6) => {
+            Some((target.time(), target.tokens(), None))
+        }
+        _ => None,
+    }
+}
+
+// What the text shows of it.
 fn size(alloc: Global, net: &Net, text: &str) -> Result<Option<Further>, OutOfMemory> {
-    let (place, target, extra) = match shown_size(alloc, net, text)? {
-        Some(
-            ShownSize::Enough {
-                place,
-                target,
-                extra,
-            },
-        ) => (place, target, Some(extra)),
-        Some(ShownSize::Impossible { place, target }) => (place, target, None),
-        None => return Ok(None),
-    };
-    let is_room = place == PlaceId::new(6);
-    Ok(is_room.then_some((target.time(), target.tokens(), extra)))
+    Ok(match shown_size(alloc, net, text)? {
+        Some(shown) => further(&shown),
+        None => None,
+    })
 }
 
 #[test]
