@@ -3,6 +3,7 @@ use Rattle.std.specs.Prelude.{ℕ, ◌+◌, ◌-◌, ◌*◌, ◌<◌, ◌≤◌
 use Rattle.settled_laws.specs.teg_net.declared.entries.PlaceId.{PlaceId}
 use Rattle.settled_laws.specs.teg_net.Nets.{NetLists, IsNet, IsInput}
 use Rattle.settled_laws.specs.teg_net.Circuits.{IsPathBetween, IsCircuit, IsLive, time_of, tokens_of}
+use Rattle.settled_laws.specs.teg_net.Parts.{Reaches}
 
 -- a circuit of ratio a/b, told from transition c on
 pub record IsCriticalAt (net : NetLists) (a b c : ℕ) (ps : List PlaceId) : Type 0 where
@@ -18,12 +19,16 @@ IsCommon net a b L = (c : ℕ) (ps : List PlaceId) → IsCriticalAt net a b c ps
 abbrev pub AllReadyAtZero : NetLists → Type 0
 AllReadyAtZero net = All (λ p. All (λ d. d ≡ 0) p.ready) net.places
 
+-- a path leads from each transition to each
+abbrev pub EachReachesEach : NetLists → Type 0
+EachReachesEach net = (s t : ℕ) → s < length net.transitions → t < length net.transitions → Reaches net s t
+
 -- live, without inputs, all initial tokens ready at 0, each transition reaches each other, a/b is the greatest ratio and above 0, and the numbers keep these limits
 pub record IsStrong (net : NetLists) (hold tokens a b : ℕ) : Type 0 where
   pub net_rules : IsNet net
   pub live : IsLive net
   pub no_input : (t : ℕ) → IsInput net t → ⊥
-  pub reaches : (s t : ℕ) → s < length net.transitions → t < length net.transitions → (ps : List PlaceId) × IsPathBetween net s ps t
+  pub reaches : EachReachesEach net
   pub center : ℕ
   pub core : List PlaceId
   pub attained : IsCriticalAt net a b center core

@@ -3,12 +3,12 @@ use Rattle.std.specs.Prelude.{ℕ, zero, suc, pos, ◌+◌, ◌*◌, ◌<◌, �
 use Rattle.settled_laws.specs.dioid.declared.dates.Date.TheVariants.{At}
 use Rattle.settled_laws.specs.teg_net.declared.entries.PlaceId.{PlaceId}
 use Rattle.settled_laws.specs.teg_net.Nets.{HasEndsInRange, IsInput}
-use Rattle.settled_laws.specs.teg_net.Circuits.{IsPathBetween, IsCircuit, IsLive, time_of}
+use Rattle.settled_laws.specs.teg_net.Circuits.{IsCircuit, IsLive, time_of}
 use Rattle.settled_laws.specs.dioid.declared.dates.Date.{Date}
 use Rattle.settled_laws.specs.dioid.Dates.{delayed}
 use Rattle.settled_laws.specs.teg_net.Nets.{NetLists}
 use Rattle.settled_laws.specs.teg_model.Datings.{IsLeastDating}
-use Rattle.bound_laws.specs.Critical.{AllReadyAtZero, IsStrong, IsCommon, bound_of}
+use Rattle.bound_laws.specs.Critical.{AllReadyAtZero, EachReachesEach, IsStrong, IsCommon, bound_of}
 
 -- past the bound each date comes S after that of L firings before, for each common multiple L and its step S
 abbrev pub DatesGoOnPastTheBound : Type 0
@@ -32,6 +32,6 @@ StepsAreWhole = (net : NetLists) (hold tokens a b L : ℕ) → IsStrong net hold
 -- where no circuit takes time, all dates are 0
 abbrev pub StillNetsStayAtZero : Type 0
 StillNetsStayAtZero = (net : NetLists) → HasEndsInRange net → IsLive net → ((t : ℕ) → IsInput net t → ⊥)
-    → ((s t : ℕ) → s < length net.transitions → t < length net.transitions → (ps : List PlaceId) × IsPathBetween net s ps t)
+    → EachReachesEach net
     → ((ps : List PlaceId) → IsCircuit net ps → time_of net ps ≡ 0) → AllReadyAtZero net
     → (x : ℕ → ℕ → Date) → IsLeastDating net x → (t k : ℕ) → t < length net.transitions → 1 ≤ k → x t k ≡ At (pos 0)

@@ -5,12 +5,11 @@ use Rattle.bound_laws.specs.dioid.declared.dates.Date.{Date}
 use Rattle.bound_laws.specs.teg_net.declared.entries.PlaceId.{PlaceId}
 use Rattle.bound_laws.specs.teg_net.Nets.{NetLists, HasEndsInRange, HasListsOfInputs, IsInput}
 use Rattle.bound_laws.specs.teg_net.Circuits.{IsPathBetween, IsCircuit, IsLive, time_of, tokens_of}
-use Rattle.bound_laws.specs.teg_net.Parts.{Reaches}
 use Rattle.bound_laws.specs.teg_net.GreatestRatios.{IsGreatestRatio, IsAnyPlace}
 use Rattle.bound_laws.specs.teg_model.Datings.{IsLeastDating}
 use Rattle.bound_laws.specs.settled_laws.SettledForms.{SettledForm, IsShortestForm}
 use Rattle.growth_laws.specs.Growth.{GrowBy}
-use Rattle.bound_laws.specs.Critical.{IsCriticalAt, IsCommon}
+use Rattle.bound_laws.specs.Critical.{IsCriticalAt, IsCommon, EachReachesEach}
 
 -- live, without inputs, each transition reaches each other, and the greatest ratio is a / b
 pub record IsStronglyConnected (net : NetLists) (a b : ℕ) : Type 0 where
@@ -18,7 +17,7 @@ pub record IsStronglyConnected (net : NetLists) (a b : ℕ) : Type 0 where
   pub lists : HasListsOfInputs net
   pub live : IsLive net
   pub no_input : (t : ℕ) → IsInput net t → ⊥
-  pub reaches : (s t : ℕ) → s < length net.transitions → t < length net.transitions → Reaches net s t
+  pub reaches : EachReachesEach net
   pub ratio : IsGreatestRatio net IsAnyPlace (record { time = a; tokens = b })
 
 -- a circuit of the strong part of the critical graph in which transition c is: it has the ratio, and so has a way that

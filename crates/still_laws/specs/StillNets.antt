@@ -2,12 +2,12 @@
 use Rattle.std.specs.Prelude.{ℕ, ◌<◌, ◌≤◌, ◌≡◌, ◌↔◌, List, length}
 use Rattle.bound_laws.specs.teg_net.declared.entries.PlaceId.{PlaceId}
 use Rattle.bound_laws.specs.teg_net.Nets.{NetLists, IsNet, HasEndsInRange, IsInput}
-use Rattle.bound_laws.specs.teg_net.Circuits.{IsPathBetween, IsCircuit, IsLive, time_of}
+use Rattle.bound_laws.specs.teg_net.Circuits.{IsCircuit, IsLive, time_of}
 use Rattle.bound_laws.specs.teg_net.GreatestRatios.{IsGreatestRatio, IsAnyPlace}
 use Rattle.bound_laws.specs.teg_net.Ratios.{Fraction}
 use Rattle.bound_laws.specs.settled_laws.SettledForms.{SettledForm, IsSettledFormOf}
 use Rattle.bound_laws.specs.teg_net.Limits.{greatest_hold, most_place_tokens}
-use Rattle.bound_laws.specs.Critical.{AllReadyAtZero, IsStrong}
+use Rattle.bound_laws.specs.Critical.{AllReadyAtZero, EachReachesEach, IsStrong}
 
 -- no circuit takes time
 abbrev pub IsStill : NetLists → Type 0
@@ -21,13 +21,13 @@ StillByRatio = (net : NetLists) (r : Fraction) → IsLive net → IsGreatestRati
 -- first firing on, with period 1
 abbrev pub StillNetsSettleAtOnce : Type 0
 StillNetsSettleAtOnce = (net : NetLists) → HasEndsInRange net → ((t : ℕ) → IsInput net t → ⊥)
-    → ((s t : ℕ) → s < length net.transitions → t < length net.transitions → (ps : List PlaceId) × IsPathBetween net s ps t)
+    → EachReachesEach net
     → IsStill net → AllReadyAtZero net
     → (f : SettledForm) → IsSettledFormOf net f → (f.after ≡ 0) × (f.period ≡ 1)
 
 -- and each other such net is strong in the sense of the bound, at its greatest ratio, within the limits of all nets
 abbrev pub OthersAreStrong : Type 0
 OthersAreStrong = (net : NetLists) → IsNet net → IsLive net → ((t : ℕ) → IsInput net t → ⊥)
-    → ((s t : ℕ) → s < length net.transitions → t < length net.transitions → (ps : List PlaceId) × IsPathBetween net s ps t)
+    → EachReachesEach net
     → AllReadyAtZero net
     → (r : Fraction) → IsGreatestRatio net IsAnyPlace r → 1 ≤ r.time → IsStrong net greatest_hold most_place_tokens r.time r.tokens

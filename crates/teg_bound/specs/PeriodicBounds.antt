@@ -10,6 +10,7 @@ use Rattle.teg_net.specs.Parts.{Reaches}
 use Rattle.teg_net.specs.GreatestRatios.{IsGreatestRatio, IsAnyPlace}
 use Rattle.bound_laws.specs.teg_model.Datings.{IsLeastDating}
 use Rattle.bound_laws.specs.settled_laws.SettledForms.{SettledForm, IsShortestForm}
+pub use Rattle.bound_laws.specs.Critical.{EachReachesEach}
 use Rattle.bound_laws.specs.Critical.{IsCriticalAt, AllReadyAtZero, bound_of}
 use Rattle.teg_bound.specs.declared.bound.BoundAnswer.{BoundAnswer}
 use Rattle.teg_bound.specs.declared.bound.BoundAnswer.TheVariants.{Bound, HasInputs, NoPlace, NotStrong, ReadyDates}
@@ -64,10 +65,6 @@ FormsKeepBound net r number = (x : ℕ → ℕ → Date) → IsLeastDating net x
 -- no transition is an input
 abbrev pub NoInput : NetLists → Type 0
 NoInput net = (t : ℕ) → IsInput net t → ⊥
-
--- a path leads from each transition to each
-abbrev pub EachReachesEach : NetLists → Type 0
-EachReachesEach net = (s t : ℕ) → s < length net.transitions → t < length net.transitions → Reaches net s t
 
 -- from some transition no path leads to some other
 pub record HasNoWay (net : NetLists) : Type 0 where
