@@ -1,5 +1,5 @@
 //! The rounds of a part, from the first to the one that no place improves.
-ghost use Rattle.std.specs.Prelude.{◌≡◌, IfOk, IfSome, IfNone, map};
+ghost use Rattle.std.specs.Prelude.{◌≡◌, ◌++◌, ◌∷◌, [], IfOk, IfSome, IfNone, map};
 ghost use Rattle.teg_net.specs.PartAnswers.{IsPartAnswer};
 ghost use Rattle.teg_howard.specs.PolicyRounds.{IsFirstRound, IsPolicyRun};
 ghost use Rattle.teg_howard.specs.PolicyRuns.{potential_of, IsAnswerOf, IsAnswerOfLast, EndsRun, KeepsLimits, AllRise, RiseByCase};
@@ -130,6 +130,24 @@ struct Iteration {
     state: RoundState,
 }
 
+impl Iteration {
+    // The latest round.
+    fn into_round(self) -> Round
+        ensures { result ≡ self.state.round }
+    {
+        let Iteration {
+            inner: _inner,
+            policy: _policy,
+            state,
+        } = self;
+        let RoundState {
+            round,
+            values: _values,
+        } = state;
+        round
+    }
+}
+
 // The rounds of a part, at the first.
 fn begin(alloc: Global, net: &Net, parts: &[u32], part: u32) -> Result<Iteration, AllocError>
     requires { HasCircuit net.now parts.now part }
@@ -186,6 +204,19 @@ fn advance(
     }
 }
 
+// The answer that the last round gives, and the rounds with it behind them.
+fn ended_run(
+    alloc: Global,
+    mut rounds: Vec<Round>,
+    round: Round,
+) -> Result<(PartAnswer, Vec<Round>), AllocError>
+    ensures { IfOk result (λ w. IsAnswerOf round w.0 × (w.1.items ≡ rounds.items ++ round ∷ [])) }
+{
+    let answer = answer_of(alloc, &round)?;
+    rounds.push(round)?;
+    Ok((answer, rounds))
+}
+
 // The policy run of a part, and the answer that its last round gives.
 pub(crate) fn policy_run(
     alloc: Global,
@@ -206,18 +237,7 @@ pub(crate) fn policy_run(
     'rounds: while let Some(before) = advance(alloc, net, parts, part, &mut at)? {
         rounds.push(before)?;
     }
-    let Iteration {
-        inner: _inner,
-        policy: _policy,
-        state,
-    } = at;
-    let RoundState {
-        round,
-        values: _values,
-    } = state;
-    let answer = answer_of(alloc, &round)?;
-    rounds.push(round)?;
-    Ok((answer, rounds))
+    ended_run(alloc, rounds, at.into_round())
 }
 
 // The answer that the last round of a part's policy run gives. One round is kept.
@@ -234,6 +254,7 @@ pub(crate) fn last_answer(
 {
     let mut at = begin(alloc, net, parts, part)?;
     'rounds: while let Some(_before) = advance(alloc, net, parts, part, &mut at)? {}
-    let answer = answer_of(alloc, &at.state.round)?;
+    let round = at.into_round();
+    let answer = answer_of(alloc, &round)?;
     Ok(answer)
 }

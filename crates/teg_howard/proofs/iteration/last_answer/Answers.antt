@@ -1,4 +1,6 @@
-use Rattle.std.proofs.Common.{◌++◌, ◌∷◌, []}
+use Rattle.std.proofs.Common.{◌≡◌, ◌∙◌, ◌++◌, ◌∷◌, [], ap, subst}
+use Rattle.teg_net.specs.declared.rounds.Round.{Round}
+use Rattle.teg_howard.specs.declared.settling.RoundState.{RoundState}
 use Rattle.teg_howard.specs.RoundStates.{GoesOn, StaysAtLast}
 use Rattle.teg_howard.specs.PolicyRuns.{IsAnswerOf}
 use Rattle.teg_howard.proofs.Runs.{run_one, run_more, run_all, last_answers, last_keeps, last_pushed}
@@ -28,7 +30,8 @@ returns c =
     let h = c.rounds.invariant in
     let r = at.state.round in
     let end : StaysAtLast net parts part at c.advance.new.at = rw c.in_default.is at c.in_ok-_before.ensures.none in
-    let is : IsAnswerOf r c.in_ok-answer.answer = rw end.same at c.in_ok-answer.ensures in
+    let last : c.into_round-round.result ≡ r = c.into_round-round.ensures ∙ ap (λ (s : RoundState). s.round) end.same in
+    let is : IsAnswerOf r c.in_ok-answer.answer = subst (λ (z : Round). IsAnswerOf z c.in_ok-answer.answer) last c.in_ok-answer.ensures in
     record {
       best = last_answers net parts part at.policy.items at.state c.in_ok-answer.answer c.requires.live h.standing.standing end.last is;
       run = (

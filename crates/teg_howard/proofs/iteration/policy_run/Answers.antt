@@ -1,6 +1,11 @@
-use Rattle.std.proofs.Common.{◌++◌, ◌∷◌, []}
+use Rattle.std.proofs.Common.{◌≡◌, ◌∙◌, List, ◌++◌, ◌∷◌, [], ap, sym, subst}
+use Rattle.std.specs.Prelude.{IfOk}
+use Rattle.std.proofs.lemmas.Result.{IfOk-weaker}
+use Rattle.teg_net.specs.declared.rounds.Round.{Round}
+use Rattle.teg_howard.specs.declared.settling.RoundState.{RoundState}
+use Rattle.teg_howard.specs.PolicyRounds.{IsPolicyRun}
 use Rattle.teg_howard.specs.RoundStates.{GoesOn, StaysAtLast}
-use Rattle.teg_howard.specs.PolicyRuns.{IsAnswerOf}
+use Rattle.teg_howard.specs.PolicyRuns.{IsAnswerOf, IsAnswerOfLast, AllRise, RiseByCase}
 use Rattle.teg_howard.proofs.Runs.{run_more, run_all, rise_more, last_answers, last_keeps, last_pushed}
 use Rattle.teg_howard.proofs.Rising.{rise_by_case}
 use Rattle.teg_howard.proofs.Ending.{falls}
@@ -32,13 +37,16 @@ returns c =
     let before = c.rounds.rounds.items in
     let r = at.state.round in
     let end : StaysAtLast net parts part at c.advance.new.at = rw c.in_default.is at c.in_ok-before.ensures.none in
-    let is : IsAnswerOf r c.in_ok-answer.answer = rw end.same at c.in_ok-answer.ensures in
-    rw (c.in_ok-push-2.ensures.items, end.same)
-    (record {
-      run = run_all net parts part before r h.run end.last;
-      best = last_answers net parts part at.policy.items at.state c.in_ok-answer.answer c.requires.live h.standing.standing end.last is;
-      answer = λ d. last_pushed net parts part (λ s. IsAnswerOf s c.in_ok-answer.answer) before r d is;
-      limits = last_keeps net parts part at.policy.items at.state c.in_ok-answer.answer h.standing.standing is;
-      rises = h.rises;
-      cases = rise_by_case net parts part c.requires.live (before ++ r ∷ []) h.run h.rises;
-    })
+    let last : c.into_round.result ≡ r = c.into_round.ensures ∙ ap (λ (s : RoundState). s.round) end.same in
+    let given : IfOk c.ended_run.result (λ w. IsAnswerOf r w.0 × (w.1.items ≡ before ++ r ∷ [])) =
+    subst (λ (z : Round). IfOk c.ended_run.result (λ w. IsAnswerOf z w.0 × (w.1.items ≡ before ++ z ∷ []))) last c.ended_run.ensures in
+    record {
+      run = IfOk-weaker c.ended_run.result _ _ (λ w k. subst (λ (z : List Round). IsPolicyRun net parts part z) (sym k.1) (run_all net parts part before r h.run end.last)) given;
+      best = IfOk-weaker c.ended_run.result _ _ (λ w k. last_answers net parts part at.policy.items at.state w.0 c.requires.live h.standing.standing end.last k.0) given;
+      answer = IfOk-weaker c.ended_run.result _ _
+          (λ w k. subst (λ (z : List Round). IsAnswerOfLast z w.0) (sym k.1) (λ d. last_pushed net parts part (λ s. IsAnswerOf s w.0) before r d k.0)) given;
+      limits = IfOk-weaker c.ended_run.result _ _ (λ w k. last_keeps net parts part at.policy.items at.state w.0 h.standing.standing k.0) given;
+      rises = IfOk-weaker c.ended_run.result _ _ (λ w k. subst (λ (z : List Round). AllRise z) (sym k.1) h.rises) given;
+      cases = IfOk-weaker c.ended_run.result _ _
+          (λ w k. subst (λ (z : List Round). RiseByCase net parts part z) (sym k.1) (rise_by_case net parts part c.requires.live (before ++ r ∷ []) h.run h.rises)) given;
+    }

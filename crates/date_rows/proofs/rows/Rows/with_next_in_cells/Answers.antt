@@ -1,6 +1,6 @@
 use Rattle.std.proofs.Common.{◌+◌, ◌≡◌, ◌++◌, ◌^◌, ◌<◌, length, map, sym, ap, subst, ◌∙◌, arith}
 use Rattle.std.specs.Prelude.{⊤}
-use Rattle.std.proofs.lemmas.List.{with_items_is}
+use Rattle.std.proofs.lemmas.List.{length-map, with_items_is}
 use Rattle.teg_net.specs.Limits.{most_rows}
 use Rattle.date_rows.specs.DateTables.{TableDates}
 use Rattle.date_rows.specs.Sources.{system_by}
@@ -9,6 +9,13 @@ use Rattle.date_rows.specs.KeptRows.{AreLeastRows}
 use Rattle.date_rows.proofs.Earliest.{short_bounds_stay}
 use Rattle.date_rows.proofs.NextRow.{can_make_next, rows_with_next}
 use Rattle.date_rows.proofs.rows.Rows.with_next_in_cells.Goals as goal
+
+pub invariant_of-past : goal.invariant_of-past
+invariant_of-past g c =
+    let cells = c.in-Some.cells.now in
+    let held : map date_of_signed_cell cells ≡ c.rows.inside.dates = rw c.in-Some.is at c.cells.ensures in
+    let kept = c.rows.invariant in
+    record { width_in = kept.width_in; count_in = kept.count_in; full = sym (length-map cells date_of_signed_cell) ∙ ap length held ∙ kept.full }
 
 pub new-requires : goal.new-requires
 new-requires g c =
