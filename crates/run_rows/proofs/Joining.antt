@@ -12,10 +12,6 @@ use Rattle.teg_model.specs.Datings.{IsLeastDating}
 use Rattle.run_rows.specs.LeastRuns.{AreLateRuns, AreLeastRuns, AreRunsLately}
 use Rattle.run_rows.specs.ReadRuns.{IsLeastRun}
 
--- no runs have each number up to 0
-pub none_join : (net : NetLists) → AreLeastRuns net 0 []
-none_join net x is = record { runs = λ i d l. absurd (omega (arith, l)); cover = λ k o m. absurd (omega (arith, o, m)) }
-
 -- runs up to a number and one that goes on from there
 pub joined : (net : NetLists) (before end : ℕ) (runs : List Run) (a : Run) → AreLeastRuns net before runs → IsLeastRun net before end a → AreLeastRuns net end (runs ++ a ∷ [])
 joined net before end runs a h l x is =
@@ -34,14 +30,6 @@ joined net before end runs a h l x is =
           (i, d, omega (arith, n, long), get_or_append_left runs (a ∷ []) d i n ∙ e, has))
           (cases_lt before k);
     }
-
--- runs that have each number have the last ones
-pub late_of_all : (net : NetLists) (most last : ℕ) (runs : List Run) → AreLeastRuns net last runs → AreLateRuns net most last runs
-late_of_all net most last runs h x is = record { runs = (h x is).runs; cover = λ k o near m. (h x is).cover k o m }
-
--- and those that have some have the last one
-pub late_of_more : (net : NetLists) (most last : ℕ) (runs : List Run) → 1 ≤ most → AreLateRuns net most last runs → AreLateRuns net 1 last runs
-late_of_more net most last runs one h x is = record { runs = (h x is).runs; cover = λ k o near m. (h x is).cover k o (omega (arith, near, one)) m }
 
 -- so has a run that goes on so far
 pub late_joined : (net : NetLists) (most before end : ℕ) (runs : List Run) (a : Run) → ((x : ℕ → ℕ → Date) → IsLeastDating net x → All (IsRunOf (length net.transitions) x) runs)

@@ -1,6 +1,5 @@
 //! Runs of dates in memory: one turn of dates of each transition, and by what each moves in a turn.
-ghost use Rattle.std.specs.Prelude.{◌≡◌, ◌+◌, ◌-◌, ◌*◌, ◌/◌, ◌%◌, ◌*ℤ◌, ◌+ℤ◌, ◌<◌, ◌≤◌, ◌^◌, ◌++◌, ◌∷◌, [], IfOk, IsTrue, Decides, pos, FitsSigned};
-ghost use Rattle.std.specs.Int.{w128};
+ghost use Rattle.std.specs.Prelude.{◌≡◌, ◌+◌, ◌-◌, ◌*◌, ◌/◌, ◌%◌, ◌*ℤ◌, ◌+ℤ◌, ◌<◌, ◌≤◌, ◌^◌, ◌++◌, ◌∷◌, [], IfOk, Decides, pos};
 ghost use Rattle.dioid.specs.Dates.{move};
 ghost use Rattle.teg_model.specs.DateBounds.{IsDateWithin, greatest_least_date};
 ghost use Rattle.jump_laws.specs.Runs.{IsInRun, date_by_runs, kept_date, kept_step, run_date};

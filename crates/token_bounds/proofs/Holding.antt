@@ -30,18 +30,6 @@ same_more net changed id hold h = record {
   tokens = λ q. kept (λ (z : Place). z.tokens) (λ n z. refl) changed id hold q ∙ h.tokens q;
 }
 
--- one place more that takes no time
-pub still_more : (net changed : NetLists) (k : ℕ) → k < length net.places → AreStillUpTo net changed k → AreStillUpTo net (with_hold changed (record { index = k }) 0) (k + 1)
-still_more net changed k l h =
-    let count = h.same.count in
-    record {
-      same = same_more net changed (record { index = k }) 0 h.same;
-      still = λ q m. ⊎_elim
-          (λ (e : q.index ≡ k). changed_hold changed (record { index = k }) q 0 (omega arith) e)
-          (λ (n : q.index ≢ k). other_hold changed (record { index = k }) q 0 n ∙ h.still q (omega arith))
-          (cases_eq q.index k);
-    }
-
 -- and the one that does
 pub alone : (net changed : NetLists) (p : PlaceId) (n : ℕ) → n ≡ length net.places → p.index < length net.places → AreStillUpTo net changed n → IsHeldAlone net p (with_hold changed p long_time)
 alone net changed p n e l h =

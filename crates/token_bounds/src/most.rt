@@ -1,7 +1,6 @@
 //! The fewest tokens of the circuits through a place.
 ghost use Rattle.std.specs.Prelude.{◌≡◌, ◌<◌, length, IfOk};
 ghost use Rattle.teg_net.specs.Nets.{IsNet};
-ghost use Rattle.teg_net.specs.Ratios.{Fraction};
 ghost use Rattle.teg_sizing.specs.Sizings.{IsSizing};
 ghost use Rattle.token_bounds.specs.MostTokens.{IsHeldAlone, IsMostTokens, one_unit};
 

@@ -5,7 +5,3 @@ use Rattle.teg_text.specs.Lines.{line_then}
 -- the text begins so
 abbrev pub BeginsWith : List ℕ → List ℕ → Type 0
 BeginsWith text first = (rest : List ℕ) × (text ≡ first ++ rest)
-
--- the text begins with the line of these words
-abbrev pub BeginsWithLine : List ℕ → List (List ℕ) → Type 0
-BeginsWithLine text words = BeginsWith text (line_then words [])
