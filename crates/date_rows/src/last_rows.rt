@@ -56,6 +56,13 @@ impl LastRows {
         })
     }
 
+    // How many dates a row has. It takes no memory.
+    pub(crate) fn width(&self) -> usize
+        ensures { result ≡ self.now.width }
+    {
+        self.width
+    }
+
     // How many rows were given. It takes no memory.
     pub(crate) fn number(&self) -> u64
         ensures value { result ≡ self.now.number }

@@ -52,6 +52,13 @@ impl LeastRows {
         Ok(LeastRows { order, last })
     }
 
+    /// How many dates a row has: one for each transition of the net. It takes no memory.
+    pub fn width(&self) -> usize
+        ensures { result ≡ self.now.last.width }
+    {
+        self.last.width()
+    }
+
     /// How many rows were given so far. It takes no memory.
     pub fn number(&self) -> u64
         ensures value { result ≡ rows_given self.now }

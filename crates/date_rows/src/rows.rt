@@ -140,6 +140,13 @@ impl Rows {
         Ok(rows)
     }
 
+    /// How many transitions have dates: those of the net. It takes no memory.
+    pub fn width(&self) -> usize
+        ensures { result ≡ self.now.width }
+    {
+        self.width
+    }
+
     /// How many rows there are. It takes no memory.
     pub fn count(&self) -> u64
         ensures value { result ≡ self.now.count }

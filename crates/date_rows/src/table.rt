@@ -35,6 +35,13 @@ impl Table {
         Table { rows }
     }
 
+    /// How many transitions have dates: those of the net. It takes no memory.
+    pub fn width(&self) -> usize
+        ensures { result ≡ self.now.width }
+    {
+        self.rows.width()
+    }
+
     /// How many numbers the table has. It takes no memory.
     pub fn count(&self) -> u32
         ensures value { result ≡ self.now.count }

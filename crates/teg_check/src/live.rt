@@ -37,6 +37,13 @@ impl Live {
         Ok(Live { ranks })
     }
 
+    /// How many transitions have a rank: those of the net. It takes no memory.
+    pub fn width(&self) -> usize
+        ensures { result ≡ length self.now }
+    {
+        self.ranks.len()
+    }
+
     /// The rank of a transition: along each place without tokens it rises strictly. It takes no
     /// memory.
     pub fn rank(&self, transition: TransitionId) -> u32

@@ -41,6 +41,13 @@ impl Slacks {
         Slacks { slacks }
     }
 
+    /// How many places have a slack: those of the net. It takes no memory.
+    pub fn width(&self) -> usize
+        ensures { result ≡ length self.now }
+    {
+        self.slacks.len()
+    }
+
     /// The slack of a place, a rise in the user's unit. It takes no memory.
     pub fn slack(&self, place: PlaceId) -> Slack
         requires { place.index < length self.now }

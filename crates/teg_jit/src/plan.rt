@@ -61,6 +61,13 @@ impl Plan {
         }
     }
 
+    /// How many transitions have latest dates: those of the net. It takes no memory.
+    pub fn width(&self) -> usize
+        ensures { result ≡ self.now.width }
+    {
+        self.width
+    }
+
     /// The greatest number that is due, 0 where nothing is. It takes no memory.
     pub fn numbers(&self) -> u32
         ensures value { result ≡ self.now.numbers }

@@ -106,6 +106,13 @@ impl PlacesOf {
         Ok(PlacesOf { lists })
     }
 
+    /// How many transitions there are: those of the net. It takes no memory.
+    pub fn width(&self) -> usize
+        ensures { result ≡ length self.now }
+    {
+        self.lists.len()
+    }
+
     /// The places of the transition. It takes no memory.
     pub fn of(&self, transition: TransitionId) -> &[PlaceId]
         requires { transition.index < length self.now }

@@ -57,6 +57,13 @@ impl Parts {
         self.inner.len() as u32
     }
 
+    /// How many transitions have a part: those of the net. It takes no memory.
+    pub fn width(&self) -> usize
+        ensures { result ≡ length self.now.part_of }
+    {
+        self.part_of.len()
+    }
+
     /// The number of a transition's part, counted from 0. It takes no memory.
     pub fn part_of(&self, transition: TransitionId) -> u32
         requires { transition.index < length self.now.part_of }

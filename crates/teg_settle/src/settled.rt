@@ -211,6 +211,13 @@ impl Settled {
         Ok(settled)
     }
 
+    /// How many transitions there are: those of the net.
+    pub fn width(&self) -> usize
+        ensures { result ≡ length self.now.rows }
+    {
+        self.own.len()
+    }
+
     /// The number past which the dates go on by their steps, 0 or more.
     pub fn after(&self) -> u64
         ensures value { result ≡ self.now.after }
