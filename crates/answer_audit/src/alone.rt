@@ -70,12 +70,13 @@ fn list_finding(alloc: Global, net: &Net, text: &str) -> Result<Finding, OutOfMe
 
 // Of `cycle` and `slack`, that there is no circuit.
 fn no_circuit_finding(alloc: Global, net: &Net, text: &str) -> Result<Finding, OutOfMemory>
+    requires { IsLive net.now }
     ensures { IfOk result (IsFound net.now (IsShownAlone net.now Alone.NoCircuit text.now)) }
 {
     if shown_no_circuit(alloc, net, text)? {
         Ok(Finding::Shown)
     } else {
-        Ok(Finding::NotShown)
+        Ok(Finding::Refuted)
     }
 }
 

@@ -1,13 +1,8 @@
 -- What the text shows that a net has no circuit.
-use Rattle.std.specs.Prelude.{ℕ, ◌<◌, ◌≡◌, ◌∷◌, [], List, All, codes, length, slice_index}
+use Rattle.std.specs.Prelude.{ℕ, ◌≡◌, ◌∷◌, [], List, codes}
 use Rattle.teg_net.specs.GreatestRatios.{HasNoCircuit, IsAnyPlace}
 use Rattle.teg_net.specs.Nets.{NetLists}
 use Rattle.teg_text.specs.Lines.{phrase, written}
-
--- one number for each transition, which rises along each place
-pub record RiseAtEachPlace (net : NetLists) (numbers : List ℕ) : Type 0 where
-  pub count : length numbers ≡ length net.transitions
-  pub rises : All (λ p. slice_index numbers p.from.index < slice_index numbers p.to.index) net.places
 
 -- the whole text is the line that the net has no circuit
 abbrev pub TellsNoCircuit : List ℕ → Type 0

@@ -7,6 +7,7 @@ use Rattle.teg_model.specs.teg_net.Nets.{NetLists}
 use Rattle.teg_model.specs.teg_net.Circuits.{IsLive}
 use Rattle.teg_model.specs.Datings.{IsLeastDating}
 use Rattle.teg_text.specs.Lines.{written}
+use Rattle.dating_certificates.specs.CheckedRows.{AreFirstRows, AreRowsOf, date_in_rows}
 use Rattle.teg_text.specs.ValueWords.{date_word}
 
 -- of how many numbers dates are told
@@ -33,6 +34,13 @@ TellsLeastDates net text count = (x : ℕ → ℕ → Date) × IsLeastDating net
 pub record IsShownList (net : NetLists) (text : List ℕ) (count : ℕ) : Type 0 where
   pub live : IsLive net
   pub told : TellsLeastDates net text count
+
+-- the net is live, and the whole text is that of these rows of dates, which are not the first of its least dating
+pub record IsOtherList (net : NetLists) (count : ℕ) (dates : List Date) (text : List ℕ) : Type 0 where
+  pub live : IsLive net
+  pub rows : AreRowsOf net dates count
+  pub told : text ≡ written (lines_of_dating net (date_in_rows (length net.transitions) dates) count)
+  pub other : AreFirstRows net dates → ⊥
 
 -- the whole text is that of these dates up to this number, which are not those of the least dating
 abbrev pub TellsOtherDates : NetLists → List ℕ → ℕ → (ℕ → ℕ → Date) → Type 0

@@ -4,6 +4,7 @@
 //! |---|---|---|
 //! | `list` | its dates | [`shown_list`] |
 //! | `list`: false | its dates | [`refutes_list`] |
+//! | the same, of dates that are known | nothing | [`is_other_list`] |
 //! | `date` | the dates of the list of as many firings | [`shown_date`] |
 //! | `cycle`, `slack`: no circuit | numbers are searched for | [`shown_no_circuit`] |
 //! | `slack` | circuits, potentials and numbers are searched for | [`shown_slack`] |
@@ -33,5 +34,5 @@ mod slack_search;
 pub use date::{ShownDate, shown_date};
 pub use list::shown_list;
 pub use no_circuit::shown_no_circuit;
-pub use refuted_list::refutes_list;
+pub use refuted_list::{is_other_list, refutes_list};
 pub use slack::{ShownSlack, shown_slack};

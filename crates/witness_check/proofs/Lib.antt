@@ -2,3 +2,4 @@ mod Bounding
 mod Lowest
 mod PathSums
 mod Paces
+mod Climbing

@@ -4,3 +4,4 @@ pub mod PathSums
 pub mod ShownCycles
 pub mod ShownSizes
 pub mod ShownWalks
+pub mod Climbs

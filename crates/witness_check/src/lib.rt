@@ -3,6 +3,7 @@
 //! | Answer | What is read | Call |
 //! |---|---|---|
 //! | each: the net is live | ranks are searched for | [`is_seen_live`] |
+//! | no circuit at all, or none without tokens | numbers are searched for | [`rising_numbers`] |
 //! | `check`: live | the counts | [`shows_live`] |
 //! | `check`: refused | the circuit | [`shows_deadlock`] |
 //! | `cycle` | the circuits and potentials of the parts | [`shown_pace`] |
@@ -13,16 +14,19 @@
 //! Each call reads a text without a promise, lets a checker look at what was read, prints the text
 //! anew, of `jit` a line, and compares. So what it tells rests on the checker, on its law and on the
 //! words of the lines, and neither on the parser nor on whatever found the answer. Clauses say what
-//! is so where it says yes or tells something; where it does not, they say nothing. Texts that tell dates for
+//! is so where it says yes or tells something; where it does not, they say nothing, but of the calls
+//! that find numbers, which say no just where a circuit is in the way. Texts that tell dates for
 //! ever, all latest dates, or delays that stay, are those of `dating_check` and `delay_check`.
 //!
-//! The crate stands on `teg_net` for nets and walks, on `teg_text` and `teg_lines` for texts, on `teg_due` for rows
-//! that are due, on `teg_certificates` for checkers, on `teg_parts` for strong parts, and on
-//! `latest_laws` for what walks show; no crate that finds paces, plans or dates is below it. Its examples stand in `library_examples`.
+//! The crate stands on `teg_net` for nets and walks, on `teg_text` and `teg_lines` for texts, on
+//! `teg_due` for rows that are due, on `teg_certificates` for checkers, on `teg_parts` for strong
+//! parts, on `latest_laws` for what walks show, and on `teg_loops` for circuits in paths; no crate
+//! that finds paces, plans or dates is below it. Its examples stand in `library_examples`.
 #![tactic(auto)]
 
 mod beginnings;
 mod circuits;
+mod climbs;
 mod deadlock;
 mod late;
 mod latest;
@@ -38,6 +42,7 @@ mod walk_reading;
 
 pub use beginnings::begins_with;
 pub use circuits::begins_lowest;
+pub use climbs::rising_numbers;
 pub use deadlock::shows_deadlock;
 pub use late::shown_late;
 pub use latest::{ShownLatest, shown_latest};

@@ -1,8 +1,9 @@
-//! Lists of dates, one date, nets without a circuit, and slack.
+//! Lists of dates, one date, numbers that rise, nets without a circuit, and slack.
 use answer_check::{refutes_list, shown_date, shown_list, shown_no_circuit, shown_slack};
 use dioid::Date;
 use std::alloc::Global;
 use teg_reader::read_net;
+use witness_check::rising_numbers;
 
 const KANBAN: &str = "transition = [{ name = \"m1\" }, { name = \"m2\" }, { name = \"m3\" }]
 place = [
@@ -63,6 +64,19 @@ fn has_none(alloc: Global, net: &str, text: &str) -> Option<bool> {
     shown_no_circuit(alloc, &net, text).ok()
 }
 
+// Whether just these numbers are found to rise along each place of this net, or along each without
+// tokens; none where a circuit is to be in the way.
+fn rises(alloc: Global, net: &str, each: bool, numbers: Option<&[u32]>) -> bool {
+    let Ok(net) = read_net(alloc, net.as_bytes()) else {
+        return false;
+    };
+    match (rising_numbers(alloc, &net, each), numbers) {
+        (Ok(Some(found)), Some(numbers)) => found.as_slice() == numbers,
+        (Ok(None), None) => true,
+        _ => false,
+    }
+}
+
 // The time and the tokens of the ratio that the text of `teg slack` shows of this net.
 fn paced(alloc: Global, net: &str, text: &str) -> Option<(u64, u64)> {
     let net = read_net(alloc, net.as_bytes()).ok()?;
@@ -120,6 +134,22 @@ fn lists_and_dates_are_shown(rt: HostRuntime) {
     }
     for (text, date) in &DATES {
         assert!(rt; dated(rt.alloc(), KANBAN, LIST, text) == *date, "{text}");
+    }
+}
+
+// Nets, whether each place counts, and the numbers that rise.
+const RISING: [(&str, bool, Option<&[u32]>); 5] = [
+    (PLAIN, true, Some(&[0, 1, 2])),
+    (PLAIN, false, Some(&[0, 1, 0])),
+    (KANBAN, true, None),
+    (KANBAN, false, Some(&[0, 1, 2])),
+    (DEAD, false, None),
+];
+
+#[test]
+fn numbers_rise_or_a_circuit_is_met(rt: HostRuntime) {
+    for (net, each, numbers) in &RISING {
+        assert!(rt; rises(rt.alloc(), net, *each, *numbers), "{net}");
     }
 }
 

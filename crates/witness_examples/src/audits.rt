@@ -193,8 +193,8 @@ const CALLS: [Call<'static>; 43] = [
     (&["plain", "none"], AuditStatus::Shown, "shown no circuit\n"),
     (
         &["loop", "none"],
-        AuditStatus::NotShown,
-        "not shown no circuit\n",
+        AuditStatus::Refuted,
+        "refuted no circuit\n",
     ),
     (
         &["loop", "slack"],

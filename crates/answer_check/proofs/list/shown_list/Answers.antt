@@ -6,7 +6,7 @@ use Rattle.answer_check.proofs.list.shown_list.Goals as goal
 pub returns : goal.returns
 returns c =
     let net = c.args.net.now in
-    let live : IsLive net = c.in_ok-is_seen_live.ensures (search rules) in
+    let live : IsLive net = c.in_ok-is_seen_live.ensures.0 (search rules) in
     let same : string_bytes c.in_ok-lines.lines ≡ c.args.text.now = search rules in
     record {
       live = live;

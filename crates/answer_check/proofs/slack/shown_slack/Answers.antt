@@ -14,7 +14,7 @@ returns c =
     let best : best_ratio_of answer ≡ Some ratio = search rules in
     let same : string_bytes c.in_ok-lines.lines ≡ c.args.text.now = search rules in
     record {
-      live = c.in_ok-is_seen_live.ensures (search rules);
+      live = c.in_ok-is_seen_live.ensures.0 (search rules);
       greatest = named_is_greatest net answer.parts.items answer.best ratio (c.certificates_tell.ensures.nets net answer (net_ends net c.rules.ensures) sure) best;
       terms = search rules;
       told = (c.as_slice-slacks.result.now, c.in_ok-are_seen.ensures (search rules) ratio best, sym same ∙ c.in_ok-lines.ensures);

@@ -13,7 +13,7 @@ returns c =
     let steps = c.as_slice-steps.result.now in
     let same : string_bytes c.in_ok-lines.lines ≡ c.args.text.now = search rules in
     let sure : IsTrue c.in_ok-check_shortest.field-0 = search rules in
-    let live : IsLive net = c.in_ok-is_seen_live.ensures (search rules) in
+    let live : IsLive net = c.in_ok-is_seen_live.ensures.0 (search rules) in
     let settles : SettlesAs net told.after told.period dates steps = c.in_ok-check_shortest.ensures.settled live sure in
     let wide = ap length c.transitions.ensures.value in (
       form_by_rows (length net.transitions) dates told.after told.period steps,

@@ -11,7 +11,7 @@ returns c =
     let ratio = c.in-Some-best_ratio.ratio in
     let sure : IsCertificate net answer = search rules in
     record {
-      live = c.in_ok-is_seen_live.ensures (search rules);
+      live = c.in_ok-is_seen_live.ensures.0 (search rules);
       greatest = best_is_greatest net answer.parts.items answer.best ratio (c.certificates_tell.ensures.nets net answer (net_ends net c.rules.ensures) sure) (search rules);
       times = (answer, search rules, record { certificate = sure; strong = search rules; parts = search rules; told = search rules });
     }
