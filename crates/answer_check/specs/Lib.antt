@@ -2,3 +2,4 @@ pub mod ShownLists
 pub mod NoCircuits
 pub mod ShownSlacks
 pub mod ShownDates
+pub mod ListWords

@@ -42,13 +42,20 @@ pub record IsOtherList (net : NetLists) (count : ℕ) (dates : List Date) (text 
   pub told : text ≡ written (lines_of_dating net (date_in_rows (length net.transitions) dates) count)
   pub other : AreFirstRows net dates → ⊥
 
--- the whole text is that of these dates up to this number, which are not those of the least dating
-abbrev pub TellsOtherDates : NetLists → List ℕ → ℕ → (ℕ → ℕ → Date) → Type 0
-TellsOtherDates net text count told = (text ≡ written (lines_of_dating net told count))
-    × ((x : ℕ → ℕ → Date) → IsLeastDating net x → ((t k : ℕ) → t < length net.transitions → 1 ≤ k → k ≤ count → told t k ≡ x t k) → ⊥)
+-- of the dates that are told up to a number, those of the row of this number are the first that are not all those of the least dating
+pub record IsOtherRow (net : NetLists) (told : ℕ → ℕ → Date) (count row : ℕ) : Type 0 where
+  pub some : 1 ≤ row
+  pub within : row ≤ count
+  pub before : (x : ℕ → ℕ → Date) → IsLeastDating net x → (t k : ℕ) → t < length net.transitions → 1 ≤ k → k < row → told t k ≡ x t k
+  pub other : (x : ℕ → ℕ → Date) → IsLeastDating net x → ((t : ℕ) → t < length net.transitions → told t row ≡ x t row) → ⊥
 
--- the net is live, and the text tells dates up to a number that are not those of its least dating; so it is no text that is shown
-pub record IsRefutedList (net : NetLists) (text : List ℕ) : Type 0 where
+-- the whole text is that of these dates up to this number, of which this row is the first that is not right
+abbrev pub TellsOtherRow : NetLists → List ℕ → ℕ → (ℕ → ℕ → Date) → ℕ → Type 0
+TellsOtherRow net text count told row = (text ≡ written (lines_of_dating net told count)) × IsOtherRow net told count row
+
+-- the net is live, and the text tells dates up to a number, of which this row is the first that is not that of its least dating; so it is
+-- no text that is shown
+pub record IsRefutedList (net : NetLists) (text : List ℕ) (row : ℕ) : Type 0 where
   pub live : IsLive net
-  pub other : (count : ℕ) × (told : ℕ → ℕ → Date) × TellsOtherDates net text count told
+  pub other : (count : ℕ) × (told : ℕ → ℕ → Date) × TellsOtherRow net text count told row
   pub not_shown : ((count : ℕ) × IsShownList net text count) → ⊥

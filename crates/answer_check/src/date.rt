@@ -88,7 +88,7 @@ pub fn shown_date(
     let Some((transition, number)) = firing_in(alloc, net, text)? else {
         return Ok(None);
     };
-    let Some(told) = list_in(alloc, list)? else {
+    let Some(told) = list_in(alloc, net, list)? else {
         return Ok(None);
     };
     let (count, dates) = (told.count, told.dates.as_slice());

@@ -92,7 +92,7 @@ pub fn shown_list(alloc: Global, net: &Net, text: &str) -> Result<Option<u32>, O
     if !is_seen_live(alloc, net)? {
         return Ok(None);
     }
-    let Some(told) = list_in(alloc, text)? else {
+    let Some(told) = list_in(alloc, net, text)? else {
         return Ok(None);
     };
     let (count, dates) = (told.count, told.dates.as_slice());
