@@ -9,6 +9,7 @@ The exit status is 0 where all pass.
 """
 import contextlib
 import io
+import os
 import re
 import sys
 import tempfile
@@ -259,6 +260,28 @@ IsKind k = IsFew k.part
         self.assertEqual(lines[2], "low/one_more: NOT REFUSED: the crate is still proved with this edit")
         self.assertEqual((lines[3], faults), ("2 edits in 1 crates, 0 of them refused elsewhere than told; 2 faults", 2))
         self.assertEqual(self.told_of_edits("rt: low NOT PROVED")[0][0], "low/many: NOT TRIED: rt says nothing of it")
+
+    def test_a_kit_that_gates_all_at_once_tries_edits_alone(self):
+        words = self.top / "words"
+        self.write("bin/rt", f"#!/bin/sh\necho $* >>{words}\ncase $1 in\nci) echo usage: >&2; exit 2 ;;\n*) echo 'rt: must-fail low/many.edit: refused, as it must be' ;;\nesac\n")
+        (self.top / "bin/rt").chmod(0o755)
+        self.addCleanup(os.environ.update, PATH=os.environ["PATH"])
+        os.environ["PATH"] = f"{self.top}/bin:{os.environ['PATH']}"
+        for is_checked, asked in ((False, "ci low\nmust-fail low\n"), (True, "must-fail low\n")):
+            words.write_text("")
+            self.assertEqual(try_edits.tried({"low": []}, self.top, is_checked), {("low", "many"): "refused, as it must be"})
+            self.assertEqual(words.read_text(), asked)
+
+    def test_libraries_that_were_checked_are_handed_on(self):
+        self.write("HANDLES", "Handles allowed: none.\n")
+        self.write("crates/low/out/rlib/stamp", "sum")
+        self.write("crates/low/out/rlib/low.rlib/code", "made")
+        self.write("crates/high/out/rlib/high.rlib/code", "made by the gate")
+        with tempfile.TemporaryDirectory(prefix="teg-pages-") as room:
+            try_edits.copied({"low": common.edits_of(self.top, "low")}, Path(room))
+            there = sorted(str(path.relative_to(room)) for path in Path(room).glob("crates/*/[om]*/**/*") if path.is_file())
+        told = ["out/rlib/low.rlib/code", "out/rlib/stamp", "must-fail/many.edit", "must-fail/one_more.edit"]
+        self.assertEqual(there, sorted(f"crates/low/{it}" for it in told))
 
     def test_signatures_are_compared(self):
         text = "# A remark.\n\n[low]\npub fn count(things: &[u8]) -> usize\n\n[otherwise]\nlow::count | no such call | Counting\n"
