@@ -21,7 +21,7 @@ these lines and ends with the line `<!-- end -->`:
   `<!-- laws of CRATE -->` of all of a crate, and `<!-- all other laws -->` of those that no such block before it names
   (docs/LAWS.md).
 - `<!-- code CRATE/src/FILE.rt NAME NAME .. -->`: these functions, types and constants as they stand in that file, each
-  with the comment above it (docs/LIBRARY.md).
+  with the comment above it (docs/LIBRARY.md and the pages that it leads to).
 - `<!-- costs -->`: the sentences in which docstrings of public calls speak of their time, but for those of commands
   (docs/COSTS.md).
 - `<!-- to read NAME NAME .. -->`: how much each of these definitions rests on, as tools/check_definitions.py --below
