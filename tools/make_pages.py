@@ -31,7 +31,7 @@ these lines and ends with the line `<!-- end -->`:
 With --check it writes nothing and tells each page that differs from what it would write. In both cases it tells
 each block, definition or edit that such a line names and that is not there, and each block that no such line names; what
 does not keep the order of the crates (tools/house_order.py); and each link, and each name of code in a page, that leads
-nowhere (tools/page_links.py).
+nowhere, or is told of a crate which does not have it (tools/page_links.py).
 The head of a crate may end with the section `## How it works` and, behind it, the section `## Call it`: what its names
 are, the words ``From `CRATE::FILE::TEST`:`` and a fenced block of code. A block whose lines do not stand so in this test
 is told too.

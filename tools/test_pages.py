@@ -468,6 +468,14 @@ impl Bag {
         for part in ("leads to NONE.md", "leads to PAGE.md#not-there", "names lost_name"):
             self.assertIn(part, told)
 
+    def test_names_that_are_told_of_a_crate_are_there(self):
+        page = "| `count`, or `IsFew` (`low`) | `count` of `low`, `low_limit` in `low`, `low` of `high`, `gone` of `csv`, `Few.antt` of `low` |\n"
+        self.write("docs/MORE.md", page)
+        self.assertEqual(page_links.leads_nowhere(self.top), [])
+        self.write("docs/MORE.md", page.replace("`count`, or", "`main`, then").replace("`low_limit` in `low`", "`low_limit` in `high`"))
+        told = ["docs/MORE.md tells main of low, which does not have it", "docs/MORE.md tells low_limit of high, which does not have it"]
+        self.assertEqual(page_links.leads_nowhere(self.top), told)
+
 
 class Guide(unittest.TestCase):
     def run_page(self, text):
