@@ -293,6 +293,11 @@ IsKind k = IsFew k.part
         self.assertEqual(changed[1], "low::sum stands below [otherwise], and is no item")
         self.assertEqual(list(check_signatures.faults_of("[low]\npub fn sum() -> u8\n", "")), ["low hands on no sum"])
 
+    def test_questions_lead_to_each_crate(self):
+        text, page = "[low]\npub fn count(things: &[u8]) -> usize\n", "Of `low`.\n\n| How many? | `count` (`low`) |\n"
+        self.assertEqual(list(check_signatures.not_led_to(text, page)), [])
+        self.assertEqual(list(check_signatures.not_led_to(text, page.replace("(`low`)", ""))), ["docs/LIBRARY.md leads to no call of low"])
+
     def test_a_crate_of_ones_own_named_as_a_module_is_no_origin(self):
         text, path = "[low]\npub fn count(things: &[u8]) -> usize\n\n[high]\npub fn count(things: &[u8]) -> usize\n", "crates/low/src/lib.rt"
         self.write(path, FILES[path].replace("crate::count", "count"))
