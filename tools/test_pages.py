@@ -1,6 +1,6 @@
 #!/usr/bin/env python3
 """Tests of changed_promises.py, check_definitions.py, check_edits.py, check_signatures.py, house_order.py, make_pages.py, page_links.py,
-show_call.py and of what try_edits.py makes of rt's words, over a small repository that is made for them; of what run_guide.py finds in a page;
+show_call.py and of what try_edits.py and gate_times.py make of rt's words, over a small repository that is made for them; of what run_guide.py finds in a page;
 and of common.py against the sources.
 
     tools/test_pages.py
@@ -21,6 +21,7 @@ import check_definitions
 import check_edits
 import check_signatures
 import common
+import gate_times
 import house_order
 import make_pages
 import page_links
@@ -102,7 +103,7 @@ class Pages(unittest.TestCase):
         self.top = Path(room.name)
         for name, text in FILES.items():
             self.write(name, text)
-        for module in (check_definitions, check_edits, check_signatures, make_pages, show_call, try_edits):
+        for module in (check_definitions, check_edits, check_signatures, gate_times, make_pages, show_call, try_edits):
             self.addCleanup(setattr, module, "TOP", module.TOP)
             module.TOP = self.top
 
@@ -282,6 +283,17 @@ IsKind k = IsFew k.part
             there = sorted(str(path.relative_to(room)) for path in Path(room).glob("crates/*/[om]*/**/*") if path.is_file())
         told = ["out/rlib/low.rlib/code", "out/rlib/stamp", "must-fail/many.edit", "must-fail/one_more.edit"]
         self.assertEqual(there, sorted(f"crates/low/{it}" for it in told))
+
+    def test_what_the_gate_costs_is_told_of_both_kinds_of_kits(self):
+        lines = ["rt: must-fail low/one_more.edit: refused, as it must be", "# low proof 30.0 0.0 20.0", "# low edits 12.0 20.0 32.0"]
+        lines += ["# high proof 5.0 20.0 26.0", "# total 50.0 processor seconds in 33.0 seconds on 4 processors"]
+        seed = "# low seed 8.0 32.0 40.0"
+        for more, row, told in (([], "| `low` | 30 | 0 | 12 | 1 | 42 | 20 |", False), ([seed], "| `low` | 30 | 0 | 20 | 1 | 50 | 20 |", True)):
+            self.write("log", "\n".join([*more, *lines]) + "\n")
+            text, _ = printed(gate_times.tell, str(self.top / "log"))
+            self.assertIn(f"\n{row}\n", text)
+            self.assertIn("Longest chain: 26 seconds by the clock: low 20, high 6\n", text)
+            self.assertEqual("8 went into proving their crates before and after them." in text, told)
 
     def test_signatures_are_compared(self):
         text = "# A remark.\n\n[low]\npub fn count(things: &[u8]) -> usize\n\n[otherwise]\nlow::count | no such call | Counting\n"
