@@ -1,10 +1,8 @@
-use Rattle.std.proofs.Common.{◌+◌, ◌-◌, ◌≡◌, ◌<◌, List, All, drop, length, sym, subst, arith}
+use Rattle.std.proofs.Common.{◌+◌, ◌-◌, ◌<◌, List, All, drop, length, subst, arith}
 use Rattle.std.proofs.lemmas.List.{take_all}
 use Rattle.std.proofs.lemmas.List.Elements.{All-drop, All-take}
 use Rattle.teg_net.specs.declared.entries.Role.TheVariants.{Input}
 use Rattle.teg_net.specs.declared.entries.TransitionId.{TransitionId}
-use Rattle.teg_transfer.specs.TimesFromInputs.{those_of_role}
-use Rattle.teg_transfer.specs.TransferTexts.{AreToldBehind}
 use Rattle.teg_transfer.proofs.Transferred.{those_are_inputs, those_within}
 use Rattle.teg_transfer.proofs.TransferTexts.{no_times, none_told, one_told}
 use Rattle.teg_transfer.proofs.texts.tell_all.Goals as goal

@@ -1,4 +1,4 @@
-use Rattle.std.proofs.Common.{rules, ◌≡◌, [], List, ℕ, length, ap, ◌∙◌, string_bytes, arith}
+use Rattle.std.proofs.Common.{rules, ◌≡◌, [], length, ap, ◌∙◌, string_bytes, arith}
 use Rattle.std.proofs.lemmas.Result.{IfOk-weaker}
 use Rattle.teg_net.specs.declared.entries.Role.TheVariants.{Input}
 use Rattle.teg_net.specs.Nets.{NetLists}
