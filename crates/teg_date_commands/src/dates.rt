@@ -10,6 +10,7 @@ ghost use Rattle.teg_settle.specs.LimitRefusals.{greatest_limit};
 
 use crate::limits::most_of;
 use crate::one_date::date_of_part;
+use crate::told_dates::dates_text;
 use dioid::Date;
 use periodic_laws::live_nets_settle;
 use run_rows::settles_past;
@@ -19,7 +20,7 @@ use teg_check::LiveNet;
 use teg_net::{FiringNumber, Label, OutOfMemory, TransitionId};
 use teg_outcome::{CommandOutcome, Limit, Verdict};
 use teg_report::{Answer, report};
-use teg_settle::{SettleRefusal, Settled, settle, settle_dates_within, settle_within};
+use teg_settle::{SettleRefusal, SettledDates, settle_dates, settle_dates_within};
 
 // That the settled form is longer than the limit.
 fn tell_too_long(
@@ -53,7 +54,7 @@ fn not_shown_longer(alloc: Global, net: &LiveNet, limit: u32) -> Result<(), Sett
 }
 
 // The shortest settled form of the least dates, of at most this length where there is a limit.
-fn settled(alloc: Global, net: &LiveNet, limit: Option<u32>) -> Result<Settled, SettleRefusal>
+fn settled(alloc: Global, net: &LiveNet, limit: Option<u32>) -> Result<SettledDates, SettleRefusal>
     requires { IfSome limit (λ most. most ≤ greatest_limit) }
     ensures form { IfOk result (IsSettledFormOf net.now) }
     ensures within { IfOk result (IsFormWithinLimit limit) }
@@ -62,9 +63,9 @@ fn settled(alloc: Global, net: &LiveNet, limit: Option<u32>) -> Result<Settled, 
     match limit {
         Some(most) => {
             not_shown_longer(alloc, net, most)?;
-            settle_within(alloc, net.net(), net.live(), most)
+            settle_dates_within(alloc, net.net(), net.live(), most)
         }
-        None => Ok(settle(alloc, net.net(), net.live())?),
+        None => Ok(settle_dates(alloc, net.net(), net.live())?),
     }
 }
 
@@ -111,7 +112,8 @@ fn least_date(
 }
 
 /// The dates of a live net for ever, as its shortest settled form (chapter 3); or that it is longer
-/// than the limit, where one is given. It takes the time of the search for the settled form.
+/// than the limit, where one is given. It takes the time of the search for the settled form, and
+/// beside the text and the rows of the search memory for the dates of one transition.
 pub fn tell_dates(
     alloc: Global,
     net: &LiveNet,
@@ -122,8 +124,7 @@ pub fn tell_dates(
     let limit = most_of(limit);
     match settled(alloc, net, limit) {
         Ok(settled) => {
-            let answer = Answer::Dates { settled: &settled };
-            let text = report(alloc, Some(net.net()), &answer)?;
+            let text = dates_text(alloc, net.net(), &settled)?;
             let verdict = Verdict::Done;
             Ok(CommandOutcome { verdict, text })
         }

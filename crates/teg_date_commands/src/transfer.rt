@@ -12,7 +12,7 @@ use teg_net::OutOfMemory;
 use teg_outcome::{CommandOutcome, Limit, Verdict};
 use teg_report::{Answer, report};
 use teg_settle::SettleRefusal;
-use teg_transfer::transfer_times;
+use teg_transfer::transfer_text;
 
 // That the times from an input settle past the limit.
 fn tell_too_long(
@@ -47,10 +47,8 @@ pub fn tell_transfer(
     ensures { Tells (SaysTransfer limit net.now) (outcome_of result) }
 {
     let limit = limit.get() as u32;
-    match transfer_times(alloc, net, limit) {
-        Ok(times) => {
-            let inputs = times.as_slice();
-            let text = report(alloc, Some(net.net()), &Answer::Transfer { inputs })?;
+    match transfer_text(alloc, net, limit) {
+        Ok(text) => {
             let verdict = Verdict::Done;
             Ok(CommandOutcome { verdict, text })
         }

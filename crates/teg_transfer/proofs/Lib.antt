@@ -1,2 +1,3 @@
 pub mod MovedTimes
 pub mod Transferred
+pub mod TransferTexts

@@ -58,7 +58,8 @@ those_are_inputs net k d lt =
 lines_within : (net : NetLists) (f : SettledForm) → All (λ l. l.to.index < length net.transitions) (map (times_in f) (those_of_role net Output))
 lines_within net f = All-map (λ (l : TimesTo). l.to.index < length net.transitions) (times_in f) (those_of_role net Output) (those_within net Output)
 
-times_within : (net : NetLists) (limit : ℕ) (times : TimesFrom) → times.from.index < length net.transitions → IsTimesFrom net limit times → AreTimesIn net times
+-- such times from one input can be told
+pub times_within : (net : NetLists) (limit : ℕ) (times : TimesFrom) → times.from.index < length net.transitions → IsTimesFrom net limit times → AreTimesIn net times
 times_within net limit times from h =
     record { from = from; lines = subst (λ (z : TimesFrom). All (λ l. l.to.index < length net.transitions) z.lines) (sym h.3) (lines_within net h.0) }
 

@@ -1,2 +1,3 @@
 pub mod MovedTimes
 pub mod TimesFromInputs
+pub mod TransferTexts

@@ -18,7 +18,7 @@ use teg_report::{TransferFrom, TransferLine};
 use teg_settle::{SettleRefusal, Settled, transfer, walk_times_settle};
 
 // Puts something at the end of a list.
-fn keep<T: Drop>(list: &mut Vec<T>, item: T) -> Result<(), AllocError>
+pub(crate) fn keep<T: Drop>(list: &mut Vec<T>, item: T) -> Result<(), AllocError>
     ensures { OnOk result (list.new.items ≡ list.old.items ++ item ∷ []) }
 {
     list.push(item)?;
@@ -34,7 +34,11 @@ fn has_role(net: &Net, transition: TransitionId, role: Role) -> bool
 }
 
 // The transitions of a role, in order.
-fn those_of_role(alloc: Global, net: &Net, role: Role) -> Result<Vec<TransitionId>, OutOfMemory>
+pub(crate) fn those_of_role(
+    alloc: Global,
+    net: &Net,
+    role: Role,
+) -> Result<Vec<TransitionId>, OutOfMemory>
     ensures { IfOk result (λ those. those.items ≡ those_of_role net.now role) }
 {
     let mut those = Vec::new(alloc);
@@ -235,28 +239,29 @@ fn times_by_another(
 // What is asked of each input: the transitions where its walks end, the places where they begin,
 // and how long a form is taken.
 #[derive(Drop)]
-struct Asked {
-    outputs: Vec<TransitionId>,
-    leaving: PlacesOf,
-    limit: u32,
+pub(crate) struct Asked {
+    pub(crate) outputs: Vec<TransitionId>,
+    pub(crate) leaving: PlacesOf,
+    pub(crate) limit: u32,
 }
 
-// The times from the next input: those from one before it, all so much longer, or else its own.
-fn next_times(
+// The times from the next input, and whether they are its own: else they are those from one before
+// it, all so much longer.
+pub(crate) fn next_times(
     alloc: Global,
     net: &LiveNet,
     asked: &Asked,
     input: TransitionId,
     times: &[TransferFrom],
-) -> Result<TransferFrom, SettleRefusal>
+) -> Result<(TransferFrom, bool), SettleRefusal>
     requires input { IsInput net.now input.index }
     requires outputs { asked.now.outputs.items ≡ those_of_role net.now Output }
     requires leaving { AreLeaving net.now asked.now.leaving }
     requires limit { asked.now.limit ≤ greatest_limit }
     requires inputs { All (λ from. IsInput net.now from.from.index) times.now }
     requires times { All (λ from. IsTimesFrom net.now asked.now.limit (times_from from)) times.now }
-    ensures from { IfOk result (λ from. from.from ≡ input) }
-    ensures times { IfOk result (λ from. IsTimesFrom net.now asked.now.limit (times_from from)) }
+    ensures from { IfOk result (λ next. next.0.from ≡ input) }
+    ensures times { IfOk result (λ next. IsTimesFrom net.now asked.now.limit (times_from next.0)) }
     ensures too_long { IfErr result (IsRightSettleRefusal (TimesSettlePast net.now asked.now.limit)
         asked.now.limit) }
 {
@@ -265,8 +270,11 @@ fn next_times(
     // The net keeps its rules.
     held.rules();
     match times_by_another(alloc, held, &asked.leaving, input, times)? {
-        Some(from) => Ok(from),
-        None => times_from(alloc, net, input, asked.outputs.as_slice(), asked.limit),
+        Some(from) => Ok((from, false)),
+        None => {
+            let from = times_from(alloc, net, input, asked.outputs.as_slice(), asked.limit)?;
+            Ok((from, true))
+        }
     }
 }
 
@@ -297,8 +305,8 @@ pub fn transfer_times(
     };
     let mut times = Vec::new(alloc);
     for input in &inputs {
-        let from = next_times(alloc, net, &asked, *input, times.as_slice())?;
-        keep(&mut times, from)?;
+        let next = next_times(alloc, net, &asked, *input, times.as_slice())?;
+        keep(&mut times, next.0)?;
     }
     Ok(times)
 }
