@@ -66,7 +66,7 @@ fn part_run(
 }
 
 // Puts the answer at the end of the list.
-fn keep(answers: &mut Vec<PartAnswer>, answer: PartAnswer) -> Result<(), AllocError>
+pub(crate) fn keep(answers: &mut Vec<PartAnswer>, answer: PartAnswer) -> Result<(), AllocError>
     ensures { OnOk result (answers.new.items ≡ answers.old.items ++ answer ∷ []) }
 {
     answers.push(answer)?;
@@ -85,7 +85,12 @@ fn keep_run(runs: &mut Vec<Vec<Round>>, rounds: Option<Vec<Round>>) -> Result<()
 }
 
 // The answer on the net that has these answers of its parts.
-fn gathered(net: &Net, parts: &Parts, part_of: Vec<u32>, answers: Vec<PartAnswer>) -> CycleAnswer
+pub(crate) fn gathered(
+    net: &Net,
+    parts: &Parts,
+    part_of: Vec<u32>,
+    answers: Vec<PartAnswer>,
+) -> CycleAnswer
     requires rules { IsNet net.now }
     requires parts { AreParts net.now parts.now }
     requires numbers { part_of.items ≡ parts.now.part_of }

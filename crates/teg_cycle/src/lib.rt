@@ -2,7 +2,8 @@
 //! circuits, and over those of each part (chapters 2 and 3).
 //!
 //! [`cycle`] gives an answer that is a certificate (`IsCertificate`), and [`cycle_with_runs`] the
-//! rounds of policy iteration with it. [`check_cycle`], which decides whether any answer is one,
+//! rounds of policy iteration with it; [`cycle_from`] begins with what an earlier answer tells, as
+//! that on the net before a change. [`check_cycle`], which decides whether any answer is one,
 //! and [`best_ratio`], which reads the ratio of the net off an answer, are those of
 //! `teg_certificates`. The crate stands on `teg_howard` for the greatest ratio of a part, on
 //! `teg_parts` for parts, on `teg_check` for ranks, on `teg_certificates` for certificates, and on
@@ -26,8 +27,10 @@
 //! ```
 #![tactic(auto)]
 
+mod again;
 mod best_parts;
 mod cycle_time;
 
+pub use again::cycle_from;
 pub use cycle_time::{cycle, cycle_with_runs};
 pub use teg_certificates::{best_ratio, check_cycle};

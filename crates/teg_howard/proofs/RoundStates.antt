@@ -10,10 +10,10 @@ use Rattle.teg_net.specs.Ratios.{Fraction, IsRatioOf}
 use Rattle.teg_howard.specs.declared.settling.RoundState.{RoundState}
 use Rattle.teg_howard.specs.declared.policy_circuits.FoundCircuit.{FoundCircuit}
 use Rattle.teg_net.specs.Parts.{IsMember, IsPlaceOfPart, to_of}
-use Rattle.teg_howard.specs.Policies.{Policy, IsPolicy, Enters, IsPolicyCircuit, IsBestCircuit, LeadsBack, IsRouting, AreSums, Improves, IsImprovement, IsChanged, first_id, offer_of}
+use Rattle.teg_howard.specs.Policies.{Policy, IsPolicy, IsPolicyCircuit, IsBestCircuit, LeadsBack, IsRouting, AreSums, Improves, IsImprovement, IsChanged, first_id, offer_of}
 use Rattle.teg_net.specs.PartAnswers.{first_transition_of}
-use Rattle.teg_howard.specs.PolicyRounds.{chosen, potential, chosen_place, value_in, IsRound, IsRoundOf, IsFirstRound}
-use Rattle.teg_howard.specs.FoundCircuits.{policy_of, potentials, value_or_zero, IsCircuitRatio, AreLowest, CanSettle, IsSettled, IsBestFound, IsBetterPolicy}
+use Rattle.teg_howard.specs.PolicyRounds.{chosen, potential, chosen_place, value_in, IsRound, IsRoundOf, BeginsBy}
+use Rattle.teg_howard.specs.FoundCircuits.{policy_of, potentials, value_or_zero, IsCircuitRatio, CanSettle, IsSettled, IsBestFound, IsBetterPolicy}
 use Rattle.teg_howard.specs.RoundStates.{IsRoundState, HasCircuit, IsNextRoundState, IsLastRound}
 use Rattle.teg_howard.proofs.Turns.{cases_member, everywhere, better_is_policy, greater_ratio, still_back_to_root, still_circuit, rises, rises_more}
 use Rattle.teg_howard.proofs.Routing.{all_home, routed_is_policy, circuit_kept}
@@ -263,18 +263,14 @@ module _ (net : NetLists) (parts : List ℕ) (part : ℕ) where
   -- ---- the first round
   pub first_stands :
       (policy routed : List PlaceId) (everywhere_marked : List Bool) (r : Fraction) (f : FoundCircuit) (st : RoundState)
-      → AreLowest net parts part policy → ((t : ℕ) → IsMember parts part t → (p : PlaceId) × Enters net parts part t p)
       → ((t : ℕ) → IsMember parts part t → IsMarked everywhere_marked t)
       → IsBestFound net parts part (policy_of policy) everywhere_marked f → IsRoundState net parts part routed st
-      → IsSettled net parts part policy routed r f.places.items st → IsFirstRound net parts part st.round
-  first_stands policy routed all r f st low entered marks best standing h = record {
+      → IsSettled net parts part policy routed r f.places.items st → BeginsBy net parts part (policy_of policy) st.round
+  first_stands policy routed all r f st marks best standing h = record {
     round = standing_round routed st standing;
-    begins = (
-      policy_of policy,
-      λ t m. low.lowest t (entered t m).0 (entered t m).1,
-      round_from policy routed r f.places.items st (IsMember parts part) standing h
-          (best_kind (policy_of policy) (IsMarked all) (IsMember parts part) f.places.items (λ t m y. m) (λ t m y. marks t m) best.best),
-    );
+    made =
+        round_from policy routed r f.places.items st (IsMember parts part) standing h
+        (best_kind (policy_of policy) (IsMarked all) (IsMember parts part) f.places.items (λ t m y. m) (λ t m y. marks t m) best.best);
   }
 
 pub ratio_to : (net : NetLists) (f : FoundCircuit) (r : Fraction) → f.time ≡ time_of net f.places.items

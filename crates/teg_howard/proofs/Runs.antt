@@ -1,9 +1,9 @@
 -- Runs of rounds, and places into each member.
-use Rattle.std.proofs.Common.{ℕ, ◌+◌, ◌-◌, ◌<◌, ◌≤◌, ◌≡◌, ◌≢◌, List, [], ◌∷◌, ◌++◌, length, get_or, sym, ap, subst, ◌∙◌, arith, ⊎_elim}
+use Rattle.std.proofs.Common.{ℕ, ◌+◌, ◌-◌, ◌<◌, ◌≤◌, ◌≡◌, ◌≢◌, List, [], ◌∷◌, ◌++◌, length, get_or, set, sym, ap, subst, ◌∙◌, arith, ⊎_elim}
 use Rattle.std.specs.Prelude.{All}
 use Rattle.std.proofs.lemmas.Bool.{cases_lt, cases_eq}
-use Rattle.std.proofs.lemmas.List.{length_push, get_or_push, get_or_append_left, get_or_default}
-use Rattle.std.proofs.lemmas.List.Elements.{All-tail}
+use Rattle.std.proofs.lemmas.List.{length_push, length-set, get_or_push, get_or_append_left, get_or_default, get_or-set_same, get_or-set_other}
+use Rattle.std.proofs.lemmas.List.Elements.{All-tail, All-set}
 use Rattle.teg_net.specs.declared.entries.PlaceId.{PlaceId}
 use Rattle.teg_net.specs.Nets.{NetLists}
 use Rattle.teg_net.specs.Circuits.{IsLive, IsPathBetween, tokens_of}
@@ -11,8 +11,8 @@ use Rattle.teg_net.specs.declared.rounds.Round.{Round}
 use Rattle.teg_net.specs.Parts.{IsMember, IsPlaceOfPart, Reaches, to_of}
 use Rattle.teg_howard.specs.Policies.{Enters, IsPolicy, Improves, first_id}
 use Rattle.teg_net.specs.PartAnswers.{first_transition_of}
-use Rattle.teg_howard.specs.PolicyRounds.{IsFirstRound, FollowsRound, IsRunTo, IsPolicyRun, last_policy_round, potential}
-use Rattle.teg_howard.specs.FoundCircuits.{policy_of, potentials, AreLowest}
+use Rattle.teg_howard.specs.PolicyRounds.{BeginsBy, IsFirstRound, FollowsRound, IsRunTo, IsPolicyRun, last_policy_round, potential}
+use Rattle.teg_howard.specs.FoundCircuits.{policy_of, potentials, AreLowest, IsBeginning}
 use Rattle.teg_howard.specs.RoundStates.{IsRoundState, HasCircuit, IsLastRound, Rises}
 use Rattle.teg_howard.specs.PolicyRuns.{AllRise, IsAnswerOf, KeepsLimits, potential_of}
 use Rattle.std.specs.Prelude.{map}
@@ -96,10 +96,10 @@ module _ (net : NetLists) (parts : List ℕ) (part : ℕ) where
       (λ (ne : length path.0 ≢ 0). last_enters path.0 u t path.1 (path_inside net parts part h.kept h.parts_ path.0 u t mu m path.1) (omega arith))
       (cases_eq (length path.0) 0)
 
-  pub lowest_policy : (ps : List PlaceId) → HasCircuit net parts part → AreLowest net parts part ps → IsPolicy net parts part (policy_of ps)
+  lowest_policy : (ps : List PlaceId) → HasCircuit net parts part → AreLowest net parts part ps → IsPolicy net parts part (policy_of ps)
   lowest_policy ps h low t m = let e = entered h t m in (low.lowest t e.0 e.1).enters
 
-  pub lowest_in_range : (ps : List PlaceId) → HasCircuit net parts part → AreLowest net parts part ps → All (λ p. p.index < length net.places) ps
+  lowest_in_range : (ps : List PlaceId) → HasCircuit net parts part → AreLowest net parts part ps → All (λ p. p.index < length net.places) ps
   lowest_in_range ps h low k d l =
       let read : get_or ps k d ≡ policy_of ps k = get_or_default ps k d first_id l in
       rw read
@@ -108,8 +108,36 @@ module _ (net : NetLists) (parts : List ℕ) (part : ℕ) where
       (λ (o : IsMember parts part k → ⊥). let some = h.inner.1.in_range in rw (low.others k (λ p e. o (subst (IsMember parts part) e.ends e.inside.to_member))) (omega arith))
       (cases_member parts part k))
 
-  pub lowest_outside : (ps : List PlaceId) → AreLowest net parts part ps → (t : ℕ) → (IsMember parts part t → ⊥) → policy_of ps t ≡ first_id
-  lowest_outside ps low t o = low.others t (λ p e. o (subst (IsMember parts part) e.ends e.inside.to_member))
+  -- the lowest numbered places are a policy to begin with
+  pub lowest_begins : (ps : List PlaceId) → HasCircuit net parts part → AreLowest net parts part ps → IsBeginning net parts part ps
+  lowest_begins ps h low = record {
+    count = low.count;
+    is_policy = lowest_policy ps h low;
+    in_range = lowest_in_range ps h low;
+    outside = λ t o. low.others t (λ p e. o (subst (IsMember parts part) e.ends e.inside.to_member));
+  }
+
+  -- and the round that begins by them is the first of the policy run
+  pub first_of_lowest : (ps : List PlaceId) (r : Round) → HasCircuit net parts part → AreLowest net parts part ps → BeginsBy net parts part (policy_of ps) r → IsFirstRound net parts part r
+  first_of_lowest ps r h low begins =
+      record { round = begins.round; begins = (policy_of ps, (λ t m. let e = entered h t m in low.lowest t e.0 e.1), begins.made) }
+
+  -- a member may take any place that enters it
+  pub begins_so : (ps : List PlaceId) (p : PlaceId) → IsBeginning net parts part ps → IsPlaceOfPart net parts part p → IsBeginning net parts part (set ps (to_of net p) p)
+  begins_so ps p h inside =
+      let u : ℕ = to_of net p in
+      let u_in : u < length ps = let m = inside.to_member.in_range in let k = h.count in omega arith in
+      let mine : policy_of (set ps u p) u ≡ p = get_or-set_same ps u p first_id u_in in
+      record {
+        count = length-set ps u p ∙ h.count;
+        is_policy = λ t m.
+            ⊎_elim
+            (λ (s : t ≡ u). let is : policy_of (set ps u p) t ≡ p = ap (policy_of (set ps u p)) s ∙ mine in rw is (record { inside = inside; ends = sym s }))
+            (λ (s : t ≢ u). let same : policy_of (set ps u p) t ≡ policy_of ps t = get_or-set_other ps u t p first_id s in rw same (h.is_policy t m))
+            (cases_eq t u);
+        in_range = All-set (λ (q : PlaceId). q.index < length net.places) ps u p inside.in_range h.in_range;
+        outside = λ t o. get_or-set_other ps u t p first_id (λ (s : t ≡ u). o (subst (IsMember parts part) (sym s) inside.to_member)) ∙ h.outside t o;
+      }
 
 -- a number that is not 0
 positive : (n : ℕ) → n ≢ 0 → 1 ≤ n
@@ -153,6 +181,11 @@ last_answers net parts part policy st (Best ratio circuit told) live h last is =
     subst (λ x. IsBestOfPart net parts part x circuit.places.items told.items) (sym is.0)
     (subst (λ x. IsBestOfPart net parts part r x told.items) (sym is.1)
     (subst (λ x. IsBestOfPart net parts part r c x) (sym is.2) best))
+
+-- some ratio is told
+pub last_tells : (r : Round) (answer : PartAnswer) → IsAnswerOf r answer → answer ≢ NoCircuit
+last_tells r NoCircuit is = absurd is
+last_tells r (Best ratio circuit told) is = λ e. cc
 
 -- and keeps the limits
 pub last_keeps : (net : NetLists) (parts : List ℕ) (part : ℕ) (policy : List PlaceId) (st : RoundState) (answer : PartAnswer)

@@ -32,6 +32,13 @@ pub record AreLowest (net : NetLists) (parts : List ℕ) (part : ℕ) (ps : List
   pub lowest : (t : ℕ) (p : PlaceId) → Enters net parts part t p → IsLowestInto net parts part t (policy_of ps t)
   pub others : (t : ℕ) → ((p : PlaceId) → Enters net parts part t p → ⊥) → policy_of ps t ≡ first_id
 
+-- the list gives a policy of the part, to begin with, and place 0 to each other transition
+pub record IsBeginning (net : NetLists) (parts : List ℕ) (part : ℕ) (ps : List PlaceId) : Type 0 where
+  pub count : length ps ≡ length parts
+  pub is_policy : IsPolicy net parts part (policy_of ps)
+  pub in_range : All (λ p. p.index < length net.places) ps
+  pub outside : (t : ℕ) → (IsMember parts part t → ⊥) → policy_of ps t ≡ first_id
+
 -- following the policy backwards stays among transitions that have a place
 pub record IsOnPolicy (net : NetLists) (policy : Policy) (start : ℕ) : Type 0 where
   pub parts : List ℕ

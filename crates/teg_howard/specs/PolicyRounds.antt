@@ -56,6 +56,11 @@ pub record IsLowestInto (net : NetLists) (parts : List ℕ) (part t : ℕ) (p : 
   pub enters : Enters net parts part t p
   pub lowest : (q : PlaceId) → Enters net parts part t q → p.index ≤ q.index
 
+-- the round of a policy to begin with: all its circuits count
+pub record BeginsBy (net : NetLists) (parts : List ℕ) (part : ℕ) (first : Policy) (r : Round) : Type 0 where
+  pub round : IsRound net parts part r
+  pub made : IsRoundOf net parts part first (IsMember parts part) r
+
 -- each member takes its lowest numbered place; all the policy's circuits count
 pub record IsFirstRound (net : NetLists) (parts : List ℕ) (part : ℕ) (r : Round) : Type 0 where
   pub round : IsRound net parts part r

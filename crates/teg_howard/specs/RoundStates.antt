@@ -10,10 +10,10 @@ use Rattle.teg_parts.specs.Components.{IsMarked}
 use Rattle.teg_howard.specs.InnerPlaces.{AreInner}
 use Rattle.teg_parts.specs.Partitions.{AreStrong}
 use Rattle.teg_net.specs.Parts.{IsMember, IsPlaceOfPart}
-use Rattle.teg_howard.specs.Policies.{IsPolicy, IsPolicyCircuit, LeadsBack, AreSums, Improves, first_id}
+use Rattle.teg_howard.specs.Policies.{Policy, IsPolicy, IsPolicyCircuit, LeadsBack, AreSums, Improves, first_id}
 use Rattle.teg_net.specs.ReducedTimes.{IsMagnitudeWithin}
 use Rattle.teg_net.specs.PartAnswers.{first_transition_of}
-use Rattle.teg_howard.specs.PolicyRounds.{chosen, potential, IsFirstRound, FollowsRound}
+use Rattle.teg_howard.specs.PolicyRounds.{chosen, potential, BeginsBy, FollowsRound}
 use Rattle.teg_net.specs.Ratios.{Fraction, IsRatioOf}
 use Rattle.teg_net.specs.Limits.{greatest_scaled_potential}
 use Rattle.teg_howard.specs.FoundCircuits.{policy_of, potentials, value_held, value_or_zero, IsCircuitRatio, ListsChoices, CanSettle, IsSettled, IsBetterPolicy}
@@ -60,10 +60,10 @@ pub record SettlesTo (net : NetLists) (parts : List ℕ) (part : ℕ) (policy : 
   pub can : CanSettle net parts part policy r c
   pub gives : (routed : List PlaceId) (st : RoundState) → length routed ≡ length policy → IsSettled net parts part policy routed r c st → Kind routed st
 
--- the first round, from which the others follow
-pub record IsFirstState (net : NetLists) (parts : List ℕ) (part : ℕ) (policy : List PlaceId) (st : RoundState) : Type 0 where
+-- the first round, that of the policy to begin with, from which the others follow
+pub record IsFirstState (net : NetLists) (parts : List ℕ) (part : ℕ) (first : Policy) (policy : List PlaceId) (st : RoundState) : Type 0 where
   pub standing : IsRoundState net parts part policy st
-  pub first : IsFirstRound net parts part st.round
+  pub begins : BeginsBy net parts part first st.round
 
 -- the policy is better than that of the round: some member is changed
 pub record IsImproved (net : NetLists) (parts : List ℕ) (part : ℕ) (st : RoundState) (better : List PlaceId) (changed : List Bool) : Type 0 where

@@ -1,12 +1,13 @@
 //! The rounds of a part, from the first to the one that no place improves.
-ghost use Rattle.std.specs.Prelude.{◌≡◌, ◌++◌, ◌∷◌, [], IfOk, IfSome, IfNone, map};
+ghost use Rattle.std.specs.Prelude.{◌≡◌, ◌≢◌, ◌++◌, ◌∷◌, [], IfOk, IfSome, IfNone, map};
 ghost use Rattle.teg_net.specs.PartAnswers.{IsPartAnswer};
-ghost use Rattle.teg_howard.specs.PolicyRounds.{IsFirstRound, IsPolicyRun};
+ghost use Rattle.teg_howard.specs.PolicyRounds.{BeginsBy, IsFirstRound, IsPolicyRun};
 ghost use Rattle.teg_howard.specs.PolicyRuns.{potential_of, IsAnswerOf, IsAnswerOfLast, EndsRun, KeepsLimits, AllRise, RiseByCase};
-ghost use Rattle.teg_howard.specs.FoundCircuits.{AreLowest};
+ghost use Rattle.teg_howard.specs.FoundCircuits.{IsBeginning, policy_of};
 ghost use Rattle.teg_howard.specs.InnerPlaces.{AreInner};
 ghost use Rattle.teg_howard.specs.RoundStates.{IsRoundState, HasCircuit, SettlesTo, IsFirstState, IsImproved, IsNextRoundState, IsLastRound, IsIteration, GoesOn, StaysAtLast};
 
+use crate::beginnings::policy_after;
 use crate::inside::{InnerPlaces, Part, inner_places};
 use crate::policies::{improve, is_any, lowest_places};
 use crate::policy_circuits::best_circuit;
@@ -15,31 +16,31 @@ use std::alloc::{AllocError, Global};
 use std::mem;
 use teg_net::{Choice, Circuit, Net, PartAnswer, PlaceId, Potential, Ratio, Round};
 
-// The ratio and the circuit of the first round, where each member takes its lowest numbered place.
+// The ratio and the circuit of the first round, of the policy to begin with.
 fn first_circuit(
     alloc: Global,
     part: &Part,
     policy: &[PlaceId],
 ) -> Result<(Ratio, Vec<PlaceId>), AllocError>
     requires circuit { HasCircuit part.now.net.now part.now.parts.now part.now.number }
-    requires lowest { AreLowest part.now.net.now part.now.parts.now part.now.number policy.now }
+    requires begins { IsBeginning part.now.net.now part.now.parts.now part.now.number policy.now }
     ensures { IfOk result (λ w. SettlesTo part.now.net.now part.now.parts.now part.now.number
         policy.now w.0 w.1.items (IsFirstState part.now.net.now part.now.parts.now
-        part.now.number)) }
+        part.now.number (policy_of policy.now))) }
 {
     let everywhere = vec![in alloc; true; part.parts.len()]?;
     let found = best_circuit(alloc, part, policy, &everywhere)?.unwrap();
     Ok((Ratio::of(found.time, found.tokens), found.places))
 }
 
-// The first round: each member takes its lowest numbered place.
+// The first round, of the policy to begin with.
 fn first_state(alloc: Global, part: &Part, policy: &mut [PlaceId]) -> Result<RoundState, AllocError>
     requires inner { AreInner part.now.net.now part.now.parts.now part.now.number part.now.ids.now
         part.now.exits.now }
     requires circuit { HasCircuit part.now.net.now part.now.parts.now part.now.number }
-    requires lowest { AreLowest part.now.net.now part.now.parts.now part.now.number policy.old }
+    requires begins { IsBeginning part.now.net.now part.now.parts.now part.now.number policy.old }
     ensures { IfOk result (IsFirstState part.now.net.now part.now.parts.now part.now.number
-        policy.new) }
+        (policy_of policy.old) policy.new) }
 {
     let (ratio, circuit) = first_circuit(alloc, part, policy)?;
     settle(alloc, part, policy, ratio, circuit)
@@ -148,14 +149,21 @@ impl Iteration {
     }
 }
 
-// The rounds of a part, at the first.
-fn begin(alloc: Global, net: &Net, parts: &[u32], part: u32) -> Result<Iteration, AllocError>
-    requires { HasCircuit net.now parts.now part }
+// The rounds of a part, at the one of the policy to begin with.
+fn begin_with(
+    alloc: Global,
+    net: &Net,
+    parts: &[u32],
+    part: u32,
+    mut policy: Vec<PlaceId>,
+) -> Result<Iteration, AllocError>
+    requires circuit { HasCircuit net.now parts.now part }
+    requires begins { IsBeginning net.now parts.now part policy.items }
     ensures standing { IfOk result (IsIteration net.now parts.now part) }
-    ensures first { IfOk result (λ at. IsFirstRound net.now parts.now part at.state.round) }
+    ensures first { IfOk result (λ at. BeginsBy net.now parts.now part (policy_of policy.items)
+        at.state.round) }
 {
     let inner = inner_places(alloc, net, parts, part)?;
-    let mut policy = lowest_places(alloc, net, parts, part)?;
     let own = Part {
         net,
         parts,
@@ -169,6 +177,17 @@ fn begin(alloc: Global, net: &Net, parts: &[u32], part: u32) -> Result<Iteration
         policy,
         state,
     })
+}
+
+// The rounds of a part, at the first of its policy run: each member takes its lowest numbered
+// place.
+fn begin(alloc: Global, net: &Net, parts: &[u32], part: u32) -> Result<Iteration, AllocError>
+    requires { HasCircuit net.now parts.now part }
+    ensures standing { IfOk result (IsIteration net.now parts.now part) }
+    ensures first { IfOk result (λ at. IsFirstRound net.now parts.now part at.state.round) }
+{
+    let policy = lowest_places(alloc, net, parts, part)?;
+    begin_with(alloc, net, parts, part, policy)
 }
 
 // Goes on to the next round, and gives the one before. Where no place improves it stays, and gives
@@ -253,6 +272,28 @@ pub(crate) fn last_answer(
     ensures limits { IfOk result (λ answer. KeepsLimits answer) }
 {
     let mut at = begin(alloc, net, parts, part)?;
+    'rounds: while let Some(_before) = advance(alloc, net, parts, part, &mut at)? {}
+    let round = at.into_round();
+    let answer = answer_of(alloc, &round)?;
+    Ok(answer)
+}
+
+// The answer of the last of the rounds that begin with the policy which an earlier answer gives.
+// One round is kept.
+pub(crate) fn answer_after(
+    alloc: Global,
+    net: &Net,
+    parts: &[u32],
+    part: u32,
+    before: &PartAnswer,
+) -> Result<PartAnswer, AllocError>
+    requires { HasCircuit net.now parts.now part }
+    ensures best { IfOk result (λ answer. IsPartAnswer net.now parts.now part answer) }
+    ensures told { IfOk result (λ answer. answer ≢ PartAnswer.NoCircuit) }
+    ensures limits { IfOk result (λ answer. KeepsLimits answer) }
+{
+    let policy = policy_after(alloc, net, parts, part, before)?;
+    let mut at = begin_with(alloc, net, parts, part, policy)?;
     'rounds: while let Some(_before) = advance(alloc, net, parts, part, &mut at)? {}
     let round = at.into_round();
     let answer = answer_of(alloc, &round)?;

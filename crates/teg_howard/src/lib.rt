@@ -3,7 +3,8 @@
 //! [`howard`] gives the rounds of the part and the answer of the last: its greatest ratio of
 //! holding time to tokens, a circuit that has it, and potentials. The rounds are a policy run
 //! (`IsPolicyRun`), and the answer tells what `IsPartAnswer` says of circuits and paths alone.
-//! [`last_round`] gives the answer alone, and keeps one round at a time. The crate stands on
+//! [`last_round`] gives the answer alone, and keeps one round at a time; [`last_round_from`] begins
+//! with what an earlier answer tells, and not with the lowest numbered places. The crate stands on
 //! `teg_parts` for parts, on `teg_check` for ranks, on `teg_certificates` for lemmas on what paths
 //! weigh, and on `teg_net` for nets. Whole calls try it, in `worked_examples`.
 //!
@@ -16,6 +17,7 @@
 //! of circuits and paths alone, and a third time as a certificate (`teg_certificates`).
 #![tactic(auto)]
 
+mod beginnings;
 mod circuit_starts;
 mod following;
 mod inside;
@@ -29,4 +31,4 @@ mod settling;
 mod steps;
 
 pub use laws::policy_runs_are_one;
-pub use part_answers::{howard, last_round};
+pub use part_answers::{howard, last_round, last_round_from};

@@ -1,5 +1,5 @@
 //! Policy iteration on one part of a net: its answer alone, or with the rounds that led to it.
-ghost use Rattle.std.specs.Prelude.{◌≡◌, IfOk};
+ghost use Rattle.std.specs.Prelude.{◌≡◌, ◌≢◌, IfOk};
 ghost use Rattle.teg_net.specs.PartAnswers.{IsPartAnswer};
 ghost use Rattle.teg_check.specs.Ranks.{IsRanking};
 ghost use Rattle.teg_parts.specs.Partitions.{AreParts};
@@ -7,7 +7,7 @@ ghost use Rattle.teg_howard.specs.PolicyRounds.{IsPolicyRun};
 ghost use Rattle.teg_howard.specs.RoundStates.{HasCircuit};
 ghost use Rattle.teg_howard.specs.PolicyRuns.{HasInnerPlace, IsAnswerOfLast, EndsRun, KeepsLimits, AllRise, RiseByCase};
 
-use crate::iteration::{last_answer, policy_run};
+use crate::iteration::{answer_after, last_answer, policy_run};
 use std::alloc::Global;
 use teg_check::Live;
 use teg_net::{Net, OutOfMemory, PartAnswer, Round};
@@ -77,5 +77,33 @@ pub fn last_round(
 {
     let part_of = numbers_of(net, live, parts, part)?;
     let answer = last_answer(alloc, net, &part_of, part)?;
+    Ok(answer)
+}
+
+/// The greatest ratio of a part that has a circuit, as `last_round` gives it (chapter 3), by rounds
+/// that begin with what an earlier answer tells: after a small change of the net they are few.
+///
+/// To begin with, each member takes the place of the part that lifts it the most by the ratio and
+/// the potentials of `before`; where `before` is `NoCircuit`, its lowest numbered one. So `before`
+/// may be an answer on any part of any net: ratio and potentials are right whatever it tells, and of
+/// circuits of this ratio another may be named than by `last_round`. `OutOfMemory` comes only where
+/// no memory is found.
+pub fn last_round_from(
+    alloc: Global,
+    net: &Net,
+    live: &Live,
+    parts: &Parts,
+    part: u32,
+    before: &PartAnswer,
+) -> Result<PartAnswer, OutOfMemory>
+    requires live { IsRanking net.now live.now }
+    requires parts { AreParts net.now parts.now }
+    requires circuit { HasInnerPlace net.now parts.now.part_of part }
+    ensures best { IfOk result (λ answer. IsPartAnswer net.now parts.now.part_of part answer) }
+    ensures told { IfOk result (λ answer. answer ≢ PartAnswer.NoCircuit) }
+    ensures limits { IfOk result (λ answer. KeepsLimits answer) }
+{
+    let part_of = numbers_of(net, live, parts, part)?;
+    let answer = answer_after(alloc, net, &part_of, part, before)?;
     Ok(answer)
 }

@@ -1,10 +1,13 @@
-use Rattle.std.proofs.Common.{◌≡◌, length, ap, arith}
-use Rattle.teg_net.proofs.Reading.{written_back}
+use Rattle.std.specs.Prelude.{IfOk}
+use Rattle.std.proofs.lemmas.Result.{IfOk-weaker}
+use Rattle.teg_howard.proofs.Runs.{lowest_begins, first_of_lowest}
 use Rattle.teg_howard.proofs.iteration.begin.Goals as goal
 
-pub returns-clause-standing : goal.returns-clause-standing
-returns-clause-standing c =
-    let ok = c.in_ok-policy.policy.ok in
-    let long : length c.first_state.new.policy ≡ c.in_ok-policy.policy.len = omega (arith, c.first_state.auto.policy, ok.0, ap length c.deref_mut.ensures.value) in
-    let back = written_back c.first_state.new.policy c.in_ok-policy.policy.items c.in_ok-policy.policy.len long in
-    record { inner = c.in_ok-inner.ensures; standing = rw back c.in_ok-state.ensures.standing }
+pub begin_with-requires-clause-begins : goal.begin_with-requires-clause-begins
+begin_with-requires-clause-begins c = lowest_begins c.args.net.now c.args.parts.now c.args.part c.in_ok-policy.policy.items c.requires c.in_ok-policy.ensures
+
+pub returns-clause-first : goal.returns-clause-first
+returns-clause-first c =
+    IfOk-weaker c.begin_with.result _ _
+    (λ at begins. first_of_lowest c.args.net.now c.args.parts.now c.args.part c.in_ok-policy.policy.items at.state.round c.requires c.in_ok-policy.ensures begins)
+    c.begin_with.ensures.first

@@ -5,21 +5,13 @@ use Rattle.teg_howard.specs.Policies.{step_back}
 use Rattle.teg_howard.specs.FoundCircuits.{policy_of, IsBestFound}
 use Rattle.teg_howard.proofs.Exits.{some_by, all_marked, any_marked}
 use Rattle.teg_howard.proofs.Back.{to_a_circuit, trail}
-use Rattle.teg_howard.proofs.Runs.{lowest_policy, lowest_in_range, lowest_outside, entered}
 use Rattle.teg_howard.proofs.RoundStates.{can_settle, settled_stands, first_stands}
 use Rattle.teg_howard.proofs.iteration.first_circuit.Goals as goal
 
 pub best_circuit-requires-clause-policy : goal.best_circuit-requires-clause-policy
 best_circuit-requires-clause-policy c =
-    let net = c.args.part.now.net.now in
-    let parts = c.args.part.now.parts.now in
-    let part = c.args.part.now.number in
-    let ps = c.args.policy.now in
-    record {
-      count = c.requires.lowest.count;
-      is_policy = lowest_policy net parts part ps c.requires.circuit c.requires.lowest;
-      in_range = lowest_in_range net parts part ps c.requires.circuit c.requires.lowest;
-    }
+    let begins = c.requires.begins in
+    record { count = begins.count; is_policy = begins.is_policy; in_range = begins.in_range }
 
 pub unwrap-found-requires : goal.unwrap-found-requires
 unwrap-found-requires c =
@@ -27,9 +19,8 @@ unwrap-found-requires c =
     let parts = c.args.part.now.parts.now in
     let part = c.args.part.now.number in
     let π = policy_of c.args.policy.now in
-    let ok = lowest_policy net parts part c.args.policy.now c.requires.circuit c.requires.lowest in
     let inner = c.requires.circuit.inner in
-    let way = to_a_circuit net parts part π ok (to_of net inner.0) inner.1.to_member in
+    let way = to_a_circuit net parts part π c.requires.begins.is_policy (to_of net inner.0) inner.1.to_member in
     let filled : c.in_ok-everywhere.everywhere.items ≡ replicate (length parts) true = c.in_ok-everywhere.ensures.items_if_clones_equal (search rules) in
     some_by c.in_ok-best_circuit.field-0 _ c.in_ok-best_circuit.ensures.none
     (λ none. none (trail net π way.1 (step_back net π way.0 (to_of net inner.0))) way.4
@@ -41,21 +32,20 @@ returns c =
     let parts = c.args.part.now.parts.now in
     let part = c.args.part.now.number in
     let ps = c.args.policy.now in
-    let low = c.requires.lowest in
+    let begins = c.requires.begins in
     let f = c.unwrap-found.result in
     let r = c.of.result in
     let e = c.of.ensures in
     let best : IsBestFound net parts part (policy_of ps) c.deref.result.now f = rw c.unwrap-found.ensures at c.in_ok-best_circuit.ensures.some in
     let filled : c.in_ok-everywhere.everywhere.items ≡ replicate (length parts) true = c.in_ok-everywhere.ensures.items_if_clones_equal (search rules) in
-    let can = can_settle net parts part ps r f c.deref.result.now c.requires.circuit low.count
-    (lowest_policy net parts part ps c.requires.circuit low) (lowest_in_range net parts part ps c.requires.circuit low) best e.ratio e.time e.tokens in
+    let can = can_settle net parts part ps r f c.deref.result.now c.requires.circuit begins.count begins.is_policy begins.in_range best e.ratio e.time e.tokens in
     record {
       can = can;
       gives = λ routed st count h.
-          let standing = settled_stands net parts part ps routed r f.places.items st can (lowest_outside net parts part ps low) (count ∙ low.count) h in
+          let standing = settled_stands net parts part ps routed r f.places.items st can begins.outside (count ∙ begins.count) h in
           record {
             standing = standing;
-            first = first_stands net parts part ps routed c.deref.result.now r f st low (entered net parts part c.requires.circuit)
+            begins = first_stands net parts part ps routed c.deref.result.now r f st
                 (λ t m. rw (c.deref.ensures.value, filled) (all_marked (length parts) t m.in_range)) best standing h;
           };
     }

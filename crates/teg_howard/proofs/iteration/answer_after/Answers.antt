@@ -1,0 +1,33 @@
+use Rattle.std.proofs.Common.{◌≡◌, ◌∙◌, ap, subst}
+use Rattle.teg_net.specs.declared.rounds.Round.{Round}
+use Rattle.teg_howard.specs.declared.settling.RoundState.{RoundState}
+use Rattle.teg_howard.specs.RoundStates.{GoesOn, StaysAtLast}
+use Rattle.teg_howard.specs.PolicyRuns.{IsAnswerOf}
+use Rattle.teg_howard.proofs.Runs.{last_answers, last_keeps, last_tells}
+use Rattle.teg_howard.proofs.Ending.{falls}
+use Rattle.teg_howard.proofs.iteration.answer_after.Goals as goal
+
+pub rounds-smaller : goal.rounds-smaller
+rounds-smaller c = falls c.args.net.now c.args.parts.now c.args.part c.rounds.at c.advance.new.at c.in-Some._before c.rounds.invariant (rw c.in-Some.is at c.in_ok-_before.ensures.some)
+
+pub rounds-preserved : goal.rounds-preserved
+rounds-preserved c =
+    let goes : GoesOn c.args.net.now c.args.parts.now c.args.part c.rounds.at c.advance.new.at c.in-Some._before = rw c.in-Some.is at c.in_ok-_before.ensures.some in
+    goes.standing
+
+pub returns : goal.returns
+returns c =
+    let net = c.args.net.now in
+    let parts = c.args.parts.now in
+    let part = c.args.part in
+    let at = c.rounds.at in
+    let h = c.rounds.invariant in
+    let r = at.state.round in
+    let end : StaysAtLast net parts part at c.advance.new.at = rw c.in_default.is at c.in_ok-_before.ensures.none in
+    let last : c.into_round-round.result ≡ r = c.into_round-round.ensures ∙ ap (λ (s : RoundState). s.round) end.same in
+    let is : IsAnswerOf r c.in_ok-answer.answer = subst (λ (z : Round). IsAnswerOf z c.in_ok-answer.answer) last c.in_ok-answer.ensures in
+    record {
+      best = last_answers net parts part at.policy.items at.state c.in_ok-answer.answer c.requires.live h.standing end.last is;
+      told = last_tells r c.in_ok-answer.answer is;
+      limits = last_keeps net parts part at.policy.items at.state c.in_ok-answer.answer h.standing is;
+    }
