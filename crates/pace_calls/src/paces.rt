@@ -8,7 +8,7 @@ ghost use Rattle.pace_calls.specs.Paces.{IsCircuitOfPace, IsPace, IsPaceWithCirc
 
 use std::alloc::Global;
 use teg_check::Live;
-use teg_cycle::{best_ratio, cycle};
+use teg_cycle::{best_ratio, cycle, cycle_from};
 use teg_net::{Circuit, CycleAnswer, Net, OutOfMemory, PartAnswer, Ratio};
 use teg_parts::split;
 
@@ -20,6 +20,18 @@ pub struct PaceWithCircuit {
     pub ratio: Ratio,
     /// A circuit that has this ratio.
     pub bottleneck: Circuit,
+}
+
+/// The cycle times of a live net and of each of its parts (chapters 2 and 3), to be told once, for
+/// [`pace_from`] to begin with where the net is changed and asked again. It answers `OutOfMemory`
+/// only where no memory is found. It takes the time of `split` and of `cycle`.
+pub fn cycle_times(alloc: Global, net: &Net, live: &Live) -> Result<CycleAnswer, OutOfMemory>
+    requires { IsRanking net.now live.now }
+    ensures net { IfOk result (λ answer. IsCycleTime net.now answer.parts.items answer.best) }
+    ensures certificate { IfOk result (IsCertificate net.now) }
+{
+    let parts = split(alloc, net)?;
+    cycle(alloc, net, live, &parts)
 }
 
 // The pace that an answer on the cycle times of the net tells.
@@ -39,8 +51,25 @@ pub fn pace(alloc: Global, net: &Net, live: &Live) -> Result<Option<Ratio>, OutO
     requires { IsRanking net.now live.now }
     ensures { IfOk result (IsPace net.now) }
 {
+    let answer = cycle_times(alloc, net, live)?;
+    Ok(told_pace(net, &answer))
+}
+
+/// The pace of a live net, as [`pace`] tells it, by rounds that begin with an earlier answer, as
+/// that on the net before a change (chapter 2): the pace is right whatever `before` tells. It
+/// answers `OutOfMemory` only where no memory is found. It takes the time of `split` and of
+/// `cycle_from`.
+pub fn pace_from(
+    alloc: Global,
+    net: &Net,
+    live: &Live,
+    before: &CycleAnswer,
+) -> Result<Option<Ratio>, OutOfMemory>
+    requires { IsRanking net.now live.now }
+    ensures { IfOk result (IsPace net.now) }
+{
     let parts = split(alloc, net)?;
-    let answer = cycle(alloc, net, live, &parts)?;
+    let answer = cycle_from(alloc, net, live, &parts, before)?;
     Ok(told_pace(net, &answer))
 }
 
@@ -86,8 +115,7 @@ pub fn bottleneck(
     requires { IsRanking net.now live.now }
     ensures { IfOk result (IsPaceWithCircuit net.now) }
 {
-    let parts = split(alloc, net)?;
-    let answer = cycle(alloc, net, live, &parts)?;
+    let answer = cycle_times(alloc, net, live)?;
     let ratio = told_pace(net, &answer);
     let circuit = best_circuit(net, answer);
     Ok(joined(net, ratio, circuit))

@@ -5,10 +5,10 @@ ghost use Rattle.teg_net.specs.Circuits.{place_at};
 ghost use Rattle.teg_net.specs.Limits.{greatest_hold};
 ghost use Rattle.pace_calls.specs.Paces.{IsPace, IsPaceWithCircuit};
 
-use pace_calls::{PaceWithCircuit, bottleneck, pace};
+use pace_calls::{PaceWithCircuit, bottleneck, pace, pace_from};
 use std::alloc::Global;
 use teg_check::LiveNet;
-use teg_net::{OutOfMemory, PlaceId, Ratio};
+use teg_net::{CycleAnswer, OutOfMemory, PlaceId, Ratio};
 
 /// The pace of the net with this holding time of the place, in the user's unit and at most
 /// 1,000,000,000; none where it has no circuit (chapter 2). `OutOfMemory` comes only where no
@@ -26,6 +26,26 @@ pub fn pace_with_hold(
     let mut trial = held.copy(alloc)?;
     trial.set_hold(place, hold);
     pace(alloc, trial.net(), trial.live())
+}
+
+/// The pace of the net with this holding time of the place, as [`pace_with_hold`] tells it, by rounds
+/// that begin with an earlier answer, as that on the net itself: of many trials each takes few
+/// rounds. The pace is right whatever `before` tells. It takes the time of `split` and of
+/// `cycle_from`, and a copy of the net.
+pub fn pace_with_hold_from(
+    alloc: Global,
+    held: &LiveNet,
+    place: PlaceId,
+    hold: u64,
+    before: &CycleAnswer,
+) -> Result<Option<Ratio>, OutOfMemory>
+    requires place { place.index < length held.now.places }
+    requires hold { hold ≤ greatest_hold }
+    ensures { IfOk result (IsPace (with_hold held.now place hold)) }
+{
+    let mut trial = held.copy(alloc)?;
+    trial.set_hold(place, hold);
+    pace_from(alloc, trial.net(), trial.live(), before)
 }
 
 /// The pace of the net with this holding time of the place, as [`pace_with_hold`] tells it, and a
