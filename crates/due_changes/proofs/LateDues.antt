@@ -21,7 +21,7 @@ use Rattle.teg_model.proofs.OfNet.{input_or_not, least_of, least_of_system}
 use Rattle.teg_model.proofs.Tokens.{not_before_zero}
 use Rattle.due_laws.specs.MeetingDueDates.{inputs_at_zero}
 use Rattle.dating_laws.proofs.SlowerNets.{climb}
-use Rattle.latest_laws.specs.ShiftedDues.{later_due, LateDuesAreMet}
+use Rattle.due_changes.specs.ShiftedDues.{later_due, LateDuesAreMet}
 use Rattle.latest_laws.proofs.BackwardSolutions.{not_delayed}
 
 -- a start is a number where the releases are at 0

@@ -10,7 +10,7 @@ use Rattle.teg_model.proofs.LiveRanks.{live_is_ranked}
 use Rattle.teg_model.proofs.OfNet.{least_of, least_of_system}
 use Rattle.dating_laws.proofs.OrderOfDatings.{least_join, later_dates}
 use Rattle.teg_model.proofs.DateFunctions.{Dating}
-use Rattle.latest_laws.specs.JointInputs.{LaterInputsAreInputs, LaterInputsMeet, EarlierInputsMeet, InputsMeetUpToLatest}
+use Rattle.due_changes.specs.JointInputs.{LaterInputsAreInputs, LaterInputsMeet, EarlierInputsMeet, InputsMeetUpToLatest}
 use Rattle.due_laws.proofs.LatestDates.{kept_below}
 use Rattle.due_laws.proofs.LatestInputs.{latest_dates_are_inputs}
 use Rattle.latest_laws.proofs.Floats.{input_in}

@@ -10,7 +10,7 @@ use Rattle.teg_model.specs.teg_net.Nets.{NetLists}
 use Rattle.teg_model.specs.teg_net.Walks.{walk_time}
 use Rattle.dating_laws.proofs.OrderOfDatings.{delayed_either}
 use Rattle.due_laws.specs.LatestDates.{IsDateToDue}
-use Rattle.latest_laws.specs.ShiftedDues.{LaterDuesLaterLatest, later_due, ShiftedDuesShiftLatest}
+use Rattle.due_changes.specs.ShiftedDues.{LaterDuesLaterLatest, later_due, ShiftedDuesShiftLatest}
 use Rattle.due_laws.proofs.LatestDates.{Dues, delayed_back, earlier_by, earlier_delayed, never_or_not}
 
 -- a walk that leads to a due firing, with the date that is its due date less the time
