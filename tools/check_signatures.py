@@ -5,11 +5,12 @@
 
 The head of the file says how it is read. An item of it begins with `pub` or `impl`. What the file leaves out is left out
 of the sources too. An item stands in a crate where the crate's root file hands it on, be it of the crate itself or of
-another one, which its line of crates.txt names. Crates of one's own are passed over.
+another one, which its line of crates.txt names. Crates of one's own are passed over. Each crate of the file is named by
+a row of the tables of docs/LIBRARY.md that lead from questions to calls.
 
-There is a line for each item that is lacking or that reads otherwise, and for each line of items that were described
-otherwise at first whose item, or whose entry of docs/DECISIONS.md, is lacking; the last line tells how many items and
-faults there are, and the exit status is 0 where there is no fault.
+There is a line for each item that is lacking or that reads otherwise, for each line of items that were described
+otherwise at first whose item, or whose entry of docs/DECISIONS.md, is lacking, and for each crate that no row names; the
+last line tells how many items and faults there are, and the exit status is 0 where there is no fault.
 """
 import re
 import sys
@@ -130,9 +131,18 @@ def faults_of(text, decisions):
             yield f"docs/DECISIONS.md has no entry {entry}"
 
 
+def not_led_to(text, page):
+    """The crates of the file that no row of a table of the page names."""
+    named = {name for row in re.findall(r"^\| .*$", page, re.M) for name in re.findall(r"`(\w+)`", row)}
+    for crate in dict.fromkeys(crate for crate, _, _ in listed(text)):
+        if crate not in named:
+            yield f"docs/LIBRARY.md leads to no call of {crate}"
+
+
 def main():
     text = (TOP / "tools/signatures.txt").read_text()
     told = list(faults_of(text, (TOP / "docs/DECISIONS.md").read_text()))
+    told += not_led_to(text, (TOP / "docs/LIBRARY.md").read_text())
     for line in told:
         print(line)
     print(f"{len(list(listed(text)))} items, {len(told)} faults")

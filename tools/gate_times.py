@@ -10,11 +10,13 @@ the end it writes a line for each to LOG: its crate, its kind, its processor sec
 and a line with the total. Then it prints the table, as the second form does of a LOG that is there. The exit status
 is the command's.
 
-Kinds are `proof`, `tests`, `edits`, and `seed`: a crate with two edits or more is checked once more before they are
-tried, and once after them, and the table counts both with the edits. What is left of the total is rt itself, the
-compilers, and the runs of tests and programs. What a run takes over from earlier ones costs nothing: `rt ci
---anew` proves all. The longest chain is that of crates.txt with the greatest sum of seconds by the clock from begin to
-end of a proof: no number of processors ends sooner. It reads /proc, and needs nothing beside python3.
+Kinds are `proof`, `tests`, `edits`, and `seed`. A crate with two edits or more is checked once more: a kit that does so
+before they are tried and once after them, in a folder of that name, has `seed`, which the table counts with the edits;
+with rattle-kit-13b, which does so after them alone, it stands among the edits. What is left of the total is rt itself,
+the compilers, and the runs of tests and programs. What a run takes over from earlier ones costs nothing: of a kit that
+keeps what passed, `rt ci --anew` proves all, and rattle-kit-13b always does. The longest chain is that of crates.txt with
+the greatest sum of seconds by the clock from begin to end of a proof: no number of processors ends sooner. It reads
+/proc, and needs nothing beside python3.
 """
 import os
 import re
@@ -176,7 +178,8 @@ def tell(log):
     print(f"| all | {sums['proof']:.0f} | {sums['tests']:.0f} | {edits:.0f} | {sum(tried.values())} | {sum(sums.values()):.0f} | |")
     length, chain = longest_chain(clock)
     print(f"\nLongest chain: {length:.0f} seconds by the clock: " + ", ".join(f"{it} {clock[it]:.0f}" for it in chain if it in clock))
-    print(f"Of the edits' {edits:.0f}, {sums['seed']:.0f} went into proving their crates before and after them.")
+    if sums["seed"]:
+        print(f"Of the edits' {edits:.0f}, {sums['seed']:.0f} went into proving their crates before and after them.")
     rest = max(0, float(total[1]) - sum(sums.values()))
     print(f"In all {total[1]} processor seconds ({rest:.0f} of them beside the prover), in {total[2]} seconds on {total[3]} processors.")
 

@@ -21,7 +21,7 @@ these lines and ends with the line `<!-- end -->`:
   `<!-- laws of CRATE -->` of all of a crate, and `<!-- all other laws -->` of those that no such block before it names
   (docs/LAWS.md).
 - `<!-- code CRATE/src/FILE.rt NAME NAME .. -->`: these functions, types and constants as they stand in that file, each
-  with the comment above it (docs/LIBRARY.md).
+  with the comment above it (docs/LIBRARY.md and the pages that it leads to).
 - `<!-- costs -->`: the sentences in which docstrings of public calls speak of their time, but for those of commands
   (docs/COSTS.md).
 - `<!-- to read NAME NAME .. -->`: how much each of these definitions rests on, as tools/check_definitions.py --below
@@ -31,7 +31,7 @@ these lines and ends with the line `<!-- end -->`:
 With --check it writes nothing and tells each page that differs from what it would write. In both cases it tells
 each block, definition or edit that such a line names and that is not there, and each block that no such line names; what
 does not keep the order of the crates (tools/house_order.py); and each link, and each name of code in a page, that leads
-nowhere (tools/page_links.py).
+nowhere, or is told of a crate which does not have it (tools/page_links.py).
 The head of a crate may end with the section `## How it works` and, behind it, the section `## Call it`: what its names
 are, the words ``From `CRATE::FILE::TEST`:`` and a fenced block of code. A block whose lines do not stand so in this test
 is told too.

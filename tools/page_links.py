@@ -1,11 +1,16 @@
-"""What in the pages leads nowhere: links to files and headings, and names of the code that are no longer there."""
+"""What in the pages leads nowhere: links to files and headings, names of the code that are no longer there, and names that are
+told of a crate which does not have them."""
 import re
 from pathlib import Path
+
+from common import crates_in
 
 # Pages of the program's users, whose names are those of nets, and the page of edits, which is written from them.
 OF_NETS = ("GUIDE", "GLOSSARY", "WRONG_BODIES")
 # Names that stand for any name.
 PLACEHOLDERS = {"tell_x", "x_asked", "shown_x", "CodedX", "_laws"}
+# Names with the crate that has them: one of it, or some with the crate in brackets behind the last.
+OF_CRATE = re.compile(r"`([^`\n]+)` (?:of|in|from) `(\w+)`|((?:`[^`\n]+`(?:, then|, or|, and|,| and) )*`[^`\n]+`) \(`(\w+)`\)")
 
 
 def pages_of(top):
@@ -66,6 +71,26 @@ def lost_names(top):
                 yield f"{page.relative_to(top)} names {name}, which no source has"
 
 
+def words_of_crate(top, crate):
+    """All words of a crate's sources, and of the names of their files."""
+    paths = [path for part in ("src", "specs", "proofs") for path in top.glob(f"crates/{crate}/{part}/**/*") if path.is_file()]
+    return {word for path in paths for word in [path.stem, *re.findall(r"\w+", path.read_text())]}
+
+
+def names_astray(top):
+    """The names that pages tell of a crate in whose sources they are not: those of the crates themselves apart."""
+    crates, words = set(crates_in(top)), {}
+    for page in pages_of(top):
+        for found in OF_CRATE.finditer(without_fences(page.read_text())):
+            names, crate = found[1] or " ".join(re.findall(r"`([^`]+)`", found[3])), found[2] or found[4]
+            if crate not in crates:
+                continue
+            there = words.setdefault(crate, words_of_crate(top, crate) | crates | {"src", "specs", "proofs", "antt", "rt"})
+            for name in dict.fromkeys(re.findall(r"[A-Za-z_]\w+", names)):
+                if name not in there:
+                    yield f"{page.relative_to(top)} tells {name} of {crate}, which does not have it"
+
+
 def leads_nowhere(top):
     """All of these, told one by one."""
-    return [*broken_links(Path(top)), *lost_names(Path(top))]
+    return [*broken_links(Path(top)), *lost_names(Path(top)), *names_astray(Path(top))]

@@ -1,6 +1,6 @@
 #!/usr/bin/env python3
 """Tests of changed_promises.py, check_definitions.py, check_edits.py, check_signatures.py, house_order.py, make_pages.py, page_links.py,
-show_call.py and of what try_edits.py makes of rt's words, over a small repository that is made for them; of what run_guide.py finds in a page;
+show_call.py and of what try_edits.py and gate_times.py make of rt's words, over a small repository that is made for them; of what run_guide.py finds in a page;
 and of common.py against the sources.
 
     tools/test_pages.py
@@ -9,6 +9,7 @@ The exit status is 0 where all pass.
 """
 import contextlib
 import io
+import os
 import re
 import sys
 import tempfile
@@ -20,6 +21,7 @@ import check_definitions
 import check_edits
 import check_signatures
 import common
+import gate_times
 import house_order
 import make_pages
 import page_links
@@ -101,7 +103,7 @@ class Pages(unittest.TestCase):
         self.top = Path(room.name)
         for name, text in FILES.items():
             self.write(name, text)
-        for module in (check_definitions, check_edits, check_signatures, make_pages, show_call, try_edits):
+        for module in (check_definitions, check_edits, check_signatures, gate_times, make_pages, show_call, try_edits):
             self.addCleanup(setattr, module, "TOP", module.TOP)
             module.TOP = self.top
 
@@ -260,6 +262,39 @@ IsKind k = IsFew k.part
         self.assertEqual((lines[3], faults), ("2 edits in 1 crates, 0 of them refused elsewhere than told; 2 faults", 2))
         self.assertEqual(self.told_of_edits("rt: low NOT PROVED")[0][0], "low/many: NOT TRIED: rt says nothing of it")
 
+    def test_a_kit_that_gates_all_at_once_tries_edits_alone(self):
+        words = self.top / "words"
+        self.write("bin/rt", f"#!/bin/sh\necho $* >>{words}\ncase $1 in\nci) echo usage: >&2; exit 2 ;;\n*) echo 'rt: must-fail low/many.edit: refused, as it must be' ;;\nesac\n")
+        (self.top / "bin/rt").chmod(0o755)
+        self.addCleanup(os.environ.update, PATH=os.environ["PATH"])
+        os.environ["PATH"] = f"{self.top}/bin:{os.environ['PATH']}"
+        for is_checked, asked in ((False, "ci low\nmust-fail low\n"), (True, "must-fail low\n")):
+            words.write_text("")
+            self.assertEqual(try_edits.tried({"low": []}, self.top, is_checked), {("low", "many"): "refused, as it must be"})
+            self.assertEqual(words.read_text(), asked)
+
+    def test_libraries_that_were_checked_are_handed_on(self):
+        self.write("HANDLES", "Handles allowed: none.\n")
+        self.write("crates/low/out/rlib/stamp", "sum")
+        self.write("crates/low/out/rlib/low.rlib/code", "made")
+        self.write("crates/high/out/rlib/high.rlib/code", "made by the gate")
+        with tempfile.TemporaryDirectory(prefix="teg-pages-") as room:
+            try_edits.copied({"low": common.edits_of(self.top, "low")}, Path(room))
+            there = sorted(str(path.relative_to(room)) for path in Path(room).glob("crates/*/[om]*/**/*") if path.is_file())
+        told = ["out/rlib/low.rlib/code", "out/rlib/stamp", "must-fail/many.edit", "must-fail/one_more.edit"]
+        self.assertEqual(there, sorted(f"crates/low/{it}" for it in told))
+
+    def test_what_the_gate_costs_is_told_of_both_kinds_of_kits(self):
+        lines = ["rt: must-fail low/one_more.edit: refused, as it must be", "# low proof 30.0 0.0 20.0", "# low edits 12.0 20.0 32.0"]
+        lines += ["# high proof 5.0 20.0 26.0", "# total 50.0 processor seconds in 33.0 seconds on 4 processors"]
+        seed = "# low seed 8.0 32.0 40.0"
+        for more, row, told in (([], "| `low` | 30 | 0 | 12 | 1 | 42 | 20 |", False), ([seed], "| `low` | 30 | 0 | 20 | 1 | 50 | 20 |", True)):
+            self.write("log", "\n".join([*more, *lines]) + "\n")
+            text, _ = printed(gate_times.tell, str(self.top / "log"))
+            self.assertIn(f"\n{row}\n", text)
+            self.assertIn("Longest chain: 26 seconds by the clock: low 20, high 6\n", text)
+            self.assertEqual("8 went into proving their crates before and after them." in text, told)
+
     def test_signatures_are_compared(self):
         text = "# A remark.\n\n[low]\npub fn count(things: &[u8]) -> usize\n\n[otherwise]\nlow::count | no such call | Counting\n"
         decided = "- **Counting** is done here.\n"
@@ -269,6 +304,11 @@ IsKind k = IsFew k.part
         self.assertEqual(changed[0], "low: count reads otherwise: pub fn count(things: &[u8]) -> usize")
         self.assertEqual(changed[1], "low::sum stands below [otherwise], and is no item")
         self.assertEqual(list(check_signatures.faults_of("[low]\npub fn sum() -> u8\n", "")), ["low hands on no sum"])
+
+    def test_questions_lead_to_each_crate(self):
+        text, page = "[low]\npub fn count(things: &[u8]) -> usize\n", "Of `low`.\n\n| How many? | `count` (`low`) |\n"
+        self.assertEqual(list(check_signatures.not_led_to(text, page)), [])
+        self.assertEqual(list(check_signatures.not_led_to(text, page.replace("(`low`)", ""))), ["docs/LIBRARY.md leads to no call of low"])
 
     def test_a_crate_of_ones_own_named_as_a_module_is_no_origin(self):
         text, path = "[low]\npub fn count(things: &[u8]) -> usize\n\n[high]\npub fn count(things: &[u8]) -> usize\n", "crates/low/src/lib.rt"
@@ -444,6 +484,14 @@ impl Bag {
         self.assertEqual(told.count("\n"), 2)
         for part in ("leads to NONE.md", "leads to PAGE.md#not-there", "names lost_name"):
             self.assertIn(part, told)
+
+    def test_names_that_are_told_of_a_crate_are_there(self):
+        page = "| `count`, or `IsFew` (`low`) | `count` of `low`, `low_limit` in `low`, `low` of `high`, `gone` of `csv`, `Few.antt` of `low` |\n"
+        self.write("docs/MORE.md", page)
+        self.assertEqual(page_links.leads_nowhere(self.top), [])
+        self.write("docs/MORE.md", page.replace("`count`, or", "`main`, then").replace("`low_limit` in `low`", "`low_limit` in `high`"))
+        told = ["docs/MORE.md tells main of low, which does not have it", "docs/MORE.md tells low_limit of high, which does not have it"]
+        self.assertEqual(page_links.leads_nowhere(self.top), told)
 
 
 class Guide(unittest.TestCase):

@@ -5,16 +5,20 @@
 
 It tries the kept edits of these crates, or of all that have any: with --all those of the gate too, with --gate these
 alone. The crates are copied into a temporary folder, where each of these edits is named as one of the gate and no other
-stands, and `rt ci CRATE ..` is called there. That takes what an earlier `rt ci` passed on this machine: after the
-whole test each crate with two edits or more is proved once more, and each edit costs a check of its crate; of what was
-tried before, and of which nothing changed, the result is taken. With --checked it calls `rt must-fail CRATE ..`, which
-takes what `rt check` kept of these crates and of those below them: for crates that are being worked on.
+stands, and `rt ci CRATE ..` is called there. A kit whose `rt ci` takes names has it take what an earlier `rt ci` passed
+on this machine: after the whole test each crate with two edits or more is proved once more, and each edit costs a check
+of its crate; of what was tried before, and of which nothing changed, the result is taken. With --checked it calls
+`rt must-fail CRATE ..`, which takes what `rt check` kept of these crates and of those below them: for crates that are
+being worked on. Where `rt ci` takes no names, as in rattle-kit-13b, it calls `rt must-fail CRATE ..` in both cases: that
+first proves the libraries below, but for those that `rt check` built in this clone from the same sources, which are
+handed on; the first edit of a crate then costs a proof of it, and each further one a check.
 
 There is a line an edit. Where it was refused in another function than its first line names, that is told and is no
 fault, since the prover often stops before the clause. Faults are edits that are NOT REFUSED, BAD EDITs, which do not
 compile or cannot be read, and those that were NOT TRIED. What else rt says goes to standard error. The last line tells
 how many edits and faults there are, and the exit status is 0 where there is no fault.
 """
+import os
 import re
 import shutil
 import subprocess
@@ -32,8 +36,17 @@ PLACE = re.compile(r"(?:note: )?(?:\./)?((?:src|proofs)/\S+?):(\d+):\d+:")
 FUNCTION = re.compile(r"\s*(?:pub(?:\(\w+\))? )?(?:const |unsafe )*fn (\w+)")
 
 
+def linked(path, to):
+    """Hands a file on under another name, without its bytes where the two folders stand together."""
+    try:
+        os.link(path, to)
+    except OSError:
+        shutil.copy2(path, to)
+
+
 def copied(chosen, to):
-    """Copies the crates to the folder, with these edits alone, named as those of the gate."""
+    """Copies the crates to the folder, with these edits alone, named as those of the gate, and hands on the libraries that
+    `rt check` built (it leaves a stamp beside them, and rt takes none whose sources are others)."""
     for name in ("crates.txt", "HANDLES"):
         shutil.copyfile(TOP / name, to / name)
     shutil.copytree(TOP / "crates", to / "crates", ignore=shutil.ignore_patterns("out", "must-fail"))
@@ -41,24 +54,33 @@ def copied(chosen, to):
         (to / f"crates/{crate}/must-fail").mkdir()
         for path in paths:
             shutil.copyfile(path, to / f"crates/{crate}/must-fail/{path.stem}{IN_GATE}")
+    for stamp in TOP.glob("crates/*/out/rlib/stamp"):
+        shutil.copytree(stamp.parent, to / stamp.parent.relative_to(TOP), copy_function=linked)
 
 
 def told_by(command, folder):
-    """What rt says of each edit, by crate and name; its other lines go to standard error as they come."""
-    found, last = {}, None
+    """What rt says of each edit, by crate and name, or None where it has no word of its own, as where it does not know the
+    command; its other lines go to standard error as they come."""
+    found, last, speaks = {}, None, False
     with subprocess.Popen(command, cwd=folder, stdout=subprocess.PIPE, stderr=subprocess.STDOUT, errors="replace") as ran:
         for line in ran.stdout:
             edit = TRIED.match(line)
             if edit:
-                last = edit[1], edit[2]
+                last, speaks = (edit[1], edit[2]), True
                 found[last] = [edit[3]]
             elif OWN_WORDS.match(line):
-                last = None
+                last, speaks = None, True
                 print(line, end="", file=sys.stderr, flush=True)
             elif last:
                 # (a try that did not come so far has further lines)
                 found[last].append(line.rstrip())
-    return {at: "\n  ".join(lines) for at, lines in found.items()}
+    return {at: "\n  ".join(lines) for at, lines in found.items()} if speaks else None
+
+
+def tried(chosen, folder, is_checked):
+    """What rt says of each of these edits, which stand in the folder."""
+    said = None if is_checked else told_by(["rt", "ci", *chosen], folder)
+    return told_by(["rt", "must-fail", *chosen], folder) or {} if said is None else said
 
 
 def function_at(crate, said):
@@ -116,7 +138,7 @@ def main(words):
         return 0
     with tempfile.TemporaryDirectory(prefix="teg-edits-") as room:
         copied(chosen, Path(room))
-        said = told_by(["rt", "must-fail" if "--checked" in options else "ci", *chosen], room)
+        said = tried(chosen, room, "--checked" in options)
     return 1 if tell(chosen, said) else 0
 
 
