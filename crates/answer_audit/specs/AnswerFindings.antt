@@ -8,9 +8,9 @@ use Rattle.teg_due.specs.declared.rows.Due.{Due}
 use Rattle.late_lines.specs.declared.late.LateFiring.{LateFiring}
 use Rattle.delay_laws.specs.declared.table.Timetable.{Timetable}
 use Rattle.witness_check.specs.Liveness.{TellsDeadlock, TellsLive}
-use Rattle.witness_check.specs.ShownCycles.{IsShownPace}
-use Rattle.witness_check.specs.ShownSizes.{IsShownSize}
-use Rattle.witness_check.specs.declared.sizes.ShownSize.{ShownSize}
+use Rattle.pace_check.specs.ShownCycles.{IsShownPace}
+use Rattle.pace_check.specs.ShownSizes.{IsShownSize}
+use Rattle.pace_check.specs.declared.sizes.ShownSize.{ShownSize}
 use Rattle.dating_check.specs.FirstLate.{IsShownFirstLate}
 use Rattle.dating_check.specs.ShownForms.{IsShownSettled}
 use Rattle.dating_check.specs.ShownTables.{IsShownTable}

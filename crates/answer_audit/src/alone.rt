@@ -9,9 +9,10 @@ use crate::finding::Finding;
 use crate::kinds::Alone;
 use answer_check::{refutes_list, shown_list, shown_no_circuit, shown_slack};
 use dating_check::shown_settled;
+use pace_check::{shown_pace, shown_size};
 use std::alloc::{AllocError, Global};
 use teg_net::{Net, OutOfMemory};
-use witness_check::{is_seen_live, shown_pace, shown_size, shows_deadlock};
+use witness_check::{is_seen_live, shows_deadlock};
 
 // What `check` tells of a live net.
 fn live_text(alloc: Global, net: &Net) -> Result<String, AllocError>

@@ -2,17 +2,7 @@
 use crate::slack::ShownSlack;
 use std::alloc::{AllocError, Global};
 use teg_net::Ratio;
-
-// A ratio that is told as time/tokens.
-fn ratio_in(word: &str) -> Option<Ratio> {
-    let (time, tokens) = word.split_once('/')?;
-    let time: u64 = time.parse().ok()?;
-    let tokens: u64 = tokens.parse().ok()?;
-    if tokens == 0 {
-        return None;
-    }
-    Some(Ratio::of(time, tokens))
-}
+use witness_check::ratio_in;
 
 // The ratio of the first line.
 fn pace_in(alloc: Global, line: &str) -> Result<Option<Ratio>, AllocError> {

@@ -1,3 +1,4 @@
+mod Bounding
 mod FirstLate
 mod FormLines
 pub mod TablesApart

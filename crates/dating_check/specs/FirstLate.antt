@@ -10,7 +10,7 @@ use Rattle.dating_certificates.specs.CheckedRows.{date_in_rows}
 use Rattle.due_laws.specs.MeetingDueDates.{inputs_at_zero}
 use Rattle.teg_due.specs.declared.rows.DueRow.{DueRow}
 use Rattle.late_lines.specs.declared.late.LateFiring.{LateFiring}
-use Rattle.witness_check.specs.ShownWalks.{IsShownLate}
+use Rattle.dating_check.specs.ShownWalks.{IsShownLate}
 
 -- the dating comes to the row's firing at its due date or before
 abbrev pub KeepsRow : (ℕ → ℕ → Date) → DueRow → Type 0

@@ -8,6 +8,7 @@ ghost use Rattle.teg_due.specs.RowRules.{IsDueRow};
 ghost use Rattle.dating_certificates.specs.CheckedRows.{AreRowsOf, date_in_rows};
 ghost use Rattle.dating_check.specs.FirstLate.{AreLeastUpTo, IsFirstLate, IsFirstLateBy, IsFirstUnkept, IsRowOfLate, IsShownFirstLate};
 
+use crate::late::shown_late;
 use crate::least_rows::least_dates;
 use crate::rows::{date_in_rows, greatest_number};
 use dating_certificates::check_rows;
@@ -16,7 +17,7 @@ use late_lines::LateFiring;
 use std::alloc::Global;
 use teg_due::{Due, DueRow, is_due_of};
 use teg_net::{Net, OutOfMemory};
-use witness_check::{is_seen_live, shown_late};
+use witness_check::is_seen_live;
 
 // Whether the date is at most the due date of the row.
 fn is_kept(date: Date, row: &DueRow) -> bool

@@ -5,20 +5,26 @@
 //! | `dates` | its dates and steps | [`shown_settled`] |
 //! | `jit`: all its lines | the dates and steps of the lines | [`shown_table`] |
 //! | `jit`: false | the same | [`refutes_table`] |
-//! | `jit`: late | the walk; least dates are found anew | [`shown_first_late`] |
+//! | `jit`: a line | the steps of the lines that it leads to | [`shown_latest`] |
+//! | `jit`: late | the walk | [`shown_late`] |
+//! | `jit`: late, and first | the walk; least dates are found anew | [`shown_first_late`] |
 //!
-//! Each call asks first whether the net is seen to be live, reads a text without a promise, as those
-//! of `witness_check` do, lets a checker look at what was read, prints the text anew, and compares.
-//! So what it tells rests on the checker, on its law and on the words of the lines, and neither on
-//! the parser nor on whatever found the answer. Where it tells nothing, its clause says nothing.
+//! Each call but those on one walk asks first whether the net is seen to be live. It reads a text
+//! without a promise, as those of `witness_check` do, lets a checker look at what was read, prints
+//! the text anew, of a line of `jit` that line, and compares. So what it tells rests on the checker,
+//! on its law and on the words of the lines, and neither on the parser nor on whatever found the
+//! answer. Where it tells nothing, its clause says nothing.
 //!
-//! The crate stands on `dating_certificates` for checkers of dates, on `witness_check` for whether a
-//! net is live, beginnings of texts and names, on `settled_laws` for settled forms, on `teg_due` for
-//! rows that are due, on `teg_text` and `teg_lines` for texts, and on `teg_net` for nets; no crate of
-//! the program's search is below it. Its examples stand in `witness_examples`.
+//! The crate stands on `dating_certificates` for checkers of dates, on `latest_laws` for what walks
+//! show, on `witness_check` for whether a net is live and for first lines, on `settled_laws` for
+//! settled forms, on `teg_due` for rows that are due, on `teg_text` and `late_lines` for texts, and
+//! on `teg_net` for nets; no crate of the program's search is below it. Its examples stand in
+//! `witness_examples`.
 #![tactic(auto)]
 
 mod first_late;
+mod late;
+mod latest;
 mod least_rows;
 mod refuted_table;
 mod rows;
@@ -26,9 +32,12 @@ mod settled;
 mod settled_reading;
 mod table;
 mod table_reading;
+mod walk_reading;
 mod ways;
 
 pub use first_late::shown_first_late;
+pub use late::shown_late;
+pub use latest::{ShownLatest, shown_latest};
 pub use refuted_table::refutes_table;
 pub use settled::{ShownSettled, shown_settled};
 pub use table::shown_table;

@@ -1,5 +1,5 @@
 -- Delays by rows of dates.
-use Rattle.std.proofs.Common.{ℕ, ℤ, ◌+◌, ◌-◌, ◌*◌, ◌<◌, ◌≤◌, ◌≡◌, true, leb, List, [], length, map, get_or, sym, ap, ◌∙◌, arith}
+use Rattle.std.proofs.Common.{ℕ, ℤ, ◌+◌, ◌-◌, ◌*◌, ◌^◌, ◌<◌, ◌≤◌, ◌≡◌, ◌++◌, true, leb, List, [], length, map, get_or, sym, ap, ◌∙◌, arith}
 use Rattle.std.specs.List.{range_with_len}
 use Rattle.std.proofs.lemmas.Bool.Decides.{nat_tests}
 use Rattle.std.proofs.lemmas.List.FromFn.{get_or-map-range_with_len, length-map-range_with_len}
@@ -8,18 +8,18 @@ use Rattle.dioid.specs.declared.dates.Date.TheVariants.{Early}
 use Rattle.dating_certificates.specs.CheckedRows.{date_in_rows}
 use Rattle.dating_certificates.specs.SettledRows.{form_by_rows}
 use Rattle.delay_laws.specs.declared.table.Timetable.{Timetable}
-use Rattle.delay_laws.specs.DelayOutcomes.{IsRecovered}
 use Rattle.delay_laws.specs.Delays.{IsFormOfDelays}
 use Rattle.delay_laws.specs.PlannedTimetables.{planned}
 use Rattle.delay_laws.specs.SettlingLaws.{natural_of_date}
 use Rattle.delay_laws.proofs.Steps.{forms_tell_delays}
 use Rattle.release_nets.specs.PlannedNets.{IsPlannedNet}
 use Rattle.settled_laws.specs.SettledForms.{row_date, settled_date}
-use Rattle.teg_net.specs.declared.entries.PlaceId.{PlaceId}
 use Rattle.teg_net.specs.Nets.{NetLists}
-use Rattle.teg_text.specs.Lines.{written}
+use Rattle.teg_text.specs.Lines.{line_then, written}
+use Rattle.teg_text.specs.WordsOfNames.{settled_words}
 use Rattle.delay_check.specs.DelayRows.{delay_by_rows}
-use Rattle.delay_check.specs.ShownDelays.{TellsKept, TellsRecovered, kept_lines, recovered_lines}
+use Rattle.delay_check.specs.ShownDelays.{TellsDelays, delays_lines}
+use Rattle.delay_check.proofs.Texts.{lines_behind}
 
 -- the date that a form by rows tells at a number that the rows have
 date_by_rows : (width : ℕ) (dates : List Date) (after turn : ℕ) (steps : List ℤ) (i k : ℕ) → i < width → 1 ≤ k → k ≤ after + turn
@@ -49,28 +49,19 @@ pub as_wide : (net : NetLists) (period : ℕ) (table : Timetable) (wide : ℕ) (
 as_wide net period table wide dates after turn steps form =
     sym (length-map-range_with_len (λ t. map (date_in_rows wide dates t) (range_with_len 1 (after + turn))) 0 wide) ∙ form.3.stands.sizes.rows_are
 
--- a text of the delays that such a form tells, as those that a circuit keeps
-pub tells_kept : (net : NetLists) (period : ℕ) (table : Timetable) (text : List ℕ) (circuit : List PlaceId) (width : ℕ) (dates : List Date) (after turn : ℕ) (steps : List ℤ)
-    → IsPlannedNet net period table → IsFormOfDelays net period table (form_by_rows width dates after turn steps)
-    → text ≡ written (kept_lines net after turn circuit (delay_by_rows width dates after turn steps period table)) → TellsKept net period table text circuit
-tells_kept net period table text circuit width dates after turn steps h form told = (
-  form_by_rows width dates after turn steps,
-  delay_by_rows width dates after turn steps period table,
-  form,
-  (forms_tell_delays net h.ends period table h.workable (form_by_rows width dates after turn steps) form).0.left,
-  told,
-)
-
--- the same, as those that are over past a number
-pub tells_recovered : (net : NetLists) (period : ℕ) (table : Timetable) (text : List ℕ) (last width : ℕ) (dates : List Date) (after turn : ℕ) (steps : List ℤ)
-    → IsPlannedNet net period table → IsFormOfDelays net period table (form_by_rows width dates after turn steps)
-    → IsRecovered net (delay_by_rows width dates after turn steps period table) last
-    → text ≡ written (recovered_lines net after turn last (delay_by_rows width dates after turn steps period table)) → TellsRecovered net period table text last
-tells_recovered net period table text last width dates after turn steps h form over told = (
-  form_by_rows width dates after turn steps,
-  delay_by_rows width dates after turn steps period table,
-  form,
-  (forms_tell_delays net h.ends period table h.workable (form_by_rows width dates after turn steps) form).0.left,
-  over,
-  told,
-)
+-- a text of the delays that such a form tells, with these lines of what becomes of them
+pub tells_delays : (net : NetLists) (period : ℕ) (table : Timetable) (text outcome : List ℕ) (lines : List (List (List ℕ))) (width : ℕ) (dates : List Date) (after turn : ℕ) (steps : List ℤ)
+    → IsPlannedNet net period table → IsFormOfDelays net period table (form_by_rows width dates after turn steps) → after < 2 ^ 64 → turn < 2 ^ 64 → outcome ≡ written lines
+    → text ≡ (line_then (settled_words after turn) [] ++ outcome) ++ written (delays_lines net (delay_by_rows width dates after turn steps period table) (after + turn))
+    → TellsDelays net period table text lines
+tells_delays net period table text outcome lines width dates after turn steps h form after_in turn_in is told =
+    let first = settled_words after turn in
+    let delays = delays_lines net (delay_by_rows width dates after turn steps period table) (after + turn) in (
+      form_by_rows width dates after turn steps,
+      delay_by_rows width dates after turn steps period table,
+      form,
+      after_in,
+      turn_in,
+      (forms_tell_delays net h.ends period table h.workable (form_by_rows width dates after turn steps) form).0.left,
+      lines_behind (line_then first [] ++ outcome) text first lines delays (ap (λ (l : List ℕ). line_then first [] ++ l) is) told,
+    )

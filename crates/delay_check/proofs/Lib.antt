@@ -1,5 +1,5 @@
 mod DelayRows
 mod Given
-mod LastDelays
+pub mod LastDelays
 mod Passing
 mod Texts

@@ -1,5 +1,5 @@
-//! The rows by which the delays of a timetable settle: that the timetable is one of the net, and
-//! that the rows tell the form.
+//! The rows by which the delays of a timetable settle: that they can be followed in the net, and that
+//! the rows tell the form.
 ghost use Rattle.std.specs.Prelude.{◌≡◌, ◌+◌, ◌*◌, ◌≤◌, IfOk, IfSome, IsTrue, length};
 ghost use Rattle.dating_certificates.specs.SettledRows.{form_by_rows};
 ghost use Rattle.delay_laws.specs.Delays.{IsFormOfDelays};
@@ -13,17 +13,40 @@ use dioid::Date;
 use release_nets::{Planned, release_net};
 use std::alloc::Global;
 use teg_net::{Net, OutOfMemory};
+use witness_check::is_seen_live;
 
 // The greatest period of a timetable.
 const GREATEST_PERIOD: u64 = 1_000_000;
 
 // Whether the timetable is one of the net, and the period keeps its limits.
-pub(crate) fn is_asked(net: &Net, period: u64, table: &Timetable) -> bool
+fn is_asked(net: &Net, period: u64, table: &Timetable) -> bool
     ensures some { IsTrue result → 1 ≤ period }
     ensures period { IsTrue result → period ≤ greatest_period }
     ensures table { IsTrue result → IsTableOf net.now table.now }
 {
     1 <= period && period <= GREATEST_PERIOD && is_table_of(net, table)
+}
+
+// The net with its timetable, where the net is seen to be live and the delays can be followed.
+pub(crate) fn planned_net<'a>(
+    alloc: Global,
+    net: &'a Net,
+    period: u64,
+    table: &'a Timetable,
+) -> Result<Option<Planned<'a>>, OutOfMemory>
+    ensures { IfOk result (λ some. IfSome some (λ planned. (planned.net.now ≡ net.now)
+        × (planned.period ≡ period) × (planned.table.now ≡ table.now))) }
+{
+    if !is_asked(net, period, table) {
+        return Ok(None);
+    }
+    if !is_seen_live(alloc, net)? {
+        return Ok(None);
+    }
+    match Planned::checked(net, period, table) {
+        Ok(planned) => Ok(Some(planned)),
+        Err(_) => Ok(None),
+    }
 }
 
 // Whether these are rows and steps by which the delays of the timetable settle.

@@ -1,20 +1,20 @@
 //! The witness of `teg timetable` where delays stay: a circuit without spare time.
-ghost use Rattle.std.specs.Prelude.{◌≡◌, ◌+◌, ◌<◌, ◌≤◌, Contains, IfOk, IfSome, IsTrue, length, slice_index_or};
+ghost use Rattle.std.specs.Prelude.{◌≡◌, ◌<◌, ◌≤◌, Contains, IfOk, IfSome, IsTrue, length, slice_index_or, string_bytes};
 ghost use Rattle.teg_net.specs.Circuits.{AreInRange, from_of};
 ghost use Rattle.teg_net.specs.declared.entries.PlaceId.{PlaceId};
 ghost use Rattle.teg_text.specs.Lines.{written};
-ghost use Rattle.delay_check.specs.DelayRows.{delay_by_rows};
-ghost use Rattle.delay_check.specs.ShownDelays.{AreSomewhereLeft, IsShownKept, KeepsWhatIsLeft, TellsKept, kept_lines};
+ghost use Rattle.delay_check.specs.ShownDelays.{AreSomewhereLeft, IsShownKept, KeepsWhatIsLeft, TellsDelays, kept_lines};
 
-use crate::form_rows::{are_form_rows, is_asked, rows_of};
+use crate::form_rows::planned_net;
 use crate::left::left_somewhere;
-use crate::spread_text::{Rows, text_by_rows};
+use crate::telling::tells_delays;
 use crate::told_delays::{ToldKept, kept_in};
 use delay_laws::{Timetable, shows_kept, tight_circuits_keep_delays};
 use release_nets::Planned;
 use std::alloc::{AllocError, Global};
 use teg_net::{Circuit, Net, OutOfMemory, PlaceId, is_circuit};
-use witness_check::{begins_lowest, is_seen_live};
+use teg_text::push_circuit;
+use witness_check::begins_lowest;
 
 // Whether one of the transitions that the places leave is late where so much is left.
 fn is_late(net: &Net, left: &[u64], places: &[PlaceId]) -> bool
@@ -50,68 +50,31 @@ fn keeps_delays(planned: &Planned<'_>, left: &[u64], places: &[PlaceId]) -> bool
     is_late(net, left, places)
 }
 
-// Whether the whole text is that of the delays of these rows, which the circuit keeps.
-fn is_told(
-    alloc: Global,
-    planned: &Planned<'_>,
-    rows: &Rows<'_>,
-    circuit: &Circuit,
-    text: &str,
-) -> Result<bool, AllocError>
-    requires circuit { AreInRange planned.now.net.now circuit.now.places.items }
-    requires wide { length planned.now.net.now.transitions ≤ rows.now.width }
-    ensures { IfOk result (λ yes. IsTrue yes → text.now ≡ written (kept_lines planned.now.net.now
-        rows.now.after rows.now.turn circuit.now.places.items (delay_by_rows rows.now.width
-        rows.now.dates.now rows.now.after rows.now.turn rows.now.steps.now planned.now.period
-        planned.now.table.now))) }
+// The lines that delays are kept, and of the circuit.
+fn kept_text(alloc: Global, net: &Net, circuit: &Circuit) -> Result<String, AllocError>
+    requires { AreInRange net.now circuit.now.places.items }
+    ensures { IfOk result (λ text. string_bytes text
+        ≡ written (kept_lines net.now circuit.now.places.items)) }
 {
-    let lines = text_by_rows(alloc, planned, rows, circuit)?;
-    Ok(lines.as_str() == text)
-}
-
-// Whether the text tells the delays of these rows, which are those that are left, as those that the
-// circuit keeps.
-fn tells_rows(
-    alloc: Global,
-    planned: &Planned<'_>,
-    rows: &Rows<'_>,
-    circuit: &Circuit,
-    text: &str,
-) -> Result<bool, OutOfMemory>
-    requires circuit { AreInRange planned.now.net.now circuit.now.places.items }
-    requires wide { rows.now.width
-        ≡ length planned.now.net.now.transitions + length planned.now.net.now.transitions }
-    ensures { IfOk result (λ yes. IsTrue yes → TellsKept planned.now.net.now planned.now.period
-        planned.now.table.now text.now circuit.now.places.items) }
-{
-    if !are_form_rows(alloc, planned, rows)? {
-        return Ok(false);
-    }
-    let is_told = is_told(alloc, planned, rows, circuit, text)?;
-    Ok(is_told)
+    let mut text = String::from_str(alloc, "kept\n")?;
+    push_circuit(&mut text, net, circuit)?;
+    Ok(text)
 }
 
 // Whether the text tells the delays of the timetable that are left, as those that the circuit keeps.
-fn tells_delays(
+fn tells_kept(
     alloc: Global,
     planned: &Planned<'_>,
     told: &ToldKept,
     text: &str,
 ) -> Result<bool, OutOfMemory>
     requires { AreInRange planned.now.net.now told.now.circuit.places.items }
-    ensures { IfOk result (λ yes. IsTrue yes → TellsKept planned.now.net.now planned.now.period
-        planned.now.table.now text.now told.now.circuit.places.items) }
+    ensures { IfOk result (λ yes. IsTrue yes → TellsDelays planned.now.net.now planned.now.period
+        planned.now.table.now text.now (kept_lines planned.now.net.now
+        told.now.circuit.places.items)) }
 {
-    let transitions = planned.net.transitions().len();
-    let width = transitions + transitions;
-    let spread = &told.spread;
-    let dates = spread.dates(alloc, planned)?;
-    let steps = spread.steps(alloc, planned.period, width)?;
-    let (after, turn) = (spread.after, spread.turn);
-    let Some(rows) = rows_of(width, after, turn, dates.as_slice(), steps.as_slice()) else {
-        return Ok(false);
-    };
-    let tells = tells_rows(alloc, planned, &rows, &told.circuit, text)?;
+    let outcome = kept_text(alloc, planned.net, &told.circuit)?;
+    let tells = tells_delays(alloc, planned, &told.spread, None, outcome.as_str(), text)?;
     Ok(tells)
 }
 
@@ -133,7 +96,7 @@ fn shows(
     if !keeps_delays(planned, &left, places) {
         return Ok(false);
     }
-    let tells = tells_delays(alloc, planned, told, text)?;
+    let tells = tells_kept(alloc, planned, told, text)?;
     Ok(tells)
 }
 
@@ -161,13 +124,7 @@ pub fn shown_kept(
     let Some(told) = kept_in(alloc, net, text)? else {
         return Ok(None);
     };
-    if !is_asked(net, period, table) {
-        return Ok(None);
-    }
-    if !is_seen_live(alloc, net)? {
-        return Ok(None);
-    }
-    let Ok(planned) = Planned::checked(net, period, table) else {
+    let Some(planned) = planned_net(alloc, net, period, table)? else {
         return Ok(None);
     };
     if !shows(alloc, &planned, &told, text)? {

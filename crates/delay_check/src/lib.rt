@@ -27,6 +27,7 @@ mod left;
 mod over;
 mod recovered;
 mod spread_text;
+mod telling;
 mod told_delays;
 
 pub use kept::shown_kept;

@@ -1,9 +1,9 @@
 //! The number after which no delay is left, by the delays of rows.
 ghost use Rattle.std.specs.Prelude.{ℕ, ◌≡◌, ◌<◌, ◌≤◌, ◌⊎◌, true, false, IsTrue, length};
 ghost use Rattle.dating_certificates.specs.SettledRows.{form_by_rows};
-ghost use Rattle.delay_laws.specs.DelayOutcomes.{IsRecovered};
 ghost use Rattle.delay_laws.specs.Delays.{IsFormOfDelays};
 ghost use Rattle.delay_check.specs.DelayRows.{delay_by_rows};
+ghost use Rattle.delay_check.specs.ShownDelays.{EndsWhatIsLeft};
 
 use crate::spread_text::{Rows, delay_at};
 use release_nets::Planned;
@@ -83,9 +83,8 @@ pub(crate) fn is_recovered(planned: &Planned<'_>, rows: &Rows<'_>, last: u64) ->
     requires form { IsFormOfDelays planned.now.net.now planned.now.period planned.now.table.now
         (form_by_rows rows.now.width rows.now.dates.now rows.now.after rows.now.turn
         rows.now.steps.now) }
-    ensures { IsTrue result → IsRecovered planned.now.net.now (delay_by_rows rows.now.width
-        rows.now.dates.now rows.now.after rows.now.turn rows.now.steps.now planned.now.period
-        planned.now.table.now) last }
+    ensures { IsTrue result → EndsWhatIsLeft planned.now.net.now planned.now.period
+        planned.now.table.now last }
 {
     if !is_over_past(planned, rows, last) {
         return false;

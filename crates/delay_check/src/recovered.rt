@@ -1,59 +1,21 @@
 //! The witness of `teg timetable` where delays die out: the lines of delays themselves.
-ghost use Rattle.std.specs.Prelude.{◌≡◌, ◌+◌, ◌≤◌, IfOk, IfSome, IsTrue, length};
+ghost use Rattle.std.specs.Prelude.{◌≡◌, IfOk, IfSome, IsTrue, string_bytes};
 ghost use Rattle.teg_text.specs.Lines.{written};
-ghost use Rattle.delay_check.specs.DelayRows.{delay_by_rows};
-ghost use Rattle.delay_check.specs.ShownDelays.{IsShownRecovered, TellsRecovered, recovered_lines};
+ghost use Rattle.delay_check.specs.ShownDelays.{IsShownRecovered, recovered_lines};
 
-use crate::form_rows::{are_form_rows, is_asked, rows_of};
-use crate::over::is_recovered;
-use crate::spread_text::{Rows, recovered_text};
+use crate::form_rows::planned_net;
+use crate::telling::tells_delays;
 use crate::told_delays::{ToldRecovered, recovered_in};
 use delay_laws::Timetable;
 use release_nets::Planned;
 use std::alloc::{AllocError, Global};
 use teg_net::{Net, OutOfMemory};
-use witness_check::is_seen_live;
 
-// Whether the whole text is that of the delays of these rows, which are over past this number.
-fn is_told(
-    alloc: Global,
-    planned: &Planned<'_>,
-    rows: &Rows<'_>,
-    last: u64,
-    text: &str,
-) -> Result<bool, AllocError>
-    requires { length planned.now.net.now.transitions ≤ rows.now.width }
-    ensures { IfOk result (λ yes. IsTrue yes → text.now ≡ written (recovered_lines
-        planned.now.net.now rows.now.after rows.now.turn last (delay_by_rows rows.now.width
-        rows.now.dates.now rows.now.after rows.now.turn rows.now.steps.now planned.now.period
-        planned.now.table.now))) }
+// The line that no delay is left past this number.
+fn recovered_text(alloc: Global, last: u64) -> Result<String, AllocError>
+    ensures { IfOk result (λ text. string_bytes text ≡ written (recovered_lines last)) }
 {
-    let lines = recovered_text(alloc, planned, rows, last)?;
-    Ok(lines.as_str() == text)
-}
-
-// Whether the text tells the delays of these rows, which are those that are left, and the least
-// number after which there is none.
-fn tells_rows(
-    alloc: Global,
-    planned: &Planned<'_>,
-    rows: &Rows<'_>,
-    last: u64,
-    text: &str,
-) -> Result<bool, OutOfMemory>
-    requires { rows.now.width
-        ≡ length planned.now.net.now.transitions + length planned.now.net.now.transitions }
-    ensures { IfOk result (λ yes. IsTrue yes → TellsRecovered planned.now.net.now
-        planned.now.period planned.now.table.now text.now last) }
-{
-    if !are_form_rows(alloc, planned, rows)? {
-        return Ok(false);
-    }
-    if !is_recovered(planned, rows, last) {
-        return Ok(false);
-    }
-    let is_told = is_told(alloc, planned, rows, last, text)?;
-    Ok(is_told)
+    format!(in alloc; "recovered after {last}\n")
 }
 
 // Whether the text shows that no delay is left after the number that it tells.
@@ -66,16 +28,9 @@ fn shows(
     ensures { IfOk result (λ yes. IsTrue yes → IsShownRecovered planned.now.net.now
         planned.now.period planned.now.table.now text.now told.now.last) }
 {
-    let transitions = planned.net.transitions().len();
-    let width = transitions + transitions;
-    let spread = &told.spread;
-    let dates = spread.dates(alloc, planned)?;
-    let steps = spread.steps(alloc, planned.period, width)?;
-    let (after, turn) = (spread.after, spread.turn);
-    let Some(rows) = rows_of(width, after, turn, dates.as_slice(), steps.as_slice()) else {
-        return Ok(false);
-    };
-    let tells = tells_rows(alloc, planned, &rows, told.last, text)?;
+    let outcome = recovered_text(alloc, told.last)?;
+    let last = Some(told.last);
+    let tells = tells_delays(alloc, planned, &told.spread, last, outcome.as_str(), text)?;
     Ok(tells)
 }
 
@@ -101,13 +56,7 @@ pub fn shown_recovered(
     let Some(told) = recovered_in(alloc, net, text)? else {
         return Ok(None);
     };
-    if !is_asked(net, period, table) {
-        return Ok(None);
-    }
-    if !is_seen_live(alloc, net)? {
-        return Ok(None);
-    }
-    let Ok(planned) = Planned::checked(net, period, table) else {
+    let Some(planned) = planned_net(alloc, net, period, table)? else {
         return Ok(None);
     };
     if !shows(alloc, &planned, &told, text)? {

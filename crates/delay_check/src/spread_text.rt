@@ -1,19 +1,18 @@
-//! The texts of delays that are kept, and of delays that are over, by rows of dates.
-ghost use Rattle.std.specs.Prelude.{◌≡◌, ◌+◌, ◌-◌, ◌*◌, ◌<◌, ◌≤◌, ◌++◌, ◌∷◌, [], IfOk, codes, length, slice_index_or, string_bytes};
+//! The texts of delays by rows of dates.
+ghost use Rattle.std.specs.Prelude.{◌≡◌, ◌+◌, ◌-◌, ◌*◌, ◌^◌, ◌<◌, ◌≤◌, ◌++◌, [], IfOk, codes, length, slice_index_or, string_bytes};
 ghost use Rattle.dioid.specs.declared.dates.Date.TheVariants.{At, Early};
 ghost use Rattle.delay_laws.specs.PlannedTimetables.{planned as planned_at};
 ghost use Rattle.delay_laws.specs.SettlingLaws.{natural_of_date};
-ghost use Rattle.teg_net.specs.Circuits.{AreInRange};
 ghost use Rattle.teg_text.specs.Lines.{line_then, written};
-ghost use Rattle.teg_text.specs.WordsOfNames.{circuit_line, name_of_transition, settled_words};
+ghost use Rattle.teg_text.specs.WordsOfNames.{name_of_transition, settled_words};
 ghost use Rattle.delay_check.specs.DelayRows.{delay_by_rows};
-ghost use Rattle.delay_check.specs.ShownDelays.{delays_line, delays_lines, kept_lines, recovered_line, recovered_lines};
+ghost use Rattle.delay_check.specs.ShownDelays.{delays_line, delays_lines};
 
 use dioid::Date;
 use release_nets::Planned;
 use std::alloc::{AllocError, Global};
-use teg_net::{Circuit, Net};
-use teg_text::{push_circuit, push_settled};
+use teg_net::Net;
+use teg_text::push_settled;
 
 // A form by rows of dates, each of this width, of which the first `count` tell the delays of a plan.
 #[derive(Drop)]
@@ -25,6 +24,8 @@ pub(crate) struct Rows<'t> {
     pub(crate) dates: &'t [Date],
     pub(crate) steps: &'t [i128],
     ghost told: { count ≡ after + turn },
+    ghost after_in: { after < 2 ^ 64 },
+    ghost turn_in: { turn < 2 ^ 64 },
     ghost room: { count * width ≤ length dates.now },
 }
 
@@ -122,76 +123,23 @@ fn push_lines(text: &mut String, planned: &Planned<'_>, rows: &Rows<'_>) -> Resu
     Ok(())
 }
 
-// The lines before those of the delays.
-fn first_lines(
-    alloc: Global,
-    net: &Net,
-    after: u64,
-    turn: u64,
-    circuit: &Circuit,
-) -> Result<String, AllocError>
-    requires { AreInRange net.now circuit.now.places.items }
-    ensures { IfOk result (λ text. string_bytes text ≡ line_then (settled_words after turn) []
-        ++ written ((codes "kept" ∷ []) ∷ circuit_line net.now circuit.now.places.items ∷ [])) }
-{
-    let mut text = String::new(alloc);
-    push_settled(&mut text, after, turn)?;
-    text.push_str("kept\n")?;
-    push_circuit(&mut text, net, circuit)?;
-    Ok(text)
-}
-
-// The whole text of the delays of these rows, as those that the circuit keeps.
+// The whole text of the delays of these rows, with these lines of what becomes of them.
 pub(crate) fn text_by_rows(
     alloc: Global,
     planned: &Planned<'_>,
     rows: &Rows<'_>,
-    circuit: &Circuit,
-) -> Result<String, AllocError>
-    requires circuit { AreInRange planned.now.net.now circuit.now.places.items }
-    requires wide { length planned.now.net.now.transitions ≤ rows.now.width }
-    ensures { IfOk result (λ text. string_bytes text ≡ written (kept_lines planned.now.net.now
-        rows.now.after rows.now.turn circuit.now.places.items (delay_by_rows rows.now.width
-        rows.now.dates.now rows.now.after rows.now.turn rows.now.steps.now planned.now.period
-        planned.now.table.now))) }
-{
-    let mut text = first_lines(alloc, planned.net, rows.after, rows.turn, circuit)?;
-    push_lines(&mut text, planned, rows)?;
-    Ok(text)
-}
-
-// Appends the line that no delay is left past this number.
-fn push_recovered(text: &mut String, last: u64) -> Result<(), AllocError>
-    ensures { IfOk result (λ _. string_bytes text.new ≡ string_bytes text.old
-        ++ written (recovered_line last ∷ [])) }
-{
-    write!(text, "recovered after {last}\n")
-}
-
-// The lines before those of the delays, where they are over past this number.
-fn recovered_first(alloc: Global, after: u64, turn: u64, last: u64) -> Result<String, AllocError>
-    ensures { IfOk result (λ text. string_bytes text ≡ line_then (settled_words after turn) []
-        ++ written (recovered_line last ∷ [])) }
-{
-    let mut text = String::new(alloc);
-    push_settled(&mut text, after, turn)?;
-    push_recovered(&mut text, last)?;
-    Ok(text)
-}
-
-// The whole text of the delays of these rows, as those that are over past this number.
-pub(crate) fn recovered_text(
-    alloc: Global,
-    planned: &Planned<'_>,
-    rows: &Rows<'_>,
-    last: u64,
+    outcome: &str,
 ) -> Result<String, AllocError>
     requires { length planned.now.net.now.transitions ≤ rows.now.width }
-    ensures { IfOk result (λ text. string_bytes text ≡ written (recovered_lines planned.now.net.now
-        rows.now.after rows.now.turn last (delay_by_rows rows.now.width rows.now.dates.now
-        rows.now.after rows.now.turn rows.now.steps.now planned.now.period planned.now.table.now))) }
+    ensures { IfOk result (λ text. string_bytes text
+        ≡ (line_then (settled_words rows.now.after rows.now.turn) [] ++ outcome.now)
+        ++ written (delays_lines planned.now.net.now (delay_by_rows rows.now.width
+        rows.now.dates.now rows.now.after rows.now.turn rows.now.steps.now planned.now.period
+        planned.now.table.now) (rows.now.after + rows.now.turn))) }
 {
-    let mut text = recovered_first(alloc, rows.after, rows.turn, last)?;
+    let mut text = String::new(alloc);
+    push_settled(&mut text, rows.after, rows.turn)?;
+    text.push_str(outcome)?;
     push_lines(&mut text, planned, rows)?;
     Ok(text)
 }

@@ -11,7 +11,6 @@ use Rattle.teg_net.specs.Nets.{NetLists}
 use Rattle.teg_net.specs.Walks.{Walks, numbers_of}
 use Rattle.teg_text.specs.WordsOfNames.{name_of_place, name_of_transition}
 use Rattle.late_lines.specs.declared.late.LateFiring.{LateFiring}
-use Rattle.teg_lines.specs.Widths.{IsWord32, IsWord64}
 
 -- a firing that is later than due, its least date, and a walk that leads there: from when its first tokens are ready, its first
 -- firing, and its steps
@@ -90,8 +89,8 @@ pub record IsLateIn (net : NetLists) (late : LateLists) : Type 0 where
 
 -- the numbers of a firing that is later than due
 pub record AreLateNumbers (late : LateLists) : Type 0 where
-  pub number : IsWord32 late.number
-  pub due : IsWord64 late.due
+  pub number : late.number < 2 ^ 32
+  pub due : late.due < 2 ^ 64
   pub least : late.least < 2 ^ 128
-  pub start : IsWord64 late.start
-  pub first : IsWord64 late.first
+  pub start : late.start < 2 ^ 64
+  pub first : late.first < 2 ^ 64

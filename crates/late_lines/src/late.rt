@@ -3,7 +3,6 @@ ghost use Rattle.std.specs.Prelude.{◌≡◌, ◌++◌, ◌<◌, ◌≤◌, ◌
 ghost use Rattle.teg_net.specs.Limits.{greatest_firing_number};
 ghost use Rattle.teg_net.specs.Walks.{IsStepOf};
 ghost use Rattle.late_lines.specs.LateLines.{AreLateNumbers, IsLateIn, IsPathIn, late_by_walk, late_line, late_walk_lines, path_line, start_lines, step_number, step_to, step_words, steps_words};
-ghost use Rattle.teg_lines.specs.Widths.{IsWord32, IsWord64};
 ghost use Rattle.teg_text.specs.Lines.{further_then, line_then, written};
 
 use std::alloc::{AllocError, Global};
@@ -84,7 +83,7 @@ fn push_path(text: &mut String, net: &Net, walk: &Walk) -> Result<(), AllocError
         string_bytes text.old
         ++ line_then (path_line net.now walk.now.start walk.now.number walk.now.steps.items)
         []) }
-    ensures first { IfOk result (λ _. IsWord64 walk.now.number) }
+    ensures first { IfOk result (λ _. walk.now.number < 2 ^ 64) }
 {
     let name = net.transitions()[walk.start.index as usize].name.as_str();
     let number = walk.number;
@@ -97,7 +96,7 @@ fn push_path(text: &mut String, net: &Net, walk: &Walk) -> Result<(), AllocError
 fn push_start(text: &mut String, start: u64) -> Result<(), AllocError>
     ensures text { IfOk result (λ _. string_bytes text.new
         ≡ string_bytes text.old ++ written (start_lines start)) }
-    ensures kept { IsWord64 start }
+    ensures kept { start < 2 ^ 64 }
 {
     if start == 0 {
         return Ok(());
@@ -116,7 +115,7 @@ fn late_line(
     requires { firing.0.index < length net.now.transitions }
     ensures text { IfOk result (λ text. string_bytes text
         ≡ line_then (late_line net.now firing.0 firing.1 due least) []) }
-    ensures kept { IsWord32 firing.1 × IsWord64 due × (least < 2 ^ 128) }
+    ensures kept { (firing.1 < 2 ^ 32) × (due < 2 ^ 64) × (least < 2 ^ 128) }
 {
     let (transition, number) = firing;
     let name = net.transitions()[transition.index as usize].name.as_str();

@@ -1,9 +1,6 @@
 pub mod BackwardEquations
 pub mod BackwardSolutions
 pub mod Floats
-pub mod JointInputs
-pub mod LateDues
 pub mod LatestExist
 pub mod MetByStarts
-pub mod ShiftedDues
 pub mod ShownByWalks

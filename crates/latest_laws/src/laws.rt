@@ -3,9 +3,7 @@
 ghost use Rattle.latest_laws.specs.BackwardEquations.{LatestDatesAreGreatestInTime, LatestDatesAreLastInTime, LatestDatesAreLeastAhead};
 ghost use Rattle.latest_laws.specs.BackwardSolutions.{LatestDatesAreOne, LatestDatesExist, SolutionsAreLatestDates};
 ghost use Rattle.latest_laws.specs.Floats.{InputsMeetByFloats, LatestDatesAreFeasible, LatestDatesAreGreatest};
-ghost use Rattle.latest_laws.specs.JointInputs.{EarlierInputsMeet, InputsMeetUpToLatest, LaterInputsAreInputs, LaterInputsMeet};
 ghost use Rattle.latest_laws.specs.MetByStarts.{ZeroInputsMeetByAllStarts, ZeroInputsMeetByStarts};
-ghost use Rattle.latest_laws.specs.ShiftedDues.{LateDuesAreMet, LaterDuesLaterLatest, ShiftedDuesShiftLatest};
 ghost use Rattle.latest_laws.specs.ShownByWalks.{LateWalksBound, LateWalksRefuse, TightWalksBound};
 
 /// A tight walk bounds: no feasible dating that keeps the due dates comes to the first firing of a
@@ -21,15 +19,6 @@ pub fn tight_walks_bound()
 pub fn late_walks_refuse()
     ensures bound { LateWalksBound }
     ensures refuse { LateWalksRefuse }
-{}
-
-/// Inputs meet together: the later of two inputs that meet the due dates are inputs that meet them,
-/// so there can be latest ones; and in a live net so do all inputs that come no later than some
-/// that do (chapter 5). Liveness is asked for there to be a least dating under the earlier inputs.
-pub fn inputs_meet_together()
-    ensures inputs { LaterInputsAreInputs }
-    ensures later { LaterInputsMeet }
-    ensures earlier { EarlierInputsMeet }
 {}
 
 /// Where inputs meet the due dates, the latest dates are a feasible dating under them that keeps
@@ -70,14 +59,6 @@ pub fn latest_dates_are_solutions()
     ensures solutions { SolutionsAreLatestDates }
 {}
 
-/// In a live net where inputs at 0 meet the due dates, inputs meet them just where they come no
-/// later than the latest dates (chapter 5). Where those at 0 do not, none do, though some may come
-/// before the latest dates: all do where just a transition that no input leads to is due, at 0 at
-/// its second firing, on a circuit of hold 1 and one token.
-pub fn inputs_meet_up_to_latest()
-    ensures { InputsMeetUpToLatest }
-{}
-
 /// Starts tell whether due dates can be met: in a live net, inputs at 0 meet due dates up to a
 /// number just where no latest date up to there is before the start of its firing, which is 0 or
 /// the ready date of an initial token that it takes (chapter 5). So a table of latest dates shows
@@ -88,18 +69,4 @@ pub fn inputs_meet_up_to_latest()
 pub fn zero_inputs_meet_by_starts()
     ensures numbered { ZeroInputsMeetByStarts }
     ensures endless { ZeroInputsMeetByAllStarts }
-{}
-
-/// Latest dates move with the due dates: later due dates have later latest dates, and due dates so
-/// much later have latest dates just so much later (chapter 5).
-pub fn latest_dates_move_with_dues()
-    ensures later { LaterDuesLaterLatest }
-    ensures shifted { ShiftedDuesShiftLatest }
-{}
-
-/// Late due dates are met: due dates of a live net up to some number, each moved by the same far
-/// enough, are met by inputs at 0 (chapter 5). Due dates without an end need not be, however late:
-/// where each firing on a circuit of hold 1 and one token is due at one date, most are late.
-pub fn late_due_dates_are_met()
-    ensures { LateDuesAreMet }
 {}

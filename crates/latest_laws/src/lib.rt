@@ -3,18 +3,16 @@
 //!
 //! The latest dates solve equations that go back from the firings ahead, in a live net alone; they
 //! are a feasible dating, the greatest that keeps the due dates; inputs meet the due dates just
-//! where no float is negative, and just up to the latest dates; and a walk shows by itself that a
-//! date is bound or that a firing is late. Each law is the contract of a function that does nothing
-//! when it runs. The crate stands on `due_laws` for due and latest dates, on `dating_laws` for
-//! datings beside each other, on `teg_model` for datings, on `teg_net` for walks and on `dioid` for
-//! dates; no crate of the program stands on it.
+//! where no float is negative; and a walk shows by itself that a date is bound or that a firing is
+//! late. Each law is the contract of a function that does nothing when it runs. The crate stands on
+//! `due_laws` for due and latest dates, on `teg_model` for datings, on `teg_net` for walks and on
+//! `dioid` for dates; no crate of the program stands on it.
 #![tactic(auto)]
 
 mod laws;
 
 pub use laws::{
-    inputs_meet_by_floats, inputs_meet_together, inputs_meet_up_to_latest, late_due_dates_are_met,
-    late_walks_refuse, latest_dates_are_feasible, latest_dates_are_solutions,
-    latest_dates_move_with_dues, latest_dates_solve_backwards, tight_walks_bound,
+    inputs_meet_by_floats, late_walks_refuse, latest_dates_are_feasible,
+    latest_dates_are_solutions, latest_dates_solve_backwards, tight_walks_bound,
     zero_inputs_meet_by_starts,
 };

@@ -1,5 +1,6 @@
 //! Plans as datings: the latest dates beside the earliest.
 ghost use Rattle.std.specs.Prelude.{ℕ, pos, ◌<◌, ◌≤◌, ◌≡◌, ◌↔◌, Some, length};
+ghost use Rattle.due_changes.specs.ShiftedDues.{later_due};
 ghost use Rattle.due_laws.specs.LatestDates.{AreLatestDates, IsLateWalk, IsTightWalk};
 ghost use Rattle.due_laws.specs.MeetingDueDates.{inputs_at_zero, AreInputs, InputsMeet, KeepsDues};
 ghost use Rattle.latest_laws.specs.BackwardEquations.{IsLeastAhead};
@@ -7,7 +8,6 @@ ghost use Rattle.latest_laws.specs.BackwardSolutions.{AreDueUpTo};
 ghost use Rattle.latest_laws.specs.Floats.{IsAtMostOn};
 ghost use Rattle.planning_laws.specs.GivenInputs.{AreGiven, AreInTime, MeetsFrom};
 ghost use Rattle.latest_laws.specs.MetByStarts.{StartsAreKept};
-ghost use Rattle.latest_laws.specs.ShiftedDues.{later_due};
 ghost use Rattle.teg_check.specs.Ranks.{IsRanking};
 ghost use Rattle.teg_due.specs.RowRules.{due_in};
 ghost use Rattle.teg_jit.specs.Plans.{dates_of_plan, IsPlanFor};
@@ -21,11 +21,13 @@ use dating_laws::{
     feasible_datings_meet, later_releases_lead_to_later_dates, no_shift_grows,
     releases_are_superposed,
 };
+use due_changes::{
+    inputs_meet_together, inputs_meet_up_to_latest, late_due_dates_are_met,
+    latest_dates_move_with_dues,
+};
 use latest_laws::{
-    inputs_meet_by_floats, inputs_meet_together, inputs_meet_up_to_latest, late_due_dates_are_met,
-    late_walks_refuse, latest_dates_are_feasible, latest_dates_are_solutions,
-    latest_dates_move_with_dues, latest_dates_solve_backwards, tight_walks_bound,
-    zero_inputs_meet_by_starts,
+    inputs_meet_by_floats, late_walks_refuse, latest_dates_are_feasible, latest_dates_are_solutions,
+    latest_dates_solve_backwards, tight_walks_bound, zero_inputs_meet_by_starts,
 };
 use planning_laws::given_inputs_meet_in_time;
 use teg_check::{Live, ranked_nets_are_live};

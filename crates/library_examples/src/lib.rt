@@ -45,6 +45,4 @@ mod texts;
 #[cfg(test)]
 mod usage;
 #[cfg(test)]
-mod witnesses;
-#[cfg(test)]
 mod words;

@@ -13,7 +13,7 @@ use Rattle.due_laws.specs.MeetingDueDates.{AreInputs, AreLatestInputs, InputsMee
 use Rattle.due_laws.specs.LatestDates.{AreLatestDates}
 use Rattle.planning_laws.specs.GivenInputs.{AreGiven, AreInTime, MeetsFrom, GivenInputsMeetInTime, LatestGoOnFromGiven, given_then}
 use Rattle.due_laws.proofs.LatestInputs.{latest_dates_are_inputs}
-use Rattle.latest_laws.proofs.JointInputs.{meet_up_to_latest}
+use Rattle.due_changes.proofs.JointInputs.{meet_up_to_latest}
 
 module _ (n : ℕ → ℕ) (given y : Dating) where
   as_given : (t k : ℕ) → k ≤ n t → given_then n given y t k ≡ given t k

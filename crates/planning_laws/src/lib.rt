@@ -7,7 +7,8 @@
 //! the latest dates tell what may still come. Each law is the contract of a
 //! function that does nothing when it runs. The crate stands on `workable_laws` for timetables, on
 //! `teg_critical` for slack, on `growth_laws` for slopes, on `dating_laws` and `io_laws` for
-//! releases, on `latest_laws` and `due_laws` for latest dates, and on what they stand on; no crate of the program stands on it.
+//! releases, on `due_changes` and `due_laws` for latest dates, and on what they stand on; no crate of
+//! the program stands on it.
 #![tactic(auto)]
 
 mod laws;

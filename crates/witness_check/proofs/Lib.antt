@@ -1,5 +1,2 @@
-mod Bounding
 mod Lowest
-mod PathSums
-mod Paces
 mod Climbing

@@ -5,7 +5,7 @@ ghost use Rattle.teg_net.specs.Circuits.{AreInRange, BeginsLowest, from_of};
 use teg_net::{Net, PlaceId};
 
 // The number of the transition that the place leaves.
-pub(crate) fn from_of(net: &Net, place: PlaceId) -> u32
+fn from_of(net: &Net, place: PlaceId) -> u32
     requires { place.index < length net.now.places }
     ensures { result ≡ from_of net.now place }
 {

@@ -3,7 +3,6 @@ ghost use Rattle.std.specs.Prelude.{◌≡◌, IfOk, IsTrue, string_bytes};
 ghost use Rattle.teg_net.specs.Circuits.{AreInRange, IsLive};
 ghost use Rattle.witness_check.specs.Liveness.{deadlock_text, TellsDeadlock};
 
-use crate::beginnings::is_just;
 use crate::names::places_named;
 use std::alloc::{AllocError, Global};
 use teg_certificates::shows_deadlock as is_deadlock;
@@ -40,5 +39,5 @@ pub fn shows_deadlock(alloc: Global, net: &Net, text: &str) -> Result<bool, OutO
     }
     let circuit = Circuit { places };
     let line = told(alloc, net, &circuit)?;
-    Ok(is_just(text, line.as_str()))
+    Ok(text == line.as_str())
 }

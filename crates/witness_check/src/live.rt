@@ -4,7 +4,6 @@ ghost use Rattle.teg_net.specs.Circuits.{IsLive};
 ghost use Rattle.teg_text.specs.Lines.{written};
 ghost use Rattle.witness_check.specs.Liveness.{TellsLive, live_words};
 
-use crate::beginnings::is_just;
 use crate::climbs::rising_numbers;
 use std::alloc::{AllocError, Global};
 use teg_net::{Net, OutOfMemory};
@@ -39,5 +38,5 @@ pub fn shows_live(alloc: Global, net: &Net, text: &str) -> Result<bool, OutOfMem
         return Ok(false);
     }
     let lines = told(alloc, net.transitions().len(), net.places().len())?;
-    Ok(is_just(text, lines.as_str()))
+    Ok(text == lines.as_str())
 }

@@ -25,8 +25,9 @@ pub fn places_named(
     Ok(Some(places))
 }
 
-// A ratio that is told as time/tokens.
-pub(crate) fn ratio_in(word: &str) -> Option<Ratio> {
+/// The ratio that a word tells as time/tokens; none where it tells none. Nothing rests on it: who reads
+/// a text so looks at it, and prints the word anew. It takes no memory.
+pub fn ratio_in(word: &str) -> Option<Ratio> {
     let (time, tokens) = word.split_once('/')?;
     let time: u64 = time.parse().ok()?;
     let tokens: u64 = tokens.parse().ok()?;

@@ -1,10 +1,10 @@
 //! Delays that a timetable keeps.
 use delay_check::shown_kept;
 use delay_laws::{Delay, Timetable};
-use example_nets::ask_net;
+use example_nets::read;
 use std::alloc::{AllocError, Global};
 use std::test::Fail;
-use teg_net::{Net, TransitionId};
+use teg_net::{Net, OutOfMemory, TransitionId};
 
 pub(crate) const RAILWAY: &[u8] =
     b"transition = [{ name = \"North\" }, { name = \"Centre>North\" }, { name = \"Centre>South\" }, { name = \"South\" }]
@@ -27,6 +27,9 @@ delays Centre>South 0 5 5
 delays South 0 5 5
 ";
 
+// A period and a delay, a text, and what this shows of the railway.
+pub(crate) type Told = (u64, u64, &'static str, Option<u64>);
+
 // The timetable of the railway, with the first train from North late by so much, or on time.
 pub(crate) fn table(alloc: Global, by: u64) -> Result<Timetable, AllocError> {
     let mut delays = Vec::new(alloc);
@@ -42,6 +45,34 @@ pub(crate) fn table(alloc: Global, by: u64) -> Result<Timetable, AllocError> {
         firsts: Vec::from_slice(alloc, &[0, 3, 0, 15])?,
         delays,
     })
+}
+
+// What the checker tells of the text of a row.
+fn told_of<F>(alloc: Global, row: &Told, checker: &F) -> Result<Option<u64>, Fail>
+where
+    F: Fn(Global, &Net, u64, &Timetable, &str) -> Result<Option<u64>, OutOfMemory>,
+    requires { F.IsAlwaysCallable checker.now }
+{
+    let (period, by, text, _) = *row;
+    let railway = read(alloc, RAILWAY)?;
+    let table = table(alloc, by)?;
+    let told = checker(alloc, &railway, period, &table, text);
+    Ok(told?)
+}
+
+// Whether the checker tells of all rows what they say; otherwise the text of the first of which it
+// does not.
+pub(crate) fn tells_rows<F>(alloc: Global, rows: &[Told], checker: &F) -> Result<(), Fail>
+where
+    F: Fn(Global, &Net, u64, &Timetable, &str) -> Result<Option<u64>, OutOfMemory>,
+    requires { F.IsAlwaysCallable checker.now }
+{
+    for row in rows {
+        if told_of(alloc, row, checker)? != row.3 {
+            return Err(Fail::new(row.2));
+        }
+    }
+    Ok(())
 }
 
 // The first lines alone.
@@ -142,7 +173,7 @@ circuit south_down south_up
 ";
 
 // Periods, delays, texts, and how many places has the circuit that these show.
-const TEXTS: [(u64, u64, &str, Option<usize>); 18] = [
+const TEXTS: [Told; 18] = [
     (30, 10, KEPT, Some(2)),
     // Other delays are left of another one; the plan leaves 5 of them to spare on the way to
     // Centre>South.
@@ -166,32 +197,21 @@ const TEXTS: [(u64, u64, &str, Option<usize>); 18] = [
     (30, 10, HUGE, None),
 ];
 
-// Whether the text of a row shows such a circuit of the railway.
-fn is_so(
+// How many places has the circuit that the text shows.
+fn kept_places(
     alloc: Global,
     railway: &Net,
-    row: &(u64, u64, &str, Option<usize>),
-) -> Result<bool, Fail> {
-    let (period, by, text, places) = *row;
-    let table = table(alloc, by)?;
-    let shown = shown_kept(alloc, railway, period, &table, text)?;
-    Ok(match shown {
-        Some(circuit) => places == Some(circuit.places.len()),
-        None => places.is_none(),
+    period: u64,
+    table: &Timetable,
+    text: &str,
+) -> Result<Option<u64>, OutOfMemory> {
+    Ok(match shown_kept(alloc, railway, period, table, text)? {
+        Some(circuit) => Some(circuit.places.len() as u64),
+        None => None,
     })
-}
-
-// Whether all do as they say; otherwise the text of the first that does not.
-fn are_so(alloc: Global, railway: &Net) -> Result<(), Fail> {
-    for row in &TEXTS {
-        if !is_so(alloc, railway, row)? {
-            return Err(Fail::new(row.2));
-        }
-    }
-    Ok(())
 }
 
 #[test]
 fn kept_delays_are_shown(rt: HostRuntime) -> Result<(), Fail> {
-    ask_net(rt.alloc(), RAILWAY, are_so)
+    tells_rows(rt.alloc(), &TEXTS, &kept_places)
 }

@@ -1,7 +1,7 @@
-//! Examples of `dating_check`, `delay_check` and `answer_check`: texts of the guide that show their
-//! dates, latest dates, late rows, and delays that stay or die out, and the same texts with a digit
-//! changed, which show nothing; of `release_nets`, by the dates of such a net; and whole calls of
-//! `answer_audit`. The crate has tests alone; those of the other answers stand in `library_examples`.
+//! Examples of the checkers of printed answers: texts of the guide that show that a net is live or
+//! not, paces, sizes, dates, latest dates, late rows, lists, slacks, and delays that stay or die out,
+//! and the same texts with a digit changed, which show nothing; of `release_nets`, by the dates of
+//! such a net; and whole calls of `answer_audit`. The crate has tests alone.
 #![tactic(auto)]
 
 #[cfg(test)]
@@ -20,3 +20,5 @@ mod recovered_delays;
 mod settled_texts;
 #[cfg(test)]
 mod tables;
+#[cfg(test)]
+mod witnesses;

@@ -1,10 +1,7 @@
 //! Delays of a timetable that die out.
-use crate::kept_delays::{RAILWAY, table};
+use crate::kept_delays::{Told, tells_rows};
 use delay_check::shown_recovered;
-use example_nets::ask_net;
-use std::alloc::Global;
 use std::test::Fail;
-use teg_net::Net;
 
 const OVER: &str = "settled after 3 period 1
 recovered after 3
@@ -163,7 +160,7 @@ delays South 0 3 1 0
 ";
 
 // The number after which these show that no delay is left, by period, delay and text.
-const TEXTS: [(u64, u64, &str, Option<u64>); 28] = [
+const TEXTS: [Told; 28] = [
     (32, 10, OVER, Some(3)),
     (31, 10, SLOWER, Some(5)),
     (32, 0, ON_TIME, Some(0)),
@@ -196,25 +193,7 @@ const TEXTS: [(u64, u64, &str, Option<u64>); 28] = [
     (32, 10, HUGE_LAST, None),
 ];
 
-// Whether the text of a row shows so of the railway.
-fn is_so(alloc: Global, railway: &Net, row: &(u64, u64, &str, Option<u64>)) -> Result<bool, Fail> {
-    let (period, by, text, last) = *row;
-    let table = table(alloc, by)?;
-    let shown = shown_recovered(alloc, railway, period, &table, text);
-    Ok(shown? == last)
-}
-
-// Whether all do as they say; otherwise the text of the first that does not.
-fn are_so(alloc: Global, railway: &Net) -> Result<(), Fail> {
-    for row in &TEXTS {
-        if !is_so(alloc, railway, row)? {
-            return Err(Fail::new(row.2));
-        }
-    }
-    Ok(())
-}
-
 #[test]
 fn delays_that_die_out_are_shown(rt: HostRuntime) -> Result<(), Fail> {
-    ask_net(rt.alloc(), RAILWAY, are_so)
+    tells_rows(rt.alloc(), &TEXTS, &shown_recovered)
 }

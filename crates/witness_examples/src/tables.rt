@@ -6,7 +6,8 @@ use std::test::Fail;
 use teg_due::Due;
 use teg_net::{Net, OutOfMemory};
 
-const PLAN: &str = "latest inputs for 3 firings
+// What `jit` tells of the shop where the second part is due to be shipped at 40.
+pub(crate) const PLAN: &str = "latest inputs for 3 firings
 input material 1 15 by feed
 input material 2 22 by feed
 input material 3 29 by feed

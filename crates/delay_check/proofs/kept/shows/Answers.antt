@@ -6,9 +6,7 @@ pub returns : goal.returns
 returns c = λ yes.
     let p = c.args.planned.now in
     record {
+      planned = p.kept;
       told = c.in_ok-tells.ensures yes;
-      live = p.kept.live;
-      table_of = p.kept.table;
-      workable = p.kept.workable;
       keeps = subst (KeepsWhatIsLeft p.net.now p.period p.table.now) c.as_slice-places.ensures.value (c.if-not-keeps_delays.ensures refl);
     }

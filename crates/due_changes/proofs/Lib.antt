@@ -1,0 +1,3 @@
+pub mod JointInputs
+pub mod LateDues
+pub mod ShiftedDues

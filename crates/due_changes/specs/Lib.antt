@@ -1,0 +1,2 @@
+pub mod JointInputs
+pub mod ShiftedDues

@@ -1,5 +1,0 @@
-use Rattle.latest_laws.proofs.JointInputs.{later_inputs, later_meet, earlier_meet}
-use Rattle.latest_laws.proofs.laws.inputs_meet_together.Goals as goal
-
-pub returns : goal.returns
-returns c = record { inputs = later_inputs; later = later_meet; earlier = earlier_meet }

@@ -1,5 +1,0 @@
-use Rattle.latest_laws.proofs.LateDues.{late_dues_met}
-use Rattle.latest_laws.proofs.laws.late_due_dates_are_met.Goals as goal
-
-pub returns : goal.returns
-returns c = late_dues_met

@@ -1,5 +1,0 @@
-use Rattle.latest_laws.proofs.ShiftedDues.{later_dues, shifted_dues}
-use Rattle.latest_laws.proofs.laws.latest_dates_move_with_dues.Goals as goal
-
-pub returns : goal.returns
-returns c = record { later = later_dues; shifted = shifted_dues }

@@ -1,0 +1,2 @@
+mod PathSums
+mod Paces

@@ -1,0 +1,3 @@
+pub mod PathSums
+pub mod ShownCycles
+pub mod ShownSizes

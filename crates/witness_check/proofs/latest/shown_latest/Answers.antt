@@ -1,5 +1,0 @@
-use Rattle.std.proofs.Common.{rules, refl}
-use Rattle.witness_check.proofs.latest.shown_latest.Goals as goal
-
-pub returns : goal.returns
-returns c = (search rules, c.if-not-bounds.ensures refl)
