@@ -29,6 +29,7 @@ mod table_reading;
 mod ways;
 
 pub use first_late::shown_first_late;
+pub use least_rows::least_dates;
 pub use refuted_table::refutes_table;
 pub use settled::{ShownSettled, shown_settled};
 pub use table::shown_table;

@@ -1,6 +1,6 @@
-//! Examples of `dating_check`, `delay_check` and `answer_check`: texts of the guide that show their
-//! dates, latest dates, late rows, and delays that stay or die out, and the same texts with a digit
-//! changed, which show nothing; of `release_nets`, by the dates of such a net; and whole calls of
+//! Examples of `dating_check`, `delay_check`, `bound_check` and `answer_check`: texts of the guide that
+//! show their dates, latest dates, late rows, bounds, and delays that stay or die out, and the same
+//! texts with a digit changed, which show nothing; of `release_nets`, by the dates of such a net; and whole calls of
 //! `answer_audit`. The crate has tests alone; those of the other answers stand in `library_examples`.
 #![tactic(auto)]
 
@@ -8,6 +8,10 @@
 mod answers;
 #[cfg(test)]
 mod audits;
+#[cfg(test)]
+mod bound_audits;
+#[cfg(test)]
+mod bounds;
 #[cfg(test)]
 mod kept_delays;
 #[cfg(test)]
