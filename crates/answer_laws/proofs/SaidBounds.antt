@@ -88,7 +88,7 @@ module _ (net : NetLists) (rules : IsNet net) (live : IsLive net) where
 
   cause_said : (text : List ℕ) (cause : WhyNone) → IsShownBound net text (Without cause) → SaysNoNumber net text
   cause_said text HasInputs h = (InputsAnswer, record {}, is_input net h.right, h.told)
-  cause_said text NoPlace h = (PlaceAnswer, record {}, ((λ t i. h.right.0 (input_is_some net t i)), nil_from_length h.right.1), h.told)
+  cause_said text NoPlace h = (PlaceAnswer, record {}, ((λ t i. h.right.0 (input_is_some net t i)), nil_from_length net.places h.right.1), h.told)
   cause_said text NotStrong h =
       let way = h.right.1 in
       (StrongAnswer, record {}, (alone_said net h.right.0, record { from = way.from; to = way.to; from_in = way.from_in; to_in = way.to_in; none = way.none }), h.told)
@@ -141,4 +141,4 @@ module _ (net : NetLists) (rules : IsNet net) (live : IsLive net) where
   shown text (inr s) = by_cause text s.0 s.1 s.2 s.3
 
 pub bounds_said : ShownBoundsAreSaid
-bounds_said net text rules = (λ s. (s.1.live, refl, said net rules s.1.live text s.0 s.1), λ s. shown net rules s.0 text s.1.1)
+bounds_said net text rules = (λ s. (s.1.live, (refl, said net rules s.1.live text s.0 s.1)), λ s. shown net rules s.0 text s.1.1)

@@ -1,5 +1,6 @@
 -- One answer only is right to tell of a net.
-use Rattle.std.proofs.Common.{ℕ, true, false, ◌==◌, ◌<◌, ◌≡◌, ◌^◌, List, [], ◌∷◌, length, get_or, refl, sym, ap, ◌∙◌, arith}
+use Rattle.std.proofs.Common.{ℕ, Bool, IsTrue, ◌↔◌, true, false, ◌==◌, ◌<◌, ◌≡◌, ◌^◌, List, [], ◌∷◌, length, get_or, refl, sym, ap, ◌∙◌, arith}
+use Rattle.std.proofs.lemmas.Bool.{iff_false}
 use Rattle.bound_laws.specs.Critical.{EachReachesEach}
 use Rattle.teg_net.specs.Circuits.{IsLive}
 use Rattle.teg_net.specs.Nets.{NetLists}
@@ -9,7 +10,7 @@ use Rattle.bound_check.specs.declared.bound.ShownBound.TheVariants.{Number, With
 use Rattle.bound_check.specs.declared.cause.WhyNone.{WhyNone}
 use Rattle.bound_check.specs.declared.cause.WhyNone.TheVariants.{HasInputs, NoPlace, NotStrong, ReadyDates}
 use Rattle.bound_check.specs.Formulas.{CanBeBounded, IsBoundNumber, StandsAlone}
-use Rattle.bound_check.specs.ShownBounds.{IsFirstCause, IsShownBound, LacksPath, SettlesBy, number_lines, words_of_cause}
+use Rattle.bound_check.specs.ShownBounds.{IsFirstCause, IsShownBound, LacksPath, SettlesBy, ShowsNoCause, number_lines, words_of_cause}
 
 -- ---- what excludes each other
 
@@ -61,6 +62,17 @@ other_text net text c right other (Number number after period) h = no_cause net 
 other_text net text c right other (Without cause) h =
     let same : cause ≡ c = one_cause net cause c h.right right in
     other (h.told ∙ ap (λ (x : WhyNone). written (words_of_cause x ∷ [])) same)
+
+-- nor is another cause
+pub hidden_cause : (net : NetLists) (text : List ℕ) (c : WhyNone) (told : Bool) → IsFirstCause net c → IsTrue told ↔ (text ≡ written (words_of_cause c ∷ [])) → told ≡ false
+    → ShowsNoCause net text
+hidden_cause net text c told right same no = λ cause h. other_text net text c right (iff_false same no) (Without cause) h
+
+pub bounded_shows_none : (net : NetLists) (text : List ℕ) → CanBeBounded net → ShowsNoCause net text
+bounded_shows_none net text bounded = λ cause h. no_cause net cause bounded h.right
+
+pub dead_shows_none : (net : NetLists) (text : List ℕ) (yes : Bool) → IsTrue yes ↔ IsLive net → yes ≡ false → ShowsNoCause net text
+dead_shows_none net text yes same no = λ cause h. iff_false same no h.live
 
 -- the line of a bound begins otherwise than that of a cause
 lines_differ : (number after period : ℕ) (c : WhyNone) → written (number_lines number after period) ≡ written (words_of_cause c ∷ []) → ⊥

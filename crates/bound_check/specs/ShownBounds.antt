@@ -67,6 +67,10 @@ pub record IsShownBound (net : NetLists) (text : List ℕ) (shown : ShownBound) 
   pub width : IsInWidth shown
   pub told : text ≡ written (lines_of_bound shown)
 
+-- the text is not shown to tell a cause
+abbrev pub ShowsNoCause : NetLists → List ℕ → Type 0
+ShowsNoCause net text = (cause : WhyNone) → IsShownBound net text (Without cause) → ⊥
+
 -- the net is live, and the text tells nothing that is so
 pub record IsRefutedBound (net : NetLists) (text : List ℕ) : Type 0 where
   pub live : IsLive net

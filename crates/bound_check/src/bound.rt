@@ -1,10 +1,10 @@
 //! The witness of `teg bound`: rows of dates, and a circuit and potentials, which its text does not
 //! tell.
-ghost use Rattle.std.specs.Prelude.{◌≡◌, ◌∷◌, ◌<◌, ◌^◌, ◌↔◌, [], IfOk, IfSome, IsTrue};
+ghost use Rattle.std.specs.Prelude.{◌≡◌, ◌∷◌, ◌<◌, ◌^◌, ◌↔◌, [], IfNone, IfOk, IfSome, IsTrue};
 ghost use Rattle.teg_net.specs.Circuits.{IsLive};
 ghost use Rattle.teg_text.specs.Lines.{written};
 ghost use Rattle.bound_check.specs.Formulas.{CanBeBounded, IsBoundNumber};
-ghost use Rattle.bound_check.specs.ShownBounds.{IsFirstCause, IsRefutedBound, IsShownBound, SettlesBy, number_lines, words_of_cause};
+ghost use Rattle.bound_check.specs.ShownBounds.{IsFirstCause, IsRefutedBound, IsShownBound, SettlesBy, ShowsNoCause, number_lines, words_of_cause};
 
 use crate::cause::{WhyNone, cause_of};
 use crate::formula::{is_number, most_told};
@@ -127,7 +127,7 @@ fn tells_numbers(
 fn shown_number(alloc: Global, net: &Net, text: &str) -> Result<Option<ShownBound>, OutOfMemory>
     requires live { IsLive net.now }
     requires bounded { CanBeBounded net.now }
-    ensures { IfOk result (λ shown. IfSome shown (IsShownBound net.now text.now)) }
+    ensures shown { IfOk result (λ shown. IfSome shown (IsShownBound net.now text.now)) }
 {
     let Some(told) = numbers_in(alloc, text)? else {
         return Ok(None);
@@ -154,10 +154,12 @@ fn tells_cause(cause: WhyNone, text: &str) -> bool
 }
 
 // The cause, where the text tells it.
+#[tactic(auto, using(crate::proofs::OneAnswer::hidden_cause))]
 fn shown_cause(net: &Net, cause: WhyNone, text: &str) -> Option<ShownBound>
     requires live { IsLive net.now }
     requires cause { IsFirstCause net.now cause }
-    ensures { IfSome result (IsShownBound net.now text.now) }
+    ensures shown { IfSome result (IsShownBound net.now text.now) }
+    ensures none { IfNone result (ShowsNoCause net.now text.now) }
 {
     if tells_cause(cause, text) {
         Some(ShownBound::Without { cause })
@@ -166,17 +168,34 @@ fn shown_cause(net: &Net, cause: WhyNone, text: &str) -> Option<ShownBound>
     }
 }
 
+// The same, of a net that can be bounded: no cause is shown of it.
+#[tactic(auto, using(crate::proofs::OneAnswer::bounded_shows_none))]
+fn shown_without_cause(
+    alloc: Global,
+    net: &Net,
+    text: &str,
+) -> Result<Option<ShownBound>, OutOfMemory>
+    requires live { IsLive net.now }
+    requires bounded { CanBeBounded net.now }
+    ensures shown { IfOk result (λ shown. IfSome shown (IsShownBound net.now text.now)) }
+    ensures none { ShowsNoCause net.now text.now }
+{
+    shown_number(alloc, net, text)
+}
+
 /// What the text of `teg bound` tells, where the whole text is shown to be right (chapter 3): the
 /// net is seen to be live, and it is the first cause why it has no bound; or the net has none of
 /// them, the number is that of its bound, at the greatest ratio of its circuits, and number and
 /// period of the second line are those of the shortest settled form of its least dating. Rows of
 /// dates are found for that, and the ratio by them, with a circuit and potentials. A form for which
 /// more than 100,000 rows have to be found, those up to its number, two periods and the most tokens
-/// of a place, is not shown. It takes memory for the rows, at most 1.3 GB for a net of 400
+/// of a place, is not shown; a right cause always is. It takes memory for the rows, at most 1.3 GB for a net of 400
 /// transitions, and time of the order transitions times places a row. `OutOfMemory` comes only where
 /// no memory is found.
+#[tactic(auto, using(crate::proofs::OneAnswer::dead_shows_none))]
 pub fn shown_bound(alloc: Global, net: &Net, text: &str) -> Result<Option<ShownBound>, OutOfMemory>
-    ensures { IfOk result (λ shown. IfSome shown (IsShownBound net.now text.now)) }
+    ensures shown { IfOk result (λ shown. IfSome shown (IsShownBound net.now text.now)) }
+    ensures causes { IfOk result (λ shown. IfNone shown (ShowsNoCause net.now text.now)) }
 {
     if !is_seen_live(alloc, net)? {
         return Ok(None);
@@ -184,7 +203,7 @@ pub fn shown_bound(alloc: Global, net: &Net, text: &str) -> Result<Option<ShownB
     let parts = split(alloc, net)?;
     match cause_of(net, &parts) {
         Some(cause) => Ok(shown_cause(net, cause, text)),
-        None => shown_number(alloc, net, text),
+        None => shown_without_cause(alloc, net, text),
     }
 }
 
