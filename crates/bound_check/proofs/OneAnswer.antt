@@ -66,13 +66,13 @@ other_text net text c right other (Without cause) h =
 -- nor is another cause
 pub hidden_cause : (net : NetLists) (text : List ℕ) (c : WhyNone) (told : Bool) → IsFirstCause net c → IsTrue told ↔ (text ≡ written (words_of_cause c ∷ [])) → told ≡ false
     → ShowsNoCause net text
-hidden_cause net text c told right same no = λ cause h. other_text net text c right (iff_false same no) (Without cause) h
+hidden_cause net text c told right same other = λ cause h. other_text net text c right (iff_false same other) (Without cause) h
 
 pub bounded_shows_none : (net : NetLists) (text : List ℕ) → CanBeBounded net → ShowsNoCause net text
 bounded_shows_none net text bounded = λ cause h. no_cause net cause bounded h.right
 
-pub dead_shows_none : (net : NetLists) (text : List ℕ) (yes : Bool) → IsTrue yes ↔ IsLive net → yes ≡ false → ShowsNoCause net text
-dead_shows_none net text yes same no = λ cause h. iff_false same no h.live
+pub dead_shows_none : (net : NetLists) (text : List ℕ) (seen : Bool) → IsTrue seen ↔ IsLive net → seen ≡ false → ShowsNoCause net text
+dead_shows_none net text seen same dead = λ cause h. iff_false same dead h.live
 
 -- the line of a bound begins otherwise than that of a cause
 lines_differ : (number after period : ℕ) (c : WhyNone) → written (number_lines number after period) ≡ written (words_of_cause c ∷ []) → ⊥
