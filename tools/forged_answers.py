@@ -4,7 +4,7 @@
     tools/forged_answers.py [--teg PATH] [--runner PATH]
 
 PATH is the built program, or that of the checker; where none is named it is the one that `rt ci` leaves. Sixteen nets, those of
-examples/, drawn ones and one without a circuit, are asked some hundred and fifty questions of the commands that the checker
+examples/, drawn ones and one without a circuit, are asked some hundred and seventy questions of the commands that the checker
 reads. Of each answer a number, a name, a word or a line is changed, left out, doubled or moved, one at a time, and each text is
 handed to the checker.
 
@@ -93,6 +93,7 @@ def questions(net, folder):
     yield ["dates", net], []
     yield ["list", net, "3"], []
     yield ["slack", net], []
+    yield ["bound", net], []
     if places:
         yield ["size", net, places[-1], "5/1"], []
     if asked:

@@ -18,7 +18,7 @@ Each file of examples/ is named by a command of the guide, a script of examples/
 that takes a net alone, by the usage, answers for each net there: with status 0, or, where the net is refused, as `check`
 does.
 
-With --witnesses each answer of `check`, `list`, `cycle`, `dates`, `slack`, `size`, `jit` and `timetable` that a command of
+With --witnesses each answer of `check`, `list`, `cycle`, `dates`, `slack`, `size`, `bound`, `jit` and `timetable` that a command of
 the guide asks for is handed to the program witness_runner that `rt ci` leaves, which has to tell it as shown, and then with
 one number of it made greater by one, or of a circuit that stands without numbers or keeps delays with the last place left
 out, which has to be told as not shown or refuted.
@@ -36,14 +36,15 @@ from common import TOP, Status
 
 
 # What asks for an answer that a checker reads, and how such answers begin.
-ASKS = re.compile(r"\./(?:teg|try) (?:check|list|cycle|dates|slack|size|jit|timetable)(?: [\w./]+)+")
+ASKS = re.compile(r"\./(?:teg|try) (?:check|list|cycle|dates|slack|size|bound|jit|timetable)(?: [\w./]+)+")
 TABLE = "latest inputs for "
 SETTLED = "settled after "
 LISTED = "dates of "
 NO_CIRCUIT = "no circuit\n"
 SLACK = "\nplace "
+BOUND = "bound "
 KEPT = re.compile(r"settled after .*\nkept\n")
-CLAIMS = ("live\n", "refused: token-free circuit ", "cycle time ", NO_CIRCUIT, "size ", "late ", SETTLED, LISTED, TABLE)
+CLAIMS = ("live\n", "refused: token-free circuit ", "cycle time ", NO_CIRCUIT, "size ", BOUND, "no bound: ", "late ", SETTLED, LISTED, TABLE)
 
 
 def blocks_of(text):
@@ -84,7 +85,7 @@ def raised(line):
 
 def changed(text):
     """The answer with a number made greater by one, the last of a line: of the table of latest dates in each line that tells
-    a date, of settled dates, delays that die out, lists and slacks in each line, and else in the first line that has one. The
+    a date, of settled dates, delays that die out, lists, slacks and bounds in each line, and else in the first line that has one. The
     circuit of delays that are kept, and one that stands alone, loses its last place; that there is no circuit is told twice."""
     lines = text.splitlines(keepends=True)
     numbered = [at for at, line in enumerate(lines) if re.search(r" \d+\b", line)]
@@ -98,7 +99,7 @@ def changed(text):
         numbered = [at for at in numbered[1:] if not lines[at].endswith(" free\n")]
     elif not numbered:
         yield re.sub(r" \S+\n", "\n", text, count=1)
-    elif not text.startswith((SETTLED, LISTED)) and SLACK not in text:
+    elif not text.startswith((SETTLED, LISTED, BOUND)) and SLACK not in text:
         numbered = numbered[:1]
     for at in numbered:
         for other in raised(lines[at]):

@@ -16,6 +16,8 @@ use Rattle.dating_check.specs.ShownForms.{IsShownSettled}
 use Rattle.dating_check.specs.ShownTables.{IsShownTable}
 use Rattle.dating_check.specs.declared.settled.ShownSettled.{ShownSettled}
 use Rattle.delay_check.specs.ShownDelays.{IsShownKept, IsShownRecovered}
+use Rattle.bound_check.specs.ShownBounds.{IsShownBound}
+use Rattle.bound_check.specs.declared.bound.ShownBound.{ShownBound}
 use Rattle.answer_check.specs.NoCircuits.{IsShownNoCircuit}
 use Rattle.answer_check.specs.ShownDates.{IsShownDate}
 use Rattle.answer_check.specs.ShownLists.{IsShownList}
@@ -24,7 +26,7 @@ use Rattle.answer_check.specs.declared.date.ShownDate.{ShownDate}
 use Rattle.answer_audit.specs.declared.finding.Finding.{Finding}
 use Rattle.answer_audit.specs.declared.finding.Finding.TheVariants.{Shown, Refuted, NotShown, NoChecker}
 use Rattle.answer_audit.specs.declared.kinds.Alone.{Alone}
-use Rattle.answer_audit.specs.declared.kinds.Alone.TheVariants.{Live, Deadlock, Listed, NoCircuit, Slack, Cycle, Settled, Size}
+use Rattle.answer_audit.specs.declared.kinds.Alone.TheVariants.{Live, Deadlock, Listed, NoCircuit, Slack, Cycle, Settled, Size, Bound}
 
 -- the text is an answer of this kind that is shown on the net alone
 abbrev pub IsShownAlone : NetLists → Alone → List ℕ → Type 0
@@ -36,6 +38,7 @@ IsShownAlone net Slack text = (ratio : Fraction) × IsShownSlack net text ratio
 IsShownAlone net Cycle text = (ratio : Fraction) × IsShownPace net text ratio
 IsShownAlone net Settled text = (shown : ShownSettled) × IsShownSettled net text shown
 IsShownAlone net Size text = (shown : ShownSize) × IsLive net × IsShownSize net text shown
+IsShownAlone net Bound text = (shown : ShownBound) × IsShownBound net text shown
 
 -- the text is the table of latest dates for these due dates
 abbrev pub IsShownPlanFor : NetLists → List ℕ → Due → Type 0

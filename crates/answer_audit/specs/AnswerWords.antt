@@ -3,7 +3,7 @@ use Rattle.std.specs.Prelude.{ℕ, Bool, ◌==◌, ◌&&◌, List, [], Option, S
 use Rattle.std.specs.List.{slice_split}
 use Rattle.std.specs.Str.Lines.{lines}
 use Rattle.answer_audit.specs.declared.kinds.Alone.{Alone}
-use Rattle.answer_audit.specs.declared.kinds.Alone.TheVariants.{Live, Deadlock, Listed, NoCircuit, Slack, Cycle, Settled, Size}
+use Rattle.answer_audit.specs.declared.kinds.Alone.TheVariants.{Live, Deadlock, Listed, NoCircuit, Slack, Cycle, Settled, Size, Bound}
 use Rattle.answer_audit.specs.declared.kinds.Kind.{Kind}
 use Rattle.answer_audit.specs.declared.kinds.Kind.TheVariants.{OfNet, Plan, LateRow, OneDate, Kept, Recovered}
 use Rattle.answer_audit.specs.declared.question.Beside.{Beside}
@@ -24,7 +24,10 @@ is_deadlock_told first second = bytes_eq first (codes "refused:") && bytes_eq se
 
 -- an answer that begins with `no`, by its second word
 abbrev pub none_told : List ℕ → Option Alone
-none_told second = if bytes_eq second (codes "circuit") then Some NoCircuit else None
+none_told second =
+    if bytes_eq second (codes "circuit") then Some NoCircuit
+    else (if bytes_eq second (codes "bound:") then Some Bound
+    else None)
 
 -- an answer that begins with `cycle`, by the first word of its second line
 abbrev pub pace_told : List ℕ → Alone
@@ -39,7 +42,8 @@ told_alone first second below =
     else (if bytes_eq first (codes "cycle") then Some (pace_told below)
     else (if bytes_eq first (codes "settled") then Some Settled
     else (if bytes_eq first (codes "size") then Some Size
-    else None)))))
+    else (if bytes_eq first (codes "bound") then Some Bound
+    else None))))))
 
 -- the same among all kinds
 abbrev pub of_net : Option Alone → Option Kind

@@ -8,6 +8,7 @@ ghost use Rattle.answer_audit.specs.AnswerFindings.{IsFound, IsShownAlone};
 use crate::finding::Finding;
 use crate::kinds::Alone;
 use answer_check::{refutes_list, shown_list, shown_no_circuit, shown_slack};
+use bound_check::{refutes_bound, shown_bound};
 use dating_check::shown_settled;
 use pace_check::{shown_pace, shown_size};
 use std::alloc::{AllocError, Global};
@@ -122,6 +123,19 @@ fn size_finding(alloc: Global, net: &Net, text: &str) -> Result<Finding, OutOfMe
     }
 }
 
+// Of `bound`.
+fn bound_finding(alloc: Global, net: &Net, text: &str) -> Result<Finding, OutOfMemory>
+    ensures { IfOk result (IsFound net.now (IsShownAlone net.now Alone.Bound text.now)) }
+{
+    if shown_bound(alloc, net, text)?.is_some() {
+        Ok(Finding::Shown)
+    } else if refutes_bound(alloc, net, text)? {
+        Ok(Finding::Refuted)
+    } else {
+        Ok(Finding::NotShown)
+    }
+}
+
 // What is found in a live net.
 fn live_net_finding(
     alloc: Global,
@@ -141,6 +155,7 @@ fn live_net_finding(
         Alone::Cycle => cycle_finding(alloc, net, text),
         Alone::Settled => settled_finding(alloc, net, text),
         Alone::Size => size_finding(alloc, net, text),
+        Alone::Bound => bound_finding(alloc, net, text),
     }
 }
 

@@ -3,7 +3,7 @@ ghost use Rattle.std.specs.Prelude.{◌≡◌, ◌++◌, IfOk, map, string_bytes
 ghost use Rattle.answer_audit.specs.Claims.{claim_at, claim_line, claims_text, is_claim, is_free_line};
 
 use crate::finding::{Finding, word_of};
-use crate::kinds::Kind;
+use crate::kinds::{Alone, Kind};
 use crate::words::{line_at, word_at};
 use std::alloc::{AllocError, Global};
 
@@ -22,6 +22,7 @@ fn is_claim(kind: Option<Kind>, index: usize, line: &str) -> bool
         Some(Kind::Plan) => !is_free(line),
         Some(Kind::Kept) => 1 <= index && index <= 2,
         Some(Kind::Recovered) => index == 1,
+        Some(Kind::OfNet(Alone::Bound)) => true,
         _ => index == 0,
     }
 }

@@ -8,7 +8,8 @@ pub enum Finding {
     /// It is so.
     Shown,
     /// It is not so: the net is seen to be live, and the answer tells a circuit without tokens,
-    /// other counts, no circuit where there is one, or a list or a table of other dates.
+    /// other counts, no circuit where there is one, another cause why there is no bound, or a
+    /// list or a table of other dates.
     Refuted,
     /// Its checker does not say yes.
     NotShown,

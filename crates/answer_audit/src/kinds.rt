@@ -24,6 +24,8 @@ pub enum Alone {
     Settled,
     /// `size`.
     Size,
+    /// `bound`, and why there is none.
+    Bound,
 }
 
 /// What an answer is.
@@ -56,6 +58,7 @@ fn none_told(second: &str) -> Option<Alone>
 {
     match second {
         "circuit" => Some(Alone::NoCircuit),
+        "bound:" => Some(Alone::Bound),
         _ => None,
     }
 }
@@ -81,6 +84,7 @@ fn told_alone(first: &str, second: &str, below: &str) -> Option<Alone>
         "cycle" => Some(pace_told(below)),
         "settled" => Some(Alone::Settled),
         "size" => Some(Alone::Size),
+        "bound" => Some(Alone::Bound),
         _ => None,
     }
 }

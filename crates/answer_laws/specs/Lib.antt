@@ -1,1 +1,2 @@
 pub mod SaidAnswers
+pub mod SaidBounds

@@ -1,4 +1,5 @@
 //! The laws of printed answers that are shown.
+ghost use Rattle.answer_laws.specs.SaidBounds.{ShownBoundsAreSaid};
 ghost use Rattle.answer_laws.specs.SaidAnswers.{ShownDatesAreSaid, ShownListsAreSaid, ShownNoCircuitIsSaid, ShownSlacksAreSaid};
 
 /// A text is shown to be a list of the dates of so many firings just where the net is live and
@@ -23,4 +24,10 @@ pub fn shown_no_circuit_is_said()
 /// in lowest terms, and of the slack of each place, as `teg slack` says it (chapters 2 and 3).
 pub fn shown_slacks_are_said()
     ensures { ShownSlacksAreSaid }
+{}
+
+/// A text is shown to be that of a bound, or of why a net has none, just where the net is live and
+/// `teg bound` says it (chapter 3).
+pub fn shown_bounds_are_said()
+    ensures { ShownBoundsAreSaid }
 {}

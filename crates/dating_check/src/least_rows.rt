@@ -69,9 +69,11 @@ impl Rows {
     }
 }
 
-// The dates of the least dating of the net up to this number where all inputs are at 0. It takes
-// time of the order places times transitions a number.
-pub(crate) fn least_dates(alloc: Global, net: &Net, numbers: u32) -> Result<Vec<Date>, AllocError> {
+/// The dates of the least dating of the net up to this number where all inputs are at 0: a row of a
+/// date for each transition in order, one row after another from number 1 on. Nothing rests on them:
+/// who asks for them looks at them, as `check_rows` does. It takes memory for them, and time of the
+/// order places times transitions a number. `AllocError` comes only where no memory is found.
+pub fn least_dates(alloc: Global, net: &Net, numbers: u32) -> Result<Vec<Date>, AllocError> {
     let mut rows = Rows {
         width: net.transitions().len(),
         dates: Vec::new(alloc),

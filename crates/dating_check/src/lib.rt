@@ -38,6 +38,7 @@ mod ways;
 pub use first_late::shown_first_late;
 pub use late::shown_late;
 pub use latest::{ShownLatest, shown_latest};
+pub use least_rows::least_dates;
 pub use refuted_table::refutes_table;
 pub use settled::{ShownSettled, shown_settled};
 pub use table::shown_table;

@@ -1,13 +1,17 @@
 //! Examples of the checkers of printed answers: texts of the guide that show that a net is live or
-//! not, paces, sizes, dates, latest dates, late rows, lists, slacks, and delays that stay or die out,
-//! and the same texts with a digit changed, which show nothing; of `release_nets`, by the dates of
-//! such a net; and whole calls of `answer_audit`. The crate has tests alone.
+//! not, paces, sizes, bounds, dates, latest dates, late rows, lists, slacks, and delays that stay or
+//! die out, and the same texts with a digit changed, which show nothing; of `release_nets`, by the
+//! dates of such a net; and whole calls of `answer_audit`. The crate has tests alone.
 #![tactic(auto)]
 
 #[cfg(test)]
 mod answers;
 #[cfg(test)]
 mod audits;
+#[cfg(test)]
+mod bound_audits;
+#[cfg(test)]
+mod bounds;
 #[cfg(test)]
 mod kept_delays;
 #[cfg(test)]

@@ -1,10 +1,10 @@
 //! Checks printed answers of `teg` by the net and the text alone.
 //!
 //! `witness_runner NET ANSWER [DUE | LIST | PERIOD TIMETABLE]` reads a net file, a file with all
-//! that `teg check`, `list`, `cycle`, `dates`, `date`, `slack`, `size`, `jit` or `timetable` printed
-//! of it, for `jit` the due file, for `date` what `teg list` printed of at least as many firings, and
-//! for `timetable` its period and its file. It prints the first line of the answer, of a table of
-//! latest dates each line that tells a date, of delays that are kept that line and the circuit, and
+//! that `teg check`, `list`, `cycle`, `dates`, `date`, `slack`, `size`, `bound`, `jit` or `timetable`
+//! printed of it, for `jit` the due file, for `date` what `teg list` printed of at least as many
+//! firings, and for `timetable` its period and its file. It prints the first line of the answer, of a
+//! bound each line, of a table of latest dates each line that tells a date, of delays that are kept that line and the circuit, and
 //! of delays that die out the line that says so, each behind what is found of it: `shown`,
 //! `refuted`, `not shown` or `no checker`. Further questions may follow, each behind `--`; of one
 //! whose file is not read, or says no net, text or rows, it prints `not read` and the name of the
@@ -18,8 +18,8 @@
 //! what is found, whatever printed the answer: whether the net is live is asked before all else; of
 //! `check` is shown what the text tells; of `list`, all its dates; of `date`, the date; of `cycle`,
 //! the pace of the net and the greatest ratios of its parts, or that it has no circuit; of `slack`,
-//! each slack; of `size`, that the number is the least that is enough; of `dates`, that its form is
-//! the settled form; of latest dates, that the table is a plan, with a step that attains each date;
+//! each slack; of `size`, that the number is the least that is enough; of `bound`, its number, and from
+//! when on dates repeat, or why there is none; of `dates`, that its form is the settled form; of latest dates, that the table is a plan, with a step that attains each date;
 //! of `late`, that its row is the first that comes late, and when; of `kept`, that the circuit keeps
 //! delays, and of `recovered`, the least number after which none is left, both with the number, the
 //! period and all lines of delays. Of the other lines it tells nothing.
