@@ -1,7 +1,8 @@
 //! Examples of `dating_check`, `delay_check` and `answer_check`: texts of the guide that show their
 //! dates, latest dates, late rows, and delays that stay or die out, and the same texts with a digit
-//! changed, which show nothing; of `release_nets`, by the dates of such a net; and whole calls of
-//! `answer_audit`. The crate has tests alone; those of the other answers stand in `library_examples`.
+//! changed, which show nothing; of `word_lines`, by texts that are read; of `release_nets`, by the
+//! dates of such a net; and whole calls of `answer_audit`. The crate has tests alone; those of the
+//! other answers stand in `library_examples`.
 #![tactic(auto)]
 
 #[cfg(test)]
@@ -20,3 +21,5 @@ mod recovered_delays;
 mod settled_texts;
 #[cfg(test)]
 mod tables;
+#[cfg(test)]
+mod texts_read;
