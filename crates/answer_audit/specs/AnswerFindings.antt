@@ -1,5 +1,5 @@
 -- What is found of an answer, and when it is so.
-use Rattle.std.specs.Prelude.{ℕ, ⊤, List}
+use Rattle.std.specs.Prelude.{ℕ, ◌+◌, ◌≡◌, ⊤, List}
 use Rattle.teg_net.specs.Nets.{NetLists}
 use Rattle.teg_net.specs.Circuits.{IsLive}
 use Rattle.teg_net.specs.Ratios.{Fraction}
@@ -20,11 +20,11 @@ use Rattle.bound_check.specs.ShownBounds.{IsShownBound}
 use Rattle.bound_check.specs.declared.bound.ShownBound.{ShownBound}
 use Rattle.answer_check.specs.NoCircuits.{IsShownNoCircuit}
 use Rattle.answer_check.specs.ShownDates.{IsShownDate}
-use Rattle.answer_check.specs.ShownLists.{IsShownList}
+use Rattle.answer_check.specs.ShownLists.{IsListText, IsRefutedList, IsShownList}
 use Rattle.answer_check.specs.ShownSlacks.{IsShownSlack}
 use Rattle.answer_check.specs.declared.date.ShownDate.{ShownDate}
 use Rattle.answer_audit.specs.declared.finding.Finding.{Finding}
-use Rattle.answer_audit.specs.declared.finding.Finding.TheVariants.{Shown, Refuted, NotShown, NoChecker}
+use Rattle.answer_audit.specs.declared.finding.Finding.TheVariants.{Shown, Refuted, WrongLine, NotShown, NoChecker}
 use Rattle.answer_audit.specs.declared.kinds.Alone.{Alone}
 use Rattle.answer_audit.specs.declared.kinds.Alone.TheVariants.{Live, Deadlock, Listed, NoCircuit, Slack, Cycle, Settled, Size, Bound}
 
@@ -65,5 +65,20 @@ IsShownRecoveredFor net period text table = (last : ℕ) × IsShownRecovered net
 abbrev pub IsFound : NetLists → Type 0 → Finding → Type 0
 IsFound net says Shown = says
 IsFound net says Refuted = IsLive net × (says → ⊥)
+IsFound net says (WrongLine line) = ⊥
 IsFound net says NotShown = ⊤
 IsFound net says NoChecker = ⊥
+
+-- what is found of a list: it is shown only where it is that of the least dates, a line of it is wrong only where this is the first row
+-- that does not tell the dates of the least dating, and neither is found only where the net is not live or the text is no list
+abbrev pub IsListFound : NetLists → List ℕ → Finding → Type 0
+IsListFound net text Shown = IsShownAlone net Listed text
+IsListFound net text Refuted = ⊥
+IsListFound net text (WrongLine line) = (row : ℕ) × (line ≡ row + 1) × IsRefutedList net text row × (IsShownAlone net Listed text → ⊥)
+IsListFound net text NotShown = IsLive net → (count : ℕ) (words : ℕ → ℕ → List ℕ) → IsListText net text count words → ⊥
+IsListFound net text NoChecker = ⊥
+
+-- what is found of an answer of this kind, on the net alone
+abbrev pub IsFoundAlone : NetLists → Alone → List ℕ → Finding → Type 0
+IsFoundAlone net Listed text finding = IsListFound net text finding
+IsFoundAlone net kind text finding = IsFound net (IsShownAlone net kind text) finding

@@ -1,7 +1,7 @@
 -- How a call ends, and its exit statuses.
 use Rattle.std.specs.Prelude.{ℕ, List, codes, nat_lt, if◌then◌else◌}
 use Rattle.answer_audit.specs.declared.finding.Finding.{Finding}
-use Rattle.answer_audit.specs.declared.finding.Finding.TheVariants.{Shown as FoundShown, Refuted as FoundRefuted, NotShown as FoundNotShown, NoChecker as FoundNoChecker}
+use Rattle.answer_audit.specs.declared.finding.Finding.TheVariants.{Shown as FoundShown, Refuted as FoundRefuted, WrongLine as FoundWrongLine, NotShown as FoundNotShown, NoChecker as FoundNoChecker}
 use Rattle.answer_audit.specs.declared.status.AuditStatus.{AuditStatus}
 use Rattle.answer_audit.specs.declared.status.AuditStatus.TheVariants.{Shown, Refuted, Words, NotShown, NoChecker, NotRead, WriteFault, NoMemory}
 
@@ -9,6 +9,7 @@ use Rattle.answer_audit.specs.declared.status.AuditStatus.TheVariants.{Shown, Re
 abbrev pub finding_word : Finding → List ℕ
 finding_word FoundShown = codes "shown"
 finding_word FoundRefuted = codes "refuted"
+finding_word (FoundWrongLine line) = codes "refuted"
 finding_word FoundNotShown = codes "not shown"
 finding_word FoundNoChecker = codes "no checker"
 
@@ -16,6 +17,7 @@ finding_word FoundNoChecker = codes "no checker"
 abbrev pub status_of_finding : Finding → AuditStatus
 status_of_finding FoundShown = Shown
 status_of_finding FoundRefuted = Refuted
+status_of_finding (FoundWrongLine line) = Refuted
 status_of_finding FoundNotShown = NotShown
 status_of_finding FoundNoChecker = NoChecker
 

@@ -6,12 +6,13 @@ use Rattle.std.specs.Str.Lines.{lines}
 use Rattle.csv_records.specs.Records.{most_file_bytes}
 use Rattle.teg_net.specs.Nets.{NetLists}
 use Rattle.teg_outside.specs.Shelves.{ShelfState}
-use Rattle.answer_audit.specs.AnswerFindings.{IsFound, IsShownAlone, IsShownPlanFor, IsShownLateFor, IsShownDateOf, IsShownKeptFor, IsShownRecoveredFor}
+use Rattle.answer_audit.specs.AnswerFindings.{IsFound, IsFoundAlone, IsShownPlanFor, IsShownLateFor, IsShownDateOf, IsShownKeptFor, IsShownRecoveredFor}
 use Rattle.answer_audit.specs.AnswerWords.{kind_of_text}
 use Rattle.answer_audit.specs.AuditFiles.{OpensFileOf, SaysNetOf, SaysText, SaysDue, SaysTable, most_answer_bytes}
 use Rattle.answer_audit.specs.Claims.{claims_text}
 use Rattle.answer_audit.specs.declared.finding.Finding.{Finding}
 use Rattle.answer_audit.specs.declared.finding.Finding.TheVariants.{NoChecker}
+use Rattle.answer_audit.specs.declared.kinds.Alone.{Alone}
 use Rattle.answer_audit.specs.declared.kinds.Kind.{Kind}
 use Rattle.answer_audit.specs.declared.kinds.Kind.TheVariants.{OfNet, Plan, LateRow, OneDate, Kept, Recovered}
 use Rattle.answer_audit.specs.declared.question.Beside.{Beside}
@@ -34,10 +35,10 @@ FindsByFile {A = A} net reads says name most old new found =
 abbrev pub FindsNoChecker : ShelfState → ShelfState → Option Finding → Type 0
 FindsNoChecker old new found = (new ≡ old) × (found ≡ Some NoChecker)
 
--- no file is read, and this is found
-abbrev pub FindsAlone : NetLists → Type 0 → ShelfState → ShelfState → Option Finding → Type 0
-FindsAlone net says old new None = ⊥
-FindsAlone net says old new (Some finding) = (new ≡ old) × IsFound net says finding
+-- no file is read, and this is found on the net alone
+abbrev pub FindsAlone : NetLists → Alone → List ℕ → ShelfState → ShelfState → Option Finding → Type 0
+FindsAlone net kind text old new None = ⊥
+FindsAlone net kind text old new (Some finding) = (new ≡ old) × IsFoundAlone net kind text finding
 
 -- what is found of a table of latest dates, by the due file
 abbrev pub FindsPlan : NetLists → Beside → List ℕ → ShelfState → ShelfState → Option Finding → Type 0
@@ -69,7 +70,7 @@ FindsRecovered net beside text old new found = FindsNoChecker old new found
 -- what is found of an answer of this kind
 abbrev pub FindsOf : NetLists → Beside → Option Kind → List ℕ → ShelfState → ShelfState → Option Finding → Type 0
 FindsOf net beside None text old new found = FindsNoChecker old new found
-FindsOf net beside (Some (OfNet kind)) text old new found = FindsAlone net (IsShownAlone net kind text) old new found
+FindsOf net beside (Some (OfNet kind)) text old new found = FindsAlone net kind text old new found
 FindsOf net beside (Some Plan) text old new found = FindsPlan net beside text old new found
 FindsOf net beside (Some LateRow) text old new found = FindsLate net beside text old new found
 FindsOf net beside (Some OneDate) text old new found = FindsDate net beside text old new found

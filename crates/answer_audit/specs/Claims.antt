@@ -1,9 +1,10 @@
 -- The lines of an answer that claim something, each behind what is found of it.
-use Rattle.std.specs.Prelude.{ℕ, Bool, true, ◌==◌, ◌&&◌, ◌∷◌, ◌++◌, [], List, Option, Some, bytes_eq, codes, flat_map, length, nat_le, not, slice_index_or, if◌then◌else◌}
+use Rattle.std.specs.Prelude.{ℕ, Bool, true, ◌==◌, ◌&&◌, ◌||◌, ◌∷◌, ◌++◌, [], List, Option, Some, bytes_eq, codes, flat_map, length, nat_le, not, slice_index_or, if◌then◌else◌}
 use Rattle.std.specs.List.{range_with_len}
 use Rattle.answer_audit.specs.AnswerWords.{word_in}
 use Rattle.answer_audit.specs.AuditStatuses.{finding_word}
 use Rattle.answer_audit.specs.declared.finding.Finding.{Finding}
+use Rattle.answer_audit.specs.declared.finding.Finding.TheVariants.{WrongLine}
 use Rattle.answer_audit.specs.declared.kinds.Alone.TheVariants.{Bound}
 use Rattle.answer_audit.specs.declared.kinds.Kind.{Kind}
 use Rattle.answer_audit.specs.declared.kinds.Kind.TheVariants.{OfNet, Plan, Kept, Recovered}
@@ -21,13 +22,18 @@ is_claim (Some Recovered) i line = i == 1
 is_claim (Some (OfNet Bound)) i line = true
 is_claim kind i line = i == 0
 
+-- whether something is told of the line of this number: where one line is wrong, of the first and of that line, else of each that claims
+abbrev pub is_told : Option Kind → Finding → ℕ → List ℕ → Bool
+is_told kind (WrongLine wrong) i line = (i == 0) || (i == wrong)
+is_told kind finding i line = is_claim kind i line
+
 -- the line behind what is found of it
 abbrev pub claim_line : List ℕ → List ℕ → List ℕ
 claim_line word line = word ++ 32 ∷ line ++ 10 ∷ []
 
 -- what is told of the line of this number
 abbrev pub claim_at : Option Kind → Finding → ℕ → List ℕ → List ℕ
-claim_at kind finding i line = if is_claim kind i line then claim_line (finding_word finding) line else []
+claim_at kind finding i line = if is_told kind finding i line then claim_line (finding_word finding) line else []
 
 -- what is told of the lines of an answer
 abbrev pub claims_text : Option Kind → Finding → List (List ℕ) → List ℕ

@@ -1,9 +1,10 @@
 //! What is found of an answer that is shown on the net alone: a function for each kind.
-ghost use Rattle.std.specs.Prelude.{◌≡◌, IfOk, length, string_bytes};
+ghost use Rattle.std.specs.Prelude.{ℕ, ◌≡◌, ◌<◌, ◌^◌, IfOk, length, string_bytes};
 ghost use Rattle.teg_net.specs.Circuits.{IsLive};
 ghost use Rattle.teg_text.specs.Lines.{written};
 ghost use Rattle.witness_check.specs.Liveness.{live_words};
-ghost use Rattle.answer_audit.specs.AnswerFindings.{IsFound, IsShownAlone};
+ghost use Rattle.answer_check.specs.ShownLists.{IsShownList};
+ghost use Rattle.answer_audit.specs.AnswerFindings.{IsFound, IsFoundAlone, IsListFound, IsShownAlone};
 
 use crate::finding::Finding;
 use crate::kinds::Alone;
@@ -57,16 +58,24 @@ fn deadlock_finding(alloc: Global, net: &Net, text: &str) -> Result<Finding, Out
     }
 }
 
+// Of `list`, which is not shown.
+fn wrong_list_finding(alloc: Global, net: &Net, text: &str) -> Result<Finding, OutOfMemory>
+    requires { (count : ℕ) → count < 2 ^ 32 → IsShownList net.now text.now count → ⊥ }
+    ensures { IfOk result (IsListFound net.now text.now) }
+{
+    match refutes_list(alloc, net, text)? {
+        Some(row) => Ok(Finding::WrongLine(u64::from(row) + 1)),
+        None => Ok(Finding::NotShown),
+    }
+}
+
 // Of `list`.
 fn list_finding(alloc: Global, net: &Net, text: &str) -> Result<Finding, OutOfMemory>
-    ensures { IfOk result (IsFound net.now (IsShownAlone net.now Alone.Listed text.now)) }
+    ensures { IfOk result (IsListFound net.now text.now) }
 {
-    if shown_list(alloc, net, text)?.is_some() {
-        Ok(Finding::Shown)
-    } else if refutes_list(alloc, net, text)? {
-        Ok(Finding::Refuted)
-    } else {
-        Ok(Finding::NotShown)
+    match shown_list(alloc, net, text)? {
+        Some(_) => Ok(Finding::Shown),
+        None => wrong_list_finding(alloc, net, text),
     }
 }
 
@@ -144,7 +153,7 @@ fn live_net_finding(
     text: &str,
 ) -> Result<Finding, OutOfMemory>
     requires { IsLive net.now }
-    ensures { IfOk result (IsFound net.now (IsShownAlone net.now kind text.now)) }
+    ensures { IfOk result (IsFoundAlone net.now kind text.now) }
 {
     match kind {
         Alone::Live => live_finding(alloc, net, text),
@@ -159,14 +168,15 @@ fn live_net_finding(
     }
 }
 
-// What is found in a net that is not seen to be live.
+// What is found in a net that is not live.
 fn other_net_finding(
     alloc: Global,
     net: &Net,
     kind: Alone,
     text: &str,
 ) -> Result<Finding, OutOfMemory>
-    ensures { IfOk result (IsFound net.now (IsShownAlone net.now kind text.now)) }
+    requires { IsLive net.now → ⊥ }
+    ensures { IfOk result (IsFoundAlone net.now kind text.now) }
 {
     match kind {
         Alone::Deadlock => deadlock_finding(alloc, net, text),
@@ -182,7 +192,7 @@ pub(crate) fn alone_finding(
     kind: Alone,
     text: &str,
 ) -> Result<Finding, OutOfMemory>
-    ensures { IfOk result (IsFound net.now (IsShownAlone net.now kind text.now)) }
+    ensures { IfOk result (IsFoundAlone net.now kind text.now) }
 {
     if !is_seen_live(alloc, net)? {
         return other_net_finding(alloc, net, kind, text);

@@ -1,11 +1,12 @@
 //! The lines of an answer that claim something, each behind what is found of it.
 ghost use Rattle.std.specs.Prelude.{◌≡◌, ◌++◌, IfOk, map, string_bytes};
-ghost use Rattle.answer_audit.specs.Claims.{claim_at, claim_line, claims_text, is_claim, is_free_line};
+ghost use Rattle.answer_audit.specs.Claims.{claim_at, claim_line, claims_text, is_claim, is_free_line, is_told};
 
 use crate::finding::{Finding, word_of};
 use crate::kinds::{Alone, Kind};
-use crate::words::{line_at, word_at};
+use crate::words::word_at;
 use std::alloc::{AllocError, Global};
+use word_lines::text_at;
 
 // Whether the line of a table tells no date.
 fn is_free(line: &str) -> bool
@@ -24,6 +25,16 @@ fn is_claim(kind: Option<Kind>, index: usize, line: &str) -> bool
         Some(Kind::Recovered) => index == 1,
         Some(Kind::OfNet(Alone::Bound)) => true,
         _ => index == 0,
+    }
+}
+
+// Whether something is told of the line of this number.
+fn is_told(kind: Option<Kind>, finding: Finding, index: usize, line: &str) -> bool
+    ensures { result ≡ is_told kind finding index line.now }
+{
+    match finding {
+        Finding::WrongLine(wrong) => index == 0 || index as u64 == wrong,
+        _ => is_claim(kind, index, line),
     }
 }
 
@@ -46,7 +57,7 @@ fn push_claim(
     ensures { IfOk result (λ _. string_bytes told.new
         ≡ string_bytes told.old ++ claim_at kind finding index line.now) }
 {
-    if !is_claim(kind, index, line) {
+    if !is_told(kind, finding, index, line) {
         return Ok(());
     }
     push_line(told, word_of(finding), line)
@@ -64,7 +75,7 @@ pub(crate) fn claims_of(
 {
     let mut told = String::new(alloc);
     for index in 0..lines.len() {
-        push_claim(&mut told, kind, finding, index, line_at(lines, index))?;
+        push_claim(&mut told, kind, finding, index, text_at(lines, index))?;
     }
     Ok(told)
 }

@@ -7,10 +7,13 @@ ghost use Rattle.answer_audit.specs.AuditStatuses.{finding_word};
 pub enum Finding {
     /// It is so.
     Shown,
-    /// It is not so: the net is seen to be live, and the answer tells a circuit without tokens,
-    /// other counts, no circuit where there is one, another cause why there is no bound, or a
-    /// list or a table of other dates.
+    /// It is not so: the net is live, and the answer tells a circuit without tokens, other counts,
+    /// no circuit where there is one, another cause why there is no bound, or a table of other
+    /// dates.
     Refuted,
+    /// It is not so: the net is live, and of a list the line of this number, counted from 0, is the
+    /// first that tells other dates.
+    WrongLine(u64),
     /// Its checker does not say yes.
     NotShown,
     /// No checker reads it.
@@ -23,7 +26,7 @@ pub(crate) fn word_of(finding: Finding) -> &'static str
 {
     match finding {
         Finding::Shown => "shown",
-        Finding::Refuted => "refuted",
+        Finding::Refuted | Finding::WrongLine(_) => "refuted",
         Finding::NotShown => "not shown",
         Finding::NoChecker => "no checker",
     }

@@ -3,7 +3,8 @@ ghost use Rattle.std.specs.Prelude.{◌≡◌, map};
 ghost use Rattle.answer_audit.specs.AnswerWords.{delays_told, is_deadlock_told, kind_of_lines, kind_told, none_told, of_net, pace_told, told_alone, told_beside, told_with_file, told_with_table};
 
 use crate::question::Beside;
-use crate::words::{line_at, word_at};
+use crate::words::word_at;
+use word_lines::text_at;
 
 /// An answer that is shown on the net alone.
 #[derive(Clone, Copy)]
@@ -158,8 +159,8 @@ fn kind_told(beside: &Beside, first: &str, second: &str, below: &str) -> Option<
 pub(crate) fn kind_of(beside: &Beside, lines: &[&str]) -> Option<Kind>
     ensures { result ≡ kind_of_lines beside.now (map (λ x. x.now) lines.now) }
 {
-    let first = line_at(lines, 0);
-    let below = line_at(lines, 1);
+    let first = text_at(lines, 0);
+    let below = text_at(lines, 1);
     kind_told(
         beside,
         word_at(first, 0),

@@ -49,7 +49,7 @@ pub(crate) fn status_of(finding: Finding) -> AuditStatus
 {
     match finding {
         Finding::Shown => AuditStatus::Shown,
-        Finding::Refuted => AuditStatus::Refuted,
+        Finding::Refuted | Finding::WrongLine(_) => AuditStatus::Refuted,
         Finding::NotShown => AuditStatus::NotShown,
         Finding::NoChecker => AuditStatus::NoChecker,
     }

@@ -1,5 +1,5 @@
 //! The lines of a text, and the words of a line.
-ghost use Rattle.std.specs.Prelude.{◌≡◌, ◌==◌, [], IfOk, map, slice_get, slice_index_or};
+ghost use Rattle.std.specs.Prelude.{◌≡◌, ◌==◌, IfOk, map, slice_get};
 ghost use Rattle.std.specs.List.{slice_split};
 ghost use Rattle.std.specs.Option.{option_map};
 ghost use Rattle.std.specs.Str.Lines.{lines};
@@ -12,17 +12,6 @@ pub(crate) fn lines_of<'t>(alloc: Global, text: &'t str) -> Result<Vec<&'t str>,
     ensures { IfOk result (λ found. map (λ x. x.now) found.items ≡ lines text.now) }
 {
     text.lines().collect(alloc)
-}
-
-// The line of this number, counted from 0; an empty one where there are fewer.
-pub(crate) fn line_at<'t>(lines: &[&'t str], index: usize) -> &'t str
-    ensures { result.now ≡ slice_index_or (map (λ x. x.now) lines.now) index [] }
-{
-    if index < lines.len() {
-        lines[index]
-    } else {
-        ""
-    }
 }
 
 // The word of this number in the line, counted from 0.

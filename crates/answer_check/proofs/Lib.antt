@@ -1,5 +1,9 @@
 pub mod NoCircuits
+pub mod ReadDates
+pub mod ListLines
 pub mod ListedRows
-pub mod ListsApart
+pub mod ReadRows
+pub mod OtherRows
+pub mod RowDates
 pub mod Told
 pub mod Paces

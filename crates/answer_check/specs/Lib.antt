@@ -1,4 +1,5 @@
 pub mod ShownLists
+pub mod ListReading
 pub mod NoCircuits
 pub mod ShownSlacks
 pub mod ShownDates

@@ -1,5 +1,5 @@
 -- What the text of the slack of the places of a net shows.
-use Rattle.std.specs.Prelude.{ℕ, ◌+◌, ◌<◌, ◌≡◌, ◌∷◌, ◌++◌, [], List, Contains, codes, length, map, slice_index_or}
+use Rattle.std.specs.Prelude.{ℕ, ◌+◌, ◌<◌, ◌≡◌, ◌∷◌, [], List, Contains, codes, length, map, slice_index_or}
 use Rattle.std.specs.Fmt.{decimal}
 use Rattle.std.specs.List.{range_with_len}
 use Rattle.answer_check.specs.declared.slack.ShownSlack.{ShownSlack}

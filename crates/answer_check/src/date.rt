@@ -4,7 +4,6 @@ ghost use Rattle.dioid.specs.declared.dates.Date.TheVariants.{Early};
 ghost use Rattle.teg_text.specs.Lines.{written};
 ghost use Rattle.answer_check.specs.ShownDates.{IsShownDate, line_of_date};
 
-use crate::list::are_whole;
 use crate::list_reading::list_in;
 use dating_certificates::check_rows;
 use dioid::Date;
@@ -72,10 +71,10 @@ fn line_of(alloc: Global, net: &Net, shown: ShownDate) -> Result<String, AllocEr
 /// The firing and the date that the text of `teg date` tells, where they are shown by the text of
 /// `teg list` for at least so many firings: the net is seen to be live, the whole text of `teg date`
 /// is the line of the firing, and its date, in the user's unit, is that of the least dating (chapter
-/// 2). Of the list its dates are looked at, each with what its firing waits for, and not its other
-/// words. It takes memory for those dates and for the line, and time of order `n + p` a row for n
-/// transitions and p places, and of order `n p` for whether the net is live. `OutOfMemory` comes
-/// only where no memory is found.
+/// 2). Of the list, which has to be one, each date is looked at with what its firing waits for. It
+/// takes memory for the list's lines, its dates and the line, and time of order `n + p` a row
+/// for n transitions and p places, and of order `n p` for whether the net is live. `OutOfMemory`
+/// comes only where no memory is found.
 pub fn shown_date(
     alloc: Global,
     net: &Net,
@@ -88,17 +87,14 @@ pub fn shown_date(
     let Some((transition, number)) = firing_in(alloc, net, text)? else {
         return Ok(None);
     };
-    let Some(told) = list_in(alloc, list)? else {
+    let Some(told) = list_in(alloc, net, list)? else {
         return Ok(None);
     };
     let (count, dates) = (told.count, told.dates.as_slice());
     if number < 1 || !net.contains_transition(transition) {
         return Ok(None);
     }
-    if count < number || !are_whole(net, count, dates) {
-        return Ok(None);
-    }
-    if !is_seen_live(alloc, net)? {
+    if count < number || !is_seen_live(alloc, net)? {
         return Ok(None);
     }
     if !check_rows(alloc, net, dates)? {

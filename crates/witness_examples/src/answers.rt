@@ -33,27 +33,65 @@ place = [
 ]
 ";
 
-// Nets, texts of lists, how many firings these show, and whether they are refuted.
-const LISTS: [(&[u8], &str, (Option<u32>, bool)); 4] = [
+// Nets, texts of lists, how many firings these show, and which row of them is wrong.
+const LISTS: [(&[u8], &str, (Option<u32>, Option<u32>)); 11] = [
     (
         KANBAN,
         "dates of 3 firings\ntransition m1 m2 m3\n1 0 4 10\n2 4 10 16\n3 8 16 22\n",
-        (Some(3), false),
+        (Some(3), None),
+    ),
+    (
+        KANBAN,
+        "dates of 0 firings\ntransition m1 m2 m3\n",
+        (Some(0), None),
     ),
     (
         KANBAN,
         "dates of 2 firings\ntransition m1 m2 m3\n1 0 4 10\n2 4 10 17\n",
-        (None, true),
+        (None, Some(2)),
     ),
     (
         KANBAN,
+        "dates of 3 firings\ntransition m1 m2 m3\n1 0 4 10\n2 4 never 16\n3 8 -16 22\n",
+        (None, Some(2)),
+    ),
+    // words that are no dates, or not as dates are printed
+    (
+        KANBAN,
+        "dates of 2 firings\ntransition m1 m2 m3\n1 0 x 10\n2 4 10 16\n",
+        (None, Some(1)),
+    ),
+    (
+        KANBAN,
+        "dates of 2 firings\ntransition m1 m2 m3\n1 0 4 10\n2 04 10 16\n",
+        (None, Some(2)),
+    ),
+    // a number past all dates
+    (
+        KANBAN,
+        "dates of 1 firings\ntransition m1 m2 m3\n1 0 4 999999999999999999999999999999999999999999\n",
+        (None, Some(1)),
+    ),
+    // texts that are no lists: another number, other names, a date too few
+    (
+        KANBAN,
         "dates of 2 firings\ntransition m1 m2 m3\n1 0 4 10\n3 4 10 16\n",
-        (None, false),
+        (None, None),
+    ),
+    (
+        KANBAN,
+        "dates of 1 firings\ntransition m1 m3 m2\n1 0 4 11\n",
+        (None, None),
+    ),
+    (
+        KANBAN,
+        "dates of 1 firings\ntransition m1 m2 m3\n1 0 4\n",
+        (None, None),
     ),
     (
         DEAD,
         "dates of 1 firings\ntransition a b\n1 5 5\n",
-        (None, false),
+        (None, None),
     ),
 ];
 
@@ -74,8 +112,8 @@ const DATES: [(&[u8], &str, Option<ShownDate>); 3] = [
     (KANBAN, "date m3 3 22\n", None),
 ];
 
-// How many firings the text of a list shows, and whether it is refuted.
-fn list(alloc: Global, net: &Net, text: &str) -> Result<(Option<u32>, bool), OutOfMemory> {
+// How many firings the text of a list shows, and which row of it is wrong.
+fn list(alloc: Global, net: &Net, text: &str) -> Result<(Option<u32>, Option<u32>), OutOfMemory> {
     let firings = shown_list(alloc, net, text)?;
     Ok((firings, refutes_list(alloc, net, text)?))
 }

@@ -172,7 +172,7 @@ const CALLS: [Call<'static>; 43] = [
     (
         &["loop", "other list"],
         AuditStatus::Refuted,
-        "refuted dates of 2 firings\n",
+        "refuted dates of 2 firings\nrefuted 2 5 9\n",
     ),
     (
         &["loop", "turned list"],

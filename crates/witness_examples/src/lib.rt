@@ -1,7 +1,8 @@
 //! Examples of the checkers of printed answers: texts of the guide that show that a net is live or
 //! not, paces, sizes, bounds, dates, latest dates, late rows, lists, slacks, and delays that stay or
-//! die out, and the same texts with a digit changed, which show nothing; of `release_nets`, by the
-//! dates of such a net; and whole calls of `answer_audit`. The crate has tests alone.
+//! die out, and the same texts with a digit changed, which show nothing; of `word_lines`, by texts
+//! that are read; of `release_nets`, by the dates of such a net; and whole calls of `answer_audit`.
+//! The crate has tests alone.
 #![tactic(auto)]
 
 #[cfg(test)]
@@ -24,5 +25,7 @@ mod recovered_delays;
 mod settled_texts;
 #[cfg(test)]
 mod tables;
+#[cfg(test)]
+mod texts_read;
 #[cfg(test)]
 mod witnesses;

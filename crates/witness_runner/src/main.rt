@@ -6,7 +6,8 @@
 //! firings, and for `timetable` its period and its file. It prints the first line of the answer, of a
 //! bound each line, of a table of latest dates each line that tells a date, of delays that are kept that line and the circuit, and
 //! of delays that die out the line that says so, each behind what is found of it: `shown`,
-//! `refuted`, `not shown` or `no checker`. Further questions may follow, each behind `--`; of one
+//! `refuted`, `not shown` or `no checker`. Behind the first line of a list that is refuted it prints
+//! the first row that is wrong. Further questions may follow, each behind `--`; of one
 //! whose file is not read, or says no net, text or rows, it prints `not read` and the name of the
 //! answer. `-` is standard input.
 //!

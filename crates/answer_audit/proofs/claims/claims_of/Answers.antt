@@ -9,4 +9,4 @@ loop-index-preserved c =
     let kind = c.args.kind in
     let finding = c.args.finding in
     more_after (λ i. claim_at kind finding i (slice_index_or (map (λ x. x.now) c.args.lines.now) i [])) _ _ _ _ 0 k k (omega arith)
-    c.in_ok-push_claim.ensures (ap (λ (l : List ℕ). claim_at kind finding k l) c.line_at.ensures) c.loop-index.invariant
+    c.in_ok-push_claim.ensures (ap (λ (l : List ℕ). claim_at kind finding k l) c.text_at.ensures) c.loop-index.invariant

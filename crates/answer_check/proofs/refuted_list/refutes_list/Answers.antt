@@ -1,22 +1,39 @@
-use Rattle.std.proofs.Common.{rules, All, length}
-use Rattle.teg_text.specs.ValueWords.{IsDate}
-use Rattle.dating_certificates.specs.CheckedRows.{date_in_rows}
-use Rattle.answer_check.specs.ShownLists.{IsOtherList}
-use Rattle.answer_check.proofs.ListedRows.{first_of_least}
-use Rattle.answer_check.proofs.ListsApart.{others_not_shown}
+use Rattle.std.proofs.Common.{rules, length}
+use Rattle.teg_net.specs.Circuits.{IsLive}
+use Rattle.dating_certificates.specs.CheckedRows.{AreFirstRows, date_in_rows}
+use Rattle.answer_check.specs.ListReading.{IsOtherRow, IsReadList}
+use Rattle.answer_check.specs.ShownLists.{IsRefutedList}
+use Rattle.answer_check.proofs.ReadRows.{first_wrong, refuted_not_shown, shown_if_list}
 use Rattle.answer_check.proofs.refuted_list.refutes_list.Goals as goal
 
-pub returns : goal.returns
-returns c = λ yes.
+pub returns-in_default-clause-row : goal.returns-in_default-clause-row
+returns-in_default-clause-row c = λ live count words list. (let none = rw c.in_default.is at c.in_ok-told.ensures in absurd (none count words list))
+
+pub returns-then-branch-clause-row : goal.returns-then-branch-clause-row
+returns-then-branch-clause-row c =
     let net = c.args.net.now in
-    let text = c.args.text.now in
-    let dates = c.as_slice-dates.result.now in
-    let count = c.in-Some.told.count in
-    let ok = c.rules.ensures in
-    let h : IsOtherList net count dates text = c.in_ok-other.ensures.0 yes in
-    let kept : All IsDate dates = c.are_dates.ensures (search rules) in
-    record {
-      live = h.live;
-      other = (count, date_in_rows (length net.transitions) dates, (h.told, λ x least equal. h.other (first_of_least net dates count ok h.rows.few h.rows.whole x least equal)));
-      not_shown = λ shown. others_not_shown net dates count text ok h.live h.rows.few kept h.rows.whole h.other h.told shown.0 shown.1;
-    }
+    let told = c.in-Some.told in
+    let live : IsLive net = c.in_ok-is_seen_live.ensures.0 (search rules) in
+    let read : IsReadList net c.args.text.now told.count told.dates.items = rw c.in-Some.is at c.in_ok-told.ensures in
+    let first : AreFirstRows net c.as_slice-dates.result.now = (c.in_ok-check_rows.ensures.first live).0 (search rules) in
+    shown_if_list net c.args.text.now told.count told.dates.items c.rules.ensures c.least_datings_exist.ensures read (rw c.as_slice-dates.ensures.value at first)
+
+pub returns-clause-row : goal.returns-clause-row
+returns-clause-row c =
+    let net = c.args.net.now in
+    let told = c.in-Some.told in
+    let live : IsLive net = c.in_ok-is_seen_live.ensures.0 (search rules) in
+    let read : IsReadList net c.args.text.now told.count told.dates.items = rw c.in-Some.is at c.in_ok-told.ensures in
+    let other : IsOtherRow net (date_in_rows (length net.transitions) c.as_slice-dates.result.now) told.count c.in_ok-row.row = c.in_ok-row.ensures in
+    first_wrong net c.args.text.now told.count c.in_ok-row.row told.dates.items c.rules.ensures live c.least_datings_exist.ensures read (rw c.as_slice-dates.ensures.value at other)
+
+pub returns-clause-not_shown : goal.returns-clause-not_shown
+returns-clause-not_shown c =
+    let net = c.args.net.now in
+    let told = c.in-Some.told in
+    let live : IsLive net = c.in_ok-is_seen_live.ensures.0 (search rules) in
+    let read : IsReadList net c.args.text.now told.count told.dates.items = rw c.in-Some.is at c.in_ok-told.ensures in
+    let other : IsOtherRow net (date_in_rows (length net.transitions) c.as_slice-dates.result.now) told.count c.in_ok-row.row = c.in_ok-row.ensures in
+    let refuted : IsRefutedList net c.args.text.now c.in_ok-row.row =
+    first_wrong net c.args.text.now told.count c.in_ok-row.row told.dates.items c.rules.ensures live c.least_datings_exist.ensures read (rw c.as_slice-dates.ensures.value at other) in
+    λ some count shown. refuted_not_shown net c.args.text.now c.in_ok-row.row c.rules.ensures refuted count shown

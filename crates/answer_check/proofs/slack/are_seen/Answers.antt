@@ -1,4 +1,4 @@
-use Rattle.std.proofs.Common.{rules, ℕ, ◌≡◌, IsTrue, length, slice_index_or, ap, subst, arith}
+use Rattle.std.proofs.Common.{rules, ◌≡◌, length, slice_index_or, ap, subst, arith}
 use Rattle.teg_text.proofs.Listing.{all_below}
 use Rattle.answer_check.specs.declared.slack.ShownSlack.TheVariants.{NoCircuit}
 use Rattle.answer_check.specs.ShownSlacks.{AreToldOfPlaces, TellsOfPlace}

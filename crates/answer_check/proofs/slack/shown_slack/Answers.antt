@@ -1,4 +1,4 @@
-use Rattle.std.proofs.Common.{rules, ◌≡◌, IsTrue, Some, sym, ◌∙◌, string_bytes}
+use Rattle.std.proofs.Common.{rules, ◌≡◌, Some, sym, ◌∙◌, string_bytes}
 use Rattle.teg_net.specs.Certificates.{IsCertificate}
 use Rattle.teg_net.proofs.NetRules.{net_ends}
 use Rattle.teg_certificates.specs.BestRatios.{best_ratio_of}
