@@ -1,3 +1,4 @@
+mod FiringsOnce
 mod FirstLate
 mod FormLines
 pub mod TablesApart

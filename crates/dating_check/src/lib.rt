@@ -13,11 +13,12 @@
 //! the parser nor on whatever found the answer. Where it tells nothing, its clause says nothing.
 //!
 //! The crate stands on `dating_certificates` for checkers of dates, on `witness_check` for whether a
-//! net is live, beginnings of texts and names, on `settled_laws` for settled forms, on `teg_due` for
-//! rows that are due, on `teg_text` and `teg_lines` for texts, and on `teg_net` for nets; no crate of
-//! the program's search is below it. Its examples stand in `witness_examples`.
+//! net is live, beginnings of texts and names, on `settled_laws` for settled forms, on `teg_due` and
+//! `csv_records` for rows that are due, on `teg_text` and `teg_lines` for texts, and on `teg_net` for
+//! nets; no crate of the program's search is below it. Its examples stand in `witness_examples`.
 #![tactic(auto)]
 
+mod due_rows;
 mod first_late;
 mod least_rows;
 mod refuted_table;
