@@ -25,7 +25,7 @@ mod heights;
 mod list;
 mod list_reading;
 mod no_circuit;
-mod reach;
+mod paths;
 mod refuted_list;
 mod slack;
 mod slack_reading;

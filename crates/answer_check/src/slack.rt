@@ -70,12 +70,12 @@ fn is_seen(
             Ok(passes_none(net, &numbers, place))
         }
         ShownSlack::Critical => {
-            let circuit = search.tight_circuit(alloc, place)?;
+            let circuit = search.best_circuit(alloc, place)?;
             Ok(is_passed(net, answer, place, &circuit.places))
         }
         ShownSlack::Rise { by } => {
             let potentials = search.raised_potentials(alloc, place, by)?;
-            let circuit = search.raised_circuit(alloc, place, by.saturating_add(1))?;
+            let circuit = search.best_circuit(alloc, place)?;
             let rise = RiseWitness {
                 by,
                 circuit,
@@ -161,9 +161,9 @@ fn lines_of(
 /// be so (chapters 2 and 3): the net is live, the ratio is the greatest over all circuits of the
 /// net, and of each place, where a circuit of that ratio passes it, that it is critical; where no
 /// circuit does, that; and else, by how much its hold can rise and by no more, in the user's unit.
-/// Circuits, potentials and numbers that show it are searched for. It takes memory for them and for
-/// the text, and for each place time of the order transitions times places. `OutOfMemory` comes only
-/// where no memory is found.
+/// Circuits, potentials and numbers that show it are searched for, once from each transition. It takes
+/// memory of order `n^2` and for the text, and time of order `n p log p` for n transitions and p
+/// places, and of order `n^2 + p` for each place. `OutOfMemory` comes only where no memory is found.
 pub fn shown_slack(alloc: Global, net: &Net, text: &str) -> Result<Option<Ratio>, OutOfMemory>
     ensures { IfOk result (λ r. IfSome r (IsShownSlack net.now text.now)) }
 {

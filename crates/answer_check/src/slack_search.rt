@@ -1,8 +1,8 @@
 //! A search for what shows the slack of places. Nothing rests on it: what it finds is checked.
 ghost use Rattle.std.specs.Prelude.{◌≡◌, length};
 
-use crate::heights::{Gains, Heights};
-use crate::reach::{Reach, circuit_back};
+use crate::heights::{heights_at, losses_of};
+use crate::paths::Paths;
 use crate::slack::ShownSlack;
 use std::alloc::{AllocError, Global};
 use teg_net::{
@@ -10,33 +10,34 @@ use teg_net::{
     Ratio, TransitionId,
 };
 
-// A net, a ratio, potentials that no place lifts at it where it is the greatest, which places lift
-// their ends to just theirs, and of each transition the places that leave it.
+// A net, a ratio, potentials that no place lifts at it where it is the greatest, what each place loses
+// against them, and from each transition on the paths that lose least.
 #[derive(Drop)]
 pub(crate) struct SlackSearch<'n> {
     net: &'n Net,
     ratio: Ratio,
     potentials: Vec<i128>,
-    tight: Vec<bool>,
-    outgoing: PlacesOf,
-    ghost lists: { length outgoing ≡ length net.now.transitions },
+    losses: Vec<i128>,
+    paths: Vec<Paths>,
 }
 
-// Which places lift their ends to just their potentials.
-fn tight_places(
+// From each transition on the paths that lose least.
+fn all_paths(
     alloc: Global,
     net: &Net,
-    gains: &Gains,
-    potentials: &[i128],
-) -> Result<Vec<bool>, AllocError> {
-    let mut tight = Vec::new(alloc);
-    for (index, place) in net.places().iter().enumerate() {
-        let id = PlaceId::new(index as u32);
-        let from = potentials.get(place.from.index()).copied().unwrap_or(0);
-        let to = potentials.get(place.to.index()).copied().unwrap_or(0);
-        tight.push(gains.lifted(id, place, from) == to)?;
+    losses: &[i128],
+    outgoing: &PlacesOf,
+) -> Result<Vec<Paths>, AllocError>
+    requires { length outgoing.now ≡ length net.now.transitions }
+{
+    let mut paths = Vec::new(alloc);
+    for index in 0..net.transitions().len() {
+        let first = TransitionId {
+            index: index as u32,
+        };
+        paths.push(Paths::from(alloc, net, losses, outgoing, first)?)?;
     }
-    Ok(tight)
+    Ok(paths)
 }
 
 impl<'n> SlackSearch<'n> {
@@ -46,102 +47,80 @@ impl<'n> SlackSearch<'n> {
         net: &'n Net,
         ratio: Ratio,
     ) -> Result<SlackSearch<'n>, OutOfMemory> {
-        let gains = Gains {
-            ratio,
-            raised: None,
-            gain: 0,
-        };
         let outgoing = PlacesOf::new(alloc, net, PlaceEnd::From)?;
-        let zeros = vec![in alloc; 0i128; net.transitions().len()]?;
-        let mut heights = Heights::new(alloc, &zeros)?;
-        heights.open_all(net)?;
-        heights.lift_on(net, &gains, &outgoing, None)?;
-        let tight = tight_places(alloc, net, &gains, &heights.potentials)?;
+        let potentials = heights_at(alloc, net, ratio)?;
+        let losses = losses_of(alloc, net, ratio, &potentials)?;
+        let paths = all_paths(alloc, net, &losses, &outgoing)?;
         Ok(SlackSearch {
             net,
             ratio,
-            potentials: heights.potentials,
-            tight,
-            outgoing,
+            potentials,
+            losses,
+            paths,
         })
     }
 
-    // A circuit of tight places that passes the place, where there is one.
-    pub(crate) fn tight_circuit(
+    // The paths from the end of the place on.
+    fn paths_behind(&self, place: PlaceId) -> Option<&Paths> {
+        let own = self.net.places().get(place.index())?;
+        self.paths.get(own.to.index())
+    }
+
+    // The circuit that loses least of those that pass the place, where one does.
+    pub(crate) fn best_circuit(
         &self,
         alloc: Global,
         place: PlaceId,
     ) -> Result<Circuit, AllocError> {
-        let reach = Reach::from_end_of(alloc, self.net, &self.outgoing, &self.tight, place)?;
-        circuit_back(alloc, self.net, &reach.by, place)
+        match self.paths_behind(place) {
+            Some(paths) => paths.closed_by(alloc, self.net, place),
+            None => Ok(Circuit {
+                places: Vec::new(alloc),
+            }),
+        }
     }
 
-    // For each transition 1 where it is reached from the end of the place, and else 0.
+    // For each transition 1 where a path leads there from the end of the place, and else 0.
     pub(crate) fn numbers_behind(
         &self,
         alloc: Global,
         place: PlaceId,
     ) -> Result<Vec<u32>, AllocError> {
-        let all = vec![in alloc; true; self.net.places().len()]?;
-        let reach = Reach::from_end_of(alloc, self.net, &self.outgoing, &all, place)?;
         let mut numbers = Vec::new(alloc);
-        for by in &reach.by {
-            numbers.push(if by.is_some() { 1u32 } else { 0 })?;
+        if let Some(paths) = self.paths_behind(place) {
+            for least in &paths.least {
+                numbers.push(if least.is_some() { 1u32 } else { 0 })?;
+            }
         }
         Ok(numbers)
     }
 
-    // The ratio, with what the place gains where its hold is longer by so much: 1 at least.
-    fn raised_by(&self, place: PlaceId, by: u64) -> Gains {
+    // How much the place lifts its end by where its hold is longer by so much, or it gains 1.
+    fn rise_at(&self, place: PlaceId, by: u64) -> i128 {
         let gain = i128::from(self.ratio.tokens()).saturating_mul(i128::from(by));
-        Gains {
-            ratio: self.ratio,
-            raised: Some(place),
-            gain: gain.max(1),
-        }
+        let loss = self.losses.get(place.index()).copied().unwrap_or(0);
+        gain.max(1).saturating_sub(loss)
     }
 
-    // The potentials as they are lifted where the hold of this place is longer by so much: until no
-    // place does, or that of this transition was lifted.
-    fn raised(
-        &self,
-        alloc: Global,
-        place: PlaceId,
-        by: u64,
-        until: Option<usize>,
-    ) -> Result<Heights, AllocError> {
-        let mut heights = Heights::new(alloc, &self.potentials)?;
-        if let Some(own) = self.net.places().get(place.index()) {
-            heights.open(own.from)?;
-        }
-        let gains = self.raised_by(place, by);
-        heights.lift_on(self.net, &gains, &self.outgoing, until)?;
-        Ok(heights)
-    }
-
-    // Potentials that no place lifts where the hold of this one is longer by so much.
+    // Potentials that no place lifts where the hold of this one is longer by so much: each is lifted
+    // by as much as the end of the place is, less what the way there loses.
     pub(crate) fn raised_potentials(
         &self,
         alloc: Global,
         place: PlaceId,
         by: u64,
     ) -> Result<Vec<i128>, AllocError> {
-        let heights = self.raised(alloc, place, by, None)?;
-        Ok(heights.potentials)
-    }
-
-    // A circuit that passes the place and is above the ratio where its hold is longer by so much,
-    // where there is one.
-    pub(crate) fn raised_circuit(
-        &self,
-        alloc: Global,
-        place: PlaceId,
-        by: u64,
-    ) -> Result<Circuit, AllocError> {
-        let own = self.net.places().get(place.index());
-        let until = own.map(|own| own.from.index());
-        let heights = self.raised(alloc, place, by, until)?;
-        circuit_back(alloc, self.net, &heights.by, place)
+        let mut raised = Vec::from_slice(alloc, &self.potentials)?;
+        let rise = self.rise_at(place, by);
+        if let Some(paths) = self.paths_behind(place) {
+            for (potential, least) in raised.iter_mut().zip(&paths.least) {
+                if let Some(least) = *least {
+                    let more = rise.saturating_sub(least).max(0);
+                    *potential = potential.saturating_add(more);
+                }
+            }
+        }
+        Ok(raised)
     }
 
     // The potentials as those of transitions in order.
@@ -170,7 +149,7 @@ impl<'n> SlackSearch<'n> {
         let place = PlaceId::new(u32::try_from(first.unwrap_or(0)).unwrap_or(0));
         let part = PartAnswer::Best {
             ratio: self.ratio,
-            circuit: self.tight_circuit(alloc, place)?,
+            circuit: self.best_circuit(alloc, place)?,
             potentials: self.potentials_told(alloc)?,
         };
         let mut parts = Vec::new(alloc);

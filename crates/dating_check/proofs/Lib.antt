@@ -1,4 +1,5 @@
 mod Bounding
+mod FiringsOnce
 mod FirstLate
 mod FormLines
 pub mod TablesApart

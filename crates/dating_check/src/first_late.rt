@@ -8,6 +8,7 @@ ghost use Rattle.teg_due.specs.RowRules.{IsDueRow};
 ghost use Rattle.dating_certificates.specs.CheckedRows.{AreRowsOf, date_in_rows};
 ghost use Rattle.dating_check.specs.FirstLate.{AreLeastUpTo, IsFirstLate, IsFirstLateBy, IsFirstUnkept, IsRowOfLate, IsShownFirstLate};
 
+use crate::due_rows::is_due_list;
 use crate::late::shown_late;
 use crate::least_rows::least_dates;
 use crate::rows::{date_in_rows, greatest_number};
@@ -15,7 +16,7 @@ use dating_certificates::check_rows;
 use dioid::Date;
 use late_lines::LateFiring;
 use std::alloc::Global;
-use teg_due::{Due, DueRow, is_due_of};
+use teg_due::{Due, DueRow};
 use teg_net::{Net, OutOfMemory};
 use witness_check::is_seen_live;
 
@@ -134,7 +135,7 @@ pub fn shown_first_late(
     let Some(late) = shown_late(alloc, net, text)? else {
         return Ok(None);
     };
-    if !is_due_of(net, due) || !is_seen_live(alloc, net)? {
+    if !is_due_list(alloc, net, due)? || !is_seen_live(alloc, net)? {
         return Ok(None);
     }
     if !is_least(alloc, net, &due.rows, late)? {

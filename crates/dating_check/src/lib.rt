@@ -17,11 +17,12 @@
 //!
 //! The crate stands on `dating_certificates` for checkers of dates, on `latest_laws` for what walks
 //! show, on `witness_check` for whether a net is live and for first lines, on `settled_laws` for
-//! settled forms, on `teg_due` for rows that are due, on `teg_text` and `late_lines` for texts, and
-//! on `teg_net` for nets; no crate of the program's search is below it. Its examples stand in
-//! `witness_examples`.
+//! settled forms, on `teg_due` and `csv_records` for rows that are due, on `teg_text` and
+//! `late_lines` for texts, and on `teg_net` for nets; no crate of the program's search is below it.
+//! Its examples stand in `witness_examples`.
 #![tactic(auto)]
 
+mod due_rows;
 mod first_late;
 mod late;
 mod latest;

@@ -4,12 +4,13 @@ ghost use Rattle.teg_text.specs.ValueWords.{IsDate};
 ghost use Rattle.dating_certificates.specs.CheckedRows.{AreRowsOf};
 ghost use Rattle.dating_check.specs.ShownTables.{IsRefutedTable};
 
+use crate::due_rows::is_due_list;
 use crate::table::{TableRows, are_ways_in, is_whole, lines_of};
 use crate::table_reading::table_in;
 use dating_certificates::{check_plan, due_rows_are_listed};
 use dioid::Date;
 use std::alloc::Global;
-use teg_due::{Due, is_due_of};
+use teg_due::Due;
 use teg_net::{Net, OutOfMemory};
 use witness_check::is_seen_live;
 
@@ -42,16 +43,15 @@ fn are_rows(net: &Net, numbers: u32, dates: &[Date]) -> bool
 /// these are not the latest dates of a plan for what is due (chapter 5), be it that some date is
 /// another or that inputs at 0 do not meet what is due; so [`shown_table`](crate::shown_table) shows
 /// nothing of it. Of any other text it says no, and of rows that are no due list of the net. Which
-/// step a line names is not looked at. It takes memory for the dates, the steps and the text, and
-/// time of their order with the places and the due dates. `OutOfMemory` comes only where no memory
-/// is found.
+/// step a line names is not looked at. It takes the memory and the time of
+/// [`shown_table`](crate::shown_table). `OutOfMemory` comes only where no memory is found.
 pub fn refutes_table(alloc: Global, net: &Net, due: &Due, text: &str) -> Result<bool, OutOfMemory>
     ensures { IfOk result (λ yes. IsTrue yes
         → IsRefutedTable net.now due.now.rows.items text.now) }
 {
     net.rules();
     due_rows_are_listed();
-    if !is_due_of(net, due) || !is_seen_live(alloc, net)? {
+    if !is_due_list(alloc, net, due)? || !is_seen_live(alloc, net)? {
         return Ok(false);
     }
     let Some(told) = table_in(alloc, net, due, text)? else {

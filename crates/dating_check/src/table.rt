@@ -3,13 +3,14 @@ ghost use Rattle.std.specs.Prelude.{◌≡◌, ◌+◌, ◌*◌, ◌<◌, ◌≤
 ghost use Rattle.teg_text.specs.Lines.{further_then, line_then, written};
 ghost use Rattle.dating_check.specs.ShownTables.{IsShownTable, IsWayIn, firing_line, firing_lines, role_told, table_told_lines, way_words};
 
+use crate::due_rows::is_due_list;
 use crate::rows::greatest_number;
 use crate::table_reading::table_in;
 use crate::ways::are_attained;
 use dating_certificates::check_plan;
 use dioid::Date;
 use std::alloc::{AllocError, Global};
-use teg_due::{Due, DueRow, is_due_of};
+use teg_due::{Due, DueRow};
 use teg_net::{Net, OutOfMemory, Role, Step};
 use witness_check::is_seen_live;
 
@@ -160,8 +161,9 @@ pub(crate) fn lines_of(alloc: Global, net: &Net, rows: TableRows<'_>) -> Result<
 /// firing, and the step that it names attains it; a firing that is `free` has none. So the lines of
 /// inputs tell the latest inputs. Latest dates that no inputs keep show nothing. The whole text is
 /// looked at; which of several steps is named is not. No rows that are no due list of the net show
-/// anything. It takes memory for the dates, the steps and the text, and time of their order with
-/// the places and the due dates. `OutOfMemory` comes only where no memory is found.
+/// anything. It takes memory for the dates, the steps and the text, and 10,001 bytes for each
+/// transition, and time of the order of the text and of order `n + p + r` a number for n transitions,
+/// p places and r due dates. `OutOfMemory` comes only where no memory is found.
 pub fn shown_table(
     alloc: Global,
     net: &Net,
@@ -171,7 +173,7 @@ pub fn shown_table(
     ensures { IfOk result (λ shown. IfSome shown
         (IsShownTable net.now due.now.rows.items text.now)) }
 {
-    if !is_due_of(net, due) || !is_seen_live(alloc, net)? {
+    if !is_due_list(alloc, net, due)? || !is_seen_live(alloc, net)? {
         return Ok(None);
     }
     let Some(told) = table_in(alloc, net, due, text)? else {
