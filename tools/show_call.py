@@ -5,10 +5,11 @@ name, and the lines of `use` that a file with the call and these clauses has.
     tools/show_call.py CRATE::NAME
     tools/show_call.py CRATE::TYPE::NAME
 
-NAME is a call, or a struct, an enum or a trait, of which the whole text is shown; of a call on a value its type stands
-before it, as teg_check::LiveNet::copy. The crate may hand it on from another one. Definitions are shown with the comment
-above them, those alone that the clauses name (tools/check_definitions.py --below NAME goes on from there); those of std
-are left out. The exit status is 0 where there is such a call, and else 1.
+NAME is a call, or a struct, an enum or a trait, of which the whole text is shown, with what contracts see of it and the
+line by which a file of specs/ names it; of a call on a value its type stands before it, as teg_check::LiveNet::copy. The
+crate may hand it on from another one. Definitions are shown with the comment above them, those alone that the clauses
+name (tools/check_definitions.py --below NAME goes on from there); those of std are left out. The exit status is 0 where
+there is such a call, and else 1.
 """
 import re
 import sys
@@ -80,6 +81,23 @@ def definition(specs, at):
     return [f"-- crates/{at[0]}/specs/{at[1]}.antt:{specs.lines[at]}", f"-- {specs.words[at]}", *lines[:last]]
 
 
+def seen_of(path, name):
+    """What contracts see of a type: the lines of its `impl Model`, without those of its invariant; and its `ghost use` lines."""
+    lines = path.read_text().splitlines()
+    first = next((at for at, line in enumerate(lines) if re.match(rf"impl\b(?:<[^{{]*?>)? ?Model for {name}\b", line)), None)
+    if first is None:
+        return [], []
+    block = lines[first + 1 : lines.index("}", first)]
+    said = [line.strip() for line in block if line.strip().startswith(("ghost Value", "ghost view"))]
+    return said, [line.strip() for line in block if "ghost use " in line]
+
+
+def path_in_specs(origin, path, name):
+    """The line by which a file of specs/ names a type of the code that contracts see as it stands."""
+    module = ".".join(path.relative_to(TOP / f"crates/{origin}/src").with_suffix("").parts)
+    return f"use Rattle.{origin}.specs.declared.{module + '.' if module != 'lib' else ''}{name}.{{{name}}}"
+
+
 def show(crate, kind, name):
     """Prints what there is to know of the call; whether there is one."""
     origin = origin_of(crate, kind or name)
@@ -91,12 +109,21 @@ def show(crate, kind, name):
         specs, text = Specs(), "\n".join(line for line in shown if not line.strip().startswith("///"))
         clauses = re.search(r"^ *(requires|ensures)\b.*", text, re.M | re.S)
         said = clauses[0] if clauses else ""
+        is_type = not kind and bool(re.search(r"^pub (struct|enum)\b", text, re.M))
+        if is_type:
+            seen, more = seen_of(path, name)
+            said, uses = "\n".join(seen), more
+            shown += [f"// contracts see of it: {line}" for line in seen]
         print("\n".join([f"// {path.relative_to(TOP)}:{number}", *shown]))
         for at in sorted(specs.named(said, imports_of("\n".join(uses)))):
             print("\n" + "\n".join(definition(specs, at)))
         print(f"\nuse {crate}::{kind or name};")
-        for line in filter(None, (named_by(use, said) for use in uses)):
-            print(line)
+        if is_type:
+            values = [named_by(use, seen[0]) for use in uses] if seen else [path_in_specs(origin, path, name)]
+            print("\n".join(f"-- in specs/: {line.removeprefix('ghost ').removesuffix(';')}" for line in values if line))
+        else:
+            for line in filter(None, (named_by(use, said) for use in uses)):
+                print(line)
         return True
     return False
 

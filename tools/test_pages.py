@@ -369,6 +369,30 @@ impl Bag {
         self.assertEqual(printed(show_call.show, "low", "Bag", "own"), ("", False))
         self.assertEqual(printed(show_call.show, "low", None, "size"), ("", False))
 
+    def test_a_type_is_shown_with_what_contracts_see(self):
+        self.write_types()
+        self.write("crates/low/src/inner/seen.rt", """/// Seen.
+pub struct Seen {
+    list: Vec<u8>,
+}
+
+impl Model for Seen {
+    ghost use Rattle.low.specs.Few.{Fews, IsFew};
+
+    ghost Value = { Fews };
+
+    ghost view = { λ s. s.list.items };
+
+    ghost invariant = { λ s. IsFew s };
+}
+""")
+        text = printed(show_call.show, "low", None, "Kind")[0]
+        self.assertTrue(text.endswith("}\n\nuse low::Kind;\n-- in specs/: use Rattle.low.specs.declared.kinds.Kind.{Kind}\n"))
+        text = printed(show_call.show, "low", None, "Seen")[0]
+        self.assertIn("}\n// contracts see of it: ghost Value = { Fews };\n// contracts see of it: ghost view = { λ s. s.list.items };\n", text)
+        self.assertTrue(text.endswith("\nuse low::Seen;\n-- in specs/: use Rattle.low.specs.Few.{Fews}\n"))
+        self.assertEqual(show_call.path_in_specs("low", self.top / "crates/low/src/inner/seen.rt", "Seen"), "use Rattle.low.specs.declared.inner.seen.Seen.{Seen}")
+
     def test_code_is_shown_as_it_stands(self):
         self.write("docs/MORE.md", "<!-- code low/src/kept.rt FEW kept -->\n<!-- end -->\n")
         self.write("crates/low/src/kept.rt", "use low::count;\n\nconst FEW: &[u8] = b\"one\ntwo\";\n\n// Whether it is kept.\n#[test]\nfn kept() {\n    count(FEW);\n}\n\nfn kept_too() {}\n")

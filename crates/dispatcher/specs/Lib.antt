@@ -1,1 +1,2 @@
+pub mod LeftRows
 pub mod Plants

@@ -42,6 +42,15 @@ fn planned(alloc: Global, outlook: &Outlook) -> Result<u32, Fail> {
     Ok(plan?.numbers())
 }
 
+// How many firings from now on are planned for due dates that count from the plant's beginning.
+fn still_planned(alloc: Global, plant: &Plant) -> Result<u32, Fail> {
+    let due = due_rows(alloc, plant.net(), b"work,1,2\nwork,3,20\n")?;
+    let outlook = plant.from_now_on(alloc, 8)?;
+    let left = plant.due_left(alloc, &outlook, &due)?;
+    let plan = outlook.latest_inputs(alloc, &left);
+    Ok(plan?.numbers())
+}
+
 // Whether it next works at 9, two firings are planned, and all goes on in a period of 1.
 fn goes_on(alloc: Global, outlook: &Outlook) -> Result<bool, Fail> {
     Ok(
@@ -60,6 +69,13 @@ fn is_left(alloc: Global, plant: &Plant) -> Result<bool, Fail> {
 // Whether the log tells what stands where, and what is left from now on.
 fn is_asked(alloc: Global, plant: &Plant) -> Result<bool, Fail> {
     Ok(told(plant)? == (1, Some(1), 1) && is_left(alloc, plant)?)
+}
+
+#[test]
+fn due_rows_are_numbered_anew(rt: HostRuntime) -> Result<(), Fail> {
+    let numbers = still_planned(rt.alloc(), &plant(rt.alloc())?);
+    assert!(rt; numbers? == 2);
+    Ok(())
 }
 
 #[test]
