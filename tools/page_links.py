@@ -7,8 +7,8 @@ from common import crates_in
 
 # Pages of the program's users, whose names are those of nets, and the page of edits, which is written from them.
 OF_NETS = ("GUIDE", "GLOSSARY", "WRONG_BODIES")
-# Names that stand for any name.
-PLACEHOLDERS = {"tell_x", "x_asked", "shown_x", "CodedX", "_laws"}
+# Names that stand for any name, and those of Rust's library that no source uses.
+PLACEHOLDERS = {"min_by_key", "try_collect", "tell_x", "x_asked", "shown_x", "CodedX", "_laws"}
 # Names with the crate that has them: one of it, or some with the crate in brackets behind the last.
 OF_CRATE = re.compile(r"`([^`\n]+)` (?:of|in|from) `(\w+)`|((?:`[^`\n]+`(?:, then|, or|, and|,| and) )*`[^`\n]+`) \(`(\w+)`\)")
 
