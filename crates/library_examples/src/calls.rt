@@ -12,13 +12,29 @@ use teg_net::{Net, PlaceId, Ratio, is_circuit, time_of, tokens_of};
 use teg_reader::{ReadRefusal, read_net, write_net};
 use teg_sizing::{Sizing, size};
 
-// The places of the loop, there and back.
+// The place of the loop that leads there.
+fn place_there(net: &Net) -> Result<PlaceId, Fail>
+    ensures { IfOk result (λ id. id.index < length net.now.places) }
+{
+    let there = net.find_place("ab").ok_or("no such place")?;
+    Ok(there)
+}
+
+// The place that leads back.
+fn place_back(net: &Net) -> Result<PlaceId, Fail>
+    ensures { IfOk result (λ id. id.index < length net.now.places) }
+{
+    let back = net.find_place("ba").ok_or("no such place")?;
+    Ok(back)
+}
+
+// Both of them.
 fn both_places(net: &Net) -> Result<(PlaceId, PlaceId), Fail>
     ensures there { IfOk result (λ found. found.0.index < length net.now.places) }
     ensures back { IfOk result (λ found. found.1.index < length net.now.places) }
 {
-    let there = net.find_place("ab").ok_or("no such place")?;
-    let back = net.find_place("ba").ok_or("no such place")?;
+    let there = place_there(net)?;
+    let back = place_back(net)?;
     Ok((there, back))
 }
 
@@ -37,7 +53,7 @@ fn a_circuit_has_a_time_and_tokens(rt: HostRuntime) -> Result<(), Fail> {
 
 // The place that leads back is as the file has it.
 fn look_at_back(rt: &impl Abort, net: &Net) -> Result<(), Fail> {
-    let back = net.find_place("ba").ok_or("no such place")?;
+    let back = place_back(net)?;
     assert!(rt; net.place(back).hold == 2);
     Ok(())
 }
@@ -71,9 +87,17 @@ fn a_net_is_read_and_written(rt: HostRuntime) -> Result<(), Fail> {
     look_at_file(&rt, alloc, &net)
 }
 
+// The place that leads back, of a net that is held.
+fn held_back(held: &LiveNet) -> Result<PlaceId, Fail>
+    ensures { IfOk result (λ id. id.index < length held.now.places) }
+{
+    let back = held.net().find_place("ba").ok_or("no such place")?;
+    Ok(back)
+}
+
 // The place that leads back takes another holding time, and not that it has no token.
 fn change_back(rt: &impl Abort, alloc: Global, held: &mut LiveNet) -> Result<(), Fail> {
-    let back = held.net().find_place("ba").ok_or("no such place")?;
+    let back = held_back(held)?;
     held.set_hold(back, 4);
     let place = held.net().place(back);
     assert!(rt; place.hold == 4 && place.ready.as_slice().is_empty());
@@ -121,7 +145,7 @@ fn due_dates_are_read(rt: HostRuntime) -> Result<(), Fail> {
 
 // Two more tokens of the place that leads back are enough for a cycle time of 2.
 fn size_back(rt: &impl Abort, alloc: Global, held: &LiveNet) -> Result<(), Fail> {
-    let back = held.net().find_place("ba").ok_or("no such place")?;
+    let back = held_back(held)?;
     let target = Ratio::of(2, 1);
     let sizing = size(alloc, held.net(), held.live(), back, &target)?;
     assert!(rt; matches!(sizing, Sizing::Enough { extra: 2, .. }));

@@ -1,7 +1,7 @@
 //! Chapters of the page on the library: a net that is read, checked, asked for its pace, changed
 //! and asked again, and an answer that is checked. What a test asks of a net that it owns stands in
 //! functions to which it lends the net.
-use example_nets::ask_changed;
+use example_nets::held;
 use std::alloc::Global;
 use std::process::Abort;
 use std::test::Fail;
@@ -38,14 +38,19 @@ fn cycle_times(alloc: Global, held: &LiveNet) -> Result<CycleAnswer, Fail> {
 }
 
 // The pace, and the circuit of the part that has one.
-fn look_at_pace(rt: &impl Abort, alloc: Global, held: &LiveNet) -> Result<(), Fail> {
-    let answer = cycle_times(alloc, held)?;
+fn look_at_answer(rt: &impl Abort, answer: CycleAnswer) {
     assert!(rt; best_ratio(&answer) == Some(Ratio::of(3, 1)));
     for part in answer.parts.iter() {
         if let PartAnswer::Best { circuit, .. } = part {
             assert!(rt; circuit.places.len() == 1);
         }
     }
+}
+
+// The same of a net that is held.
+fn look_at_pace(rt: &impl Abort, alloc: Global, held: &LiveNet) -> Result<(), Fail> {
+    let answer = cycle_times(alloc, held)?;
+    look_at_answer(rt, answer);
     Ok(())
 }
 
@@ -69,25 +74,35 @@ fn pace_when_slower(alloc: Global, held: &mut LiveNet) -> Result<Option<Ratio>, 
     Ok(best_ratio(&cycle_times(alloc, held)?))
 }
 
+// The pace of the net of the file where it is so slow.
+fn slower_pace(alloc: Global) -> Result<Option<Ratio>, Fail> {
+    let mut held = held(alloc, NET)?;
+    pace_when_slower(alloc, &mut held)
+}
+
 #[test]
 fn a_net_is_changed_and_asked_again(rt: HostRuntime) -> Result<(), Fail> {
-    let pace = ask_changed(rt.alloc(), NET, pace_when_slower)?;
-    assert!(rt; pace == Some(Ratio::of(5, 1)));
+    assert!(rt; slower_pace(rt.alloc())? == Some(Ratio::of(5, 1)));
     Ok(())
 }
 
 // The answer is a certificate of the net, and no longer where the net is slower.
-fn check_twice(rt: &impl Abort, alloc: Global, held: &mut LiveNet) -> Result<(), Fail> {
-    let answer = cycle_times(alloc, held)?;
+fn check_twice(rt: &impl Abort, held: &mut LiveNet, answer: &CycleAnswer) -> Result<(), Fail> {
     assert!(rt; check_cycle(held.net(), &answer));
     slow_down(held)?;
     assert!(rt; !check_cycle(held.net(), &answer));
     Ok(())
 }
 
+// The same of what is answered on the net.
+fn check_answer(rt: &impl Abort, alloc: Global, held: &mut LiveNet) -> Result<(), Fail> {
+    let answer = cycle_times(alloc, held)?;
+    check_twice(rt, held, &answer)
+}
+
 #[test]
 fn an_answer_is_checked(rt: HostRuntime) -> Result<(), Fail> {
     let alloc = rt.alloc();
     let mut held = LiveNet::new(alloc, read_net(alloc, NET)?)?;
-    check_twice(&rt, alloc, &mut held)
+    check_answer(&rt, alloc, &mut held)
 }

@@ -1,7 +1,7 @@
 //! Chapters of the page on the library: first dates, latest inputs, the settled form, and firings
 //! that are replayed. What a test asks of a net that it owns stands in functions to which it lends
 //! the net.
-ghost use Rattle.std.specs.Prelude.{◌≡◌, ◌<◌, ◌^◌, [], OnOk, length};
+ghost use Rattle.std.specs.Prelude.{◌≡◌, ◌<◌, ◌^◌, [], IfOk, OnOk, length};
 ghost use Rattle.teg_replay.specs.Games.{IsGameOf};
 
 use dioid::Date;
@@ -26,22 +26,26 @@ place = [
 input = [{transition = 'in', dates = [0], every = 1, gap = 4}]
 ";
 
-// Reads the net, holds it, and lends it to what looks at it.
-fn lend<R: Abort, F: FnOnce(&R, Global, &LiveNet) -> Result<(), Fail> + Drop>(
-    rt: &R,
-    alloc: Global,
-    look_at: F,
-) -> Result<(), Fail>
-    requires { F.IsAlwaysCallable look_at }
+// The transition by which parts come in.
+fn entry_of(held: &LiveNet) -> Result<TransitionId, Fail>
+    ensures { IfOk result (λ id. id.index < length held.now.transitions) }
 {
-    let held = LiveNet::new(alloc, read_net(alloc, NET)?)?;
-    look_at(rt, alloc, &held)
+    let entry = held.net().find("in").ok_or("no such transition")?;
+    Ok(entry)
+}
+
+// The transition that is work on a part.
+fn work_of(held: &LiveNet) -> Result<TransitionId, Fail>
+    ensures { IfOk result (λ id. id.index < length held.now.transitions) }
+{
+    let work = held.net().find("work").ok_or("no such transition")?;
+    Ok(work)
 }
 
 // Work on the first part, and on the third.
 fn look_at_dates(rt: &impl Abort, alloc: Global, held: &LiveNet) -> Result<(), Fail> {
     let dates = first_dates(alloc, held.net(), held.live(), 3)?;
-    let work = held.net().find("work").ok_or("no such transition")?;
+    let work = work_of(held)?;
     assert!(rt; dates.date(work, 1) == Date::At(2));
     assert!(rt; dates.date(work, 3) == Date::At(10));
     Ok(())
@@ -49,13 +53,15 @@ fn look_at_dates(rt: &impl Abort, alloc: Global, held: &LiveNet) -> Result<(), F
 
 #[test]
 fn firings_have_first_dates(rt: HostRuntime) -> Result<(), Fail> {
-    lend(&rt, rt.alloc(), look_at_dates)
+    let alloc = rt.alloc();
+    let held = LiveNet::new(alloc, read_net(alloc, NET)?)?;
+    look_at_dates(&rt, alloc, &held)
 }
 
 // Work on a part in a million.
 fn look_at_form(rt: &impl Abort, alloc: Global, held: &LiveNet) -> Result<(), Fail> {
     let form = settle(alloc, held.net(), held.live())?;
-    let work = held.net().find("work").ok_or("no such transition")?;
+    let work = work_of(held)?;
     assert!(rt; form.period() == 1 && form.step(work) == 4);
     assert!(rt; form.date(work, 1_000_000) == Date::At(3_999_998));
     Ok(())
@@ -63,14 +69,16 @@ fn look_at_form(rt: &impl Abort, alloc: Global, held: &LiveNet) -> Result<(), Fa
 
 #[test]
 fn dates_go_on_for_ever(rt: HostRuntime) -> Result<(), Fail> {
-    lend(&rt, rt.alloc(), look_at_form)
+    let alloc = rt.alloc();
+    let held = LiveNet::new(alloc, read_net(alloc, NET)?)?;
+    look_at_form(&rt, alloc, &held)
 }
 
 // The first part comes in at 6 at the latest.
 fn look_at_plan(rt: &impl Abort, held: &LiveNet, plan: &Plan) -> Result<(), Fail>
     requires { plan.now.width ≡ length held.now.transitions }
 {
-    let entry = held.net().find("in").ok_or("no such transition")?;
+    let entry = entry_of(held)?;
     assert!(rt; plan.numbers() == 2);
     let first = plan.latest(entry, 1);
     assert!(rt; matches!(first, LatestDate::At { date: 6, .. }));
@@ -86,7 +94,9 @@ fn plan_parts(rt: &impl Abort, alloc: Global, held: &LiveNet) -> Result<(), Fail
 
 #[test]
 fn due_dates_have_latest_inputs(rt: HostRuntime) -> Result<(), Fail> {
-    lend(&rt, rt.alloc(), plan_parts)
+    let alloc = rt.alloc();
+    let held = LiveNet::new(alloc, read_net(alloc, NET)?)?;
+    plan_parts(&rt, alloc, &held)
 }
 
 // A part comes in.
@@ -123,8 +133,8 @@ fn fire_both(rt: &impl Abort, alloc: Global, held: &LiveNet, game: &mut Game) ->
     requires stands { IsGameOf held.now game.old }
     requires empty { game.old.run ≡ [] }
 {
-    let entry = held.net().find("in").ok_or("no such transition")?;
-    let work = held.net().find("work").ok_or("no such transition")?;
+    let entry = entry_of(held)?;
+    let work = work_of(held)?;
     fire_entry(rt, alloc, held, game, entry)?;
     fire_early(rt, alloc, held, game, work);
     Ok(())
@@ -138,5 +148,7 @@ fn play(rt: &impl Abort, alloc: Global, held: &LiveNet) -> Result<(), Fail> {
 
 #[test]
 fn firings_are_replayed(rt: HostRuntime) -> Result<(), Fail> {
-    lend(&rt, rt.alloc(), play)
+    let alloc = rt.alloc();
+    let held = LiveNet::new(alloc, read_net(alloc, NET)?)?;
+    play(&rt, alloc, &held)
 }

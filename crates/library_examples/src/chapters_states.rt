@@ -2,9 +2,10 @@
 ghost use Rattle.std.specs.Prelude.{◌≡◌, ◌<◌, ◌≤◌, ◌^◌, IfOk, length};
 ghost use Rattle.teg_due.specs.RowRules.{IsDueOf};
 
+use crate::told::so;
 use dioid::Date;
 use dispatch::Dispatcher;
-use example_nets::{ask_held, ask_net, due_rows, place_named, transition_named};
+use example_nets::{due_rows, held, place_named, read, transition_named};
 use pace_pieces::{Piece, pace_by_hold};
 use run_laws::Fired;
 use std::alloc::Global;
@@ -43,15 +44,9 @@ fn left_at_8(alloc: Global, shop: &LiveNet) -> Result<LiveNet, Fail> {
     Ok(live_net_after(alloc, shop, &run, 8)?)
 }
 
-/// What the question tells of the shop as it is at 8.
-pub fn ask_at_8<F: FnOnce(Global, &LiveNet) -> Result<bool, Fail> + Drop>(
-    alloc: Global,
-    ask: F,
-) -> Result<bool, Fail>
-    requires { F.IsAlwaysCallable ask }
-{
-    let rest = ask_held(alloc, NET, left_at_8)?;
-    ask(alloc, &rest)
+/// The shop as it is at 8.
+pub fn shop_at_8(alloc: Global) -> Result<LiveNet, Fail> {
+    left_at_8(alloc, &held(alloc, NET)?)
 }
 
 // The first dates from now on.
@@ -67,16 +62,15 @@ fn dates_from_now(alloc: Global, rest: &LiveNet) -> Result<[Date; 4], Fail> {
     ])
 }
 
-// Whether these are they.
-fn goes_on(alloc: Global, rest: &LiveNet) -> Result<bool, Fail> {
+// That these are they.
+fn goes_on(alloc: Global, rest: &LiveNet) -> Result<(), Fail> {
     let wanted = [Date::At(8), Date::At(9), Date::At(12), Date::At(15)];
-    Ok(dates_from_now(alloc, rest)? == wanted)
+    so(dates_from_now(alloc, rest)? == wanted, "dates from 8 on")
 }
 
 #[test]
 fn a_net_goes_on_from_now(rt: HostRuntime) -> Result<(), Fail> {
-    assert!(rt; ask_at_8(rt.alloc(), goes_on)?);
-    Ok(())
+    goes_on(rt.alloc(), &shop_at_8(rt.alloc())?)
 }
 
 // Takes down what happened up to 8.
@@ -127,24 +121,25 @@ fn open(alloc: Global, net: &Net) -> Result<Dispatcher, Fail>
     Ok(Dispatcher::new(alloc, LiveNet::new(alloc, net.copy(alloc)?)?)?)
 }
 
-// Whether the dates of work, and how many due dates are missed, are told so at 8.
+// That the dates of work, and how many due dates are missed, are told so at 8.
 fn is_told_at_8(
     alloc: Global,
     shop: &mut Dispatcher,
     due: &Due,
     entry: TransitionId,
     work: TransitionId,
-) -> Result<bool, Fail>
+) -> Result<(), Fail>
     requires work { work.index < length shop.old.net.transitions }
     requires due { IsDueOf shop.old.net due.now.rows.items }
 {
     take_down(alloc, shop, entry, work)?;
     let wanted = [Date::At(2), Date::At(9), Date::At(12), Date::At(15)];
-    Ok(has_dates_at_8(alloc, shop, work, &wanted)? && missed_at_8(alloc, shop, due)? == 2)
+    so(has_dates_at_8(alloc, shop, work, &wanted)?, "dates at 8")?;
+    so(missed_at_8(alloc, shop, due)? == 2, "missed at 8")
 }
 
-// Whether the shop that this net is tells so, with these due dates.
-fn tells_at_8(alloc: Global, net: &Net, due: &Due) -> Result<bool, Fail>
+// That the shop that this net is tells so, with these due dates.
+fn tells_at_8(alloc: Global, net: &Net, due: &Due) -> Result<(), Fail>
     requires { IsDueOf net.now due.now.rows.items }
 {
     let entry = transition_named(net, "in")?;
@@ -154,15 +149,14 @@ fn tells_at_8(alloc: Global, net: &Net, due: &Due) -> Result<bool, Fail>
 }
 
 // The same with the due dates as their file has them.
-fn is_seen(alloc: Global, net: &Net) -> Result<bool, Fail> {
+fn is_seen(alloc: Global, net: &Net) -> Result<(), Fail> {
     let due = due_rows(alloc, net, b"work,1,2\nwork,2,9\nwork,3,11\nwork,4,14\n")?;
     tells_at_8(alloc, net, &due)
 }
 
 #[test]
 fn a_late_part_is_seen(rt: HostRuntime) -> Result<(), Fail> {
-    assert!(rt; ask_net(rt.alloc(), NET, is_seen)?);
-    Ok(())
+    is_seen(rt.alloc(), &read(rt.alloc(), NET)?)
 }
 
 // Three steps, each pair of them with a card between.
@@ -213,23 +207,22 @@ fn with_card(alloc: Global, held: &LiveNet) -> Result<u32, Fail> {
     Ok(trial.net().place(cards).tokens)
 }
 
-// Whether the changes come to what was worked out, and the net stays as it is.
-fn is_tried(alloc: Global, held: &LiveNet) -> Result<bool, Fail> {
+// That the changes come to what was worked out, and the net stays as it is.
+fn is_tried(alloc: Global, held: &LiveNet) -> Result<(), Fail> {
     let best = best_cut(alloc, held)?;
     let pace = Some(Ratio::of(5, 1));
-    Ok(
-        best.cut.place.index() == 2
-            && best.pace == pace
-            && pace_with_card(alloc, held)? == pace
-            && with_card(alloc, held)? == 2
-            && with_card(alloc, held)? == 2,
-    )
+    so(
+        best.cut.place.index() == 2 && best.pace == pace,
+        "the better cut",
+    )?;
+    so(pace_with_card(alloc, held)? == pace, "the pace with a card")?;
+    so(with_card(alloc, held)? == 2, "a card")?;
+    so(with_card(alloc, held)? == 2, "a card again")
 }
 
 #[test]
 fn a_change_is_tried(rt: HostRuntime) -> Result<(), Fail> {
-    assert!(rt; ask_held(rt.alloc(), CARDS, is_tried)?);
-    Ok(())
+    is_tried(rt.alloc(), &held(rt.alloc(), CARDS)?)
 }
 
 // The pace as the work on c takes from nothing to 10 units.
@@ -252,13 +245,12 @@ fn are_two(pieces: &[Piece]) -> bool {
         && second.line.passes == 1
 }
 
-// Whether the pieces are those two.
-fn has_pieces(alloc: Global, held: &LiveNet) -> Result<bool, Fail> {
-    Ok(are_two(&pace_of_work(alloc, held)?))
+// That the pieces are those two.
+fn has_pieces(alloc: Global, held: &LiveNet) -> Result<(), Fail> {
+    so(are_two(&pace_of_work(alloc, held)?), "pieces of the pace")
 }
 
 #[test]
 fn a_pace_has_pieces(rt: HostRuntime) -> Result<(), Fail> {
-    assert!(rt; ask_held(rt.alloc(), CARDS, has_pieces)?);
-    Ok(())
+    has_pieces(rt.alloc(), &held(rt.alloc(), CARDS)?)
 }

@@ -1,7 +1,8 @@
 //! Nets that are copied, held, changed and asked again, and the checkers of what answers show.
+use crate::told::so;
 use dating_certificates::check_rows;
 use dioid::Date;
-use example_nets::{LOOP, ask_changed, ask_held, ask_net, held, place_named};
+use example_nets::{LOOP, held, place_named, read};
 use scheduler_loop::Scheduler;
 use std::alloc::Global;
 use std::test::Fail;
@@ -47,13 +48,14 @@ fn takes_tokens(alloc: Global, held: &mut LiveNet) -> Result<bool, Fail> {
     Ok(circuit.places.len() == 2 && tokens(held.net())? == 2)
 }
 
-// Whether a copy of its net stays as it is where tokens are changed.
-fn changes_alone(alloc: Global, held: &mut LiveNet, copy: &Net) -> Result<bool, Fail> {
-    Ok(takes_tokens(alloc, held)? && tokens(copy)? == 1)
+// That a copy of its net stays as it is where tokens are changed.
+fn changes_alone(alloc: Global, held: &mut LiveNet, copy: &Net) -> Result<(), Fail> {
+    so(takes_tokens(alloc, held)?, "2 tokens")?;
+    so(tokens(copy)? == 1, "a token of the copy")
 }
 
 // The same of a copy that is made of it.
-fn keeps_copy(alloc: Global, held: &mut LiveNet) -> Result<bool, Fail> {
+fn keeps_copy(alloc: Global, held: &mut LiveNet) -> Result<(), Fail> {
     let copy = held.net().copy(alloc)?;
     changes_alone(alloc, held, &copy)
 }
@@ -65,30 +67,29 @@ fn is_let_go(held: LiveNet) -> bool {
 
 #[test]
 fn tokens_are_changed_where_the_net_stays_live(rt: HostRuntime) -> Result<(), Fail> {
-    assert!(rt; ask_changed(rt.alloc(), LOOP, keeps_copy)?);
-    assert!(rt; is_let_go(held(rt.alloc(), LOOP)?));
-    Ok(())
+    so(is_let_go(held(rt.alloc(), LOOP)?), "places of the net")?;
+    keeps_copy(rt.alloc(), &mut held(rt.alloc(), LOOP)?)
 }
 
-// Whether these rows and no others are told to be right, ranks too, and that nothing shows a
-// deadlock.
-fn are_checked(alloc: Global, net: &Net) -> Result<bool, Fail> {
-    let (there, back) = (PlaceId::new(0), PlaceId::new(1));
+// Whether ranks are told to be right, and that nothing shows a deadlock.
+fn has_ranks(net: &Net) -> bool {
+    is_ranking(net, &[0, 1])
+        && !is_ranking(net, &[1, 0])
+        && !shows_deadlock(net, &[PlaceId::new(0), PlaceId::new(1)])
+}
+
+// That they are, and these rows and no others too.
+fn are_checked(alloc: Global, net: &Net) -> Result<(), Fail> {
     let rows = [Date::At(0), Date::At(3), Date::At(5), Date::At(8)];
     let others = [Date::At(0), Date::At(3), Date::At(5), Date::At(9)];
-    Ok(
-        is_ranking(net, &[0, 1])
-            && !is_ranking(net, &[1, 0])
-            && !shows_deadlock(net, &[there, back])
-            && check_rows(alloc, net, &rows)?
-            && !check_rows(alloc, net, &others)?,
-    )
+    so(has_ranks(net), "ranks")?;
+    so(check_rows(alloc, net, &rows)?, "rows")?;
+    so(!check_rows(alloc, net, &others)?, "other rows")
 }
 
 #[test]
 fn ranks_a_deadlock_and_rows_are_checked(rt: HostRuntime) -> Result<(), Fail> {
-    assert!(rt; ask_net(rt.alloc(), LOOP, are_checked)?);
-    Ok(())
+    are_checked(rt.alloc(), &read(rt.alloc(), LOOP)?)
 }
 
 // Whether what was found shows that 2 more are enough, and one too few.
@@ -100,9 +101,9 @@ fn is_shown(net: &Net, circuit: &Circuit, potentials: &[i128]) -> bool {
         && !check_enough(net, &target, back, 1, potentials)
 }
 
-// Whether 2 more are told to be enough for a cycle time of 2, and shown to be: by a circuit that one
+// That 2 more are told to be enough for a cycle time of 2, and shown to be: by a circuit that one
 // less is too few for, and by potentials.
-fn is_sized(alloc: Global, held: &LiveNet) -> Result<bool, Fail> {
+fn is_sized(alloc: Global, held: &LiveNet) -> Result<(), Fail> {
     let (net, target) = (held.net(), Ratio::of(2, 1));
     let place = place_named(net, "ba")?;
     match size(alloc, net, held.live(), place, &target)? {
@@ -111,16 +112,15 @@ fn is_sized(alloc: Global, held: &LiveNet) -> Result<bool, Fail> {
             circuit: Some(circuit),
         } => {
             let potentials = enough_potentials(alloc, net, place, &target, extra)?;
-            Ok(extra == 2 && is_shown(net, &circuit, &potentials))
+            so(extra == 2 && is_shown(net, &circuit, &potentials), "2 more")
         }
-        _ => Ok(false),
+        _ => Err(Fail::new("no circuit")),
     }
 }
 
 #[test]
 fn further_tokens_are_checked(rt: HostRuntime) -> Result<(), Fail> {
-    assert!(rt; ask_held(rt.alloc(), LOOP, is_sized)?);
-    Ok(())
+    is_sized(rt.alloc(), &held(rt.alloc(), LOOP)?)
 }
 
 // Whether the pace is so much.
@@ -141,21 +141,17 @@ fn planned(alloc: Global, scheduler: &Scheduler) -> Result<u32, Fail> {
     Ok(scheduler.latest(alloc, b"work,2,12\n")?.numbers())
 }
 
-// Whether the service takes another holding time of the machine, and of no other.
-fn is_asked_again(alloc: Global, scheduler: &mut Scheduler) -> Result<bool, Fail> {
-    Ok(
-        has_pace(alloc, scheduler, 3)?
-            && takes(scheduler, "busy", 5)
-            && has_pace(alloc, scheduler, 5)?
-            && !takes(scheduler, "none", 5)
-            && !takes(scheduler, "busy", 1_000_000_001)
-            && planned(alloc, scheduler)? == 2,
-    )
+// That the service takes another holding time of the machine, and of no other.
+fn is_asked_again(alloc: Global, scheduler: &mut Scheduler) -> Result<(), Fail> {
+    so(has_pace(alloc, scheduler, 3)?, "a pace of 3")?;
+    so(takes(scheduler, "busy", 5), "a hold of 5")?;
+    so(has_pace(alloc, scheduler, 5)?, "a pace of 5")?;
+    so(!takes(scheduler, "none", 5), "no such place")?;
+    so(!takes(scheduler, "busy", 1_000_000_001), "too long a hold")?;
+    so(planned(alloc, scheduler)? == 2, "a plan")
 }
 
 #[test]
 fn a_service_is_asked_again(rt: HostRuntime) -> Result<(), Fail> {
-    let is_right = is_asked_again(rt.alloc(), &mut Scheduler::new(rt.alloc(), LINE)?);
-    assert!(rt; is_right?);
-    Ok(())
+    is_asked_again(rt.alloc(), &mut Scheduler::new(rt.alloc(), LINE)?)
 }

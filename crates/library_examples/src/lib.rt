@@ -43,6 +43,8 @@ mod refusal_lines;
 #[cfg(test)]
 mod texts;
 #[cfg(test)]
+mod told;
+#[cfg(test)]
 mod usage;
 #[cfg(test)]
 mod words;

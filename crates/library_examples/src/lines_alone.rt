@@ -1,6 +1,7 @@
 //! The texts of cycle times and of a circuit without tokens, written on `teg_lines` without the
 //! other crates of answers.
-use example_nets::{LOOP, ask_held, read};
+use crate::told::so;
+use example_nets::{LOOP, held, read};
 use std::alloc::Global;
 use std::test::Fail;
 use teg_certificates::check_cycle;
@@ -45,7 +46,7 @@ fn told_refusal(alloc: Global, refused: &NotHeld) -> Result<Vec<u8>, OutOfMemory
 }
 
 // Whether the text of the cycle times of a net that is held begins so.
-fn has_cycle_times(alloc: Global, held: &LiveNet) -> Result<bool, Fail> {
+fn has_cycle_times(alloc: Global, held: &LiveNet) -> Result<bool, OutOfMemory> {
     let answer = answer_of(alloc, held)?;
     let text = told(alloc, held.net(), &answer)?;
     Ok(text.starts_with(b"cycle time 5/1\ncircuit ab ba\n"))
@@ -65,8 +66,10 @@ fn is_refused(alloc: Global, net: Net) -> Result<bool, OutOfMemory> {
 #[test]
 fn cycle_times_and_a_circuit_without_tokens_are_told(rt: HostRuntime) -> Result<(), Fail> {
     let alloc = rt.alloc();
-    assert!(rt; ask_held(alloc, LOOP, has_cycle_times)?);
-    let is_refused = is_refused(alloc, read(alloc, STUCK)?);
-    assert!(rt; is_refused?);
-    Ok(())
+    so(
+        is_refused(alloc, read(alloc, STUCK)?)?,
+        "a circuit without tokens",
+    )?;
+    let has_cycle_times = has_cycle_times(alloc, &held(alloc, LOOP)?);
+    so(has_cycle_times?, "cycle times")
 }

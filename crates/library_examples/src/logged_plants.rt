@@ -1,4 +1,5 @@
 //! The log of a machine, asked in the middle of its work.
+use crate::told::so;
 use dioid::Date;
 use dispatcher::{Outlook, Plant};
 use example_nets::{due_rows, held, place_named, transition_named};
@@ -51,24 +52,18 @@ fn still_planned(alloc: Global, plant: &Plant) -> Result<u32, Fail> {
     Ok(plan?.numbers())
 }
 
-// Whether it next works at 9, two firings are planned, and all goes on in a period of 1.
-fn goes_on(alloc: Global, outlook: &Outlook) -> Result<bool, Fail> {
-    Ok(
-        next_date(alloc, outlook)? == Date::At(9)
-            && planned(alloc, outlook)? == 2
-            && outlook.settle(alloc)?.period() == 1,
-    )
+// That it next works at 9, two firings are planned, and all goes on in a period of 1.
+fn goes_on(alloc: Global, outlook: &Outlook) -> Result<(), Fail> {
+    so(next_date(alloc, outlook)? == Date::At(9), "the next date")?;
+    so(planned(alloc, outlook)? == 2, "two firings")?;
+    so(outlook.settle(alloc)?.period() == 1, "a period of 1")
 }
 
-// Whether it does so at 8.
-fn is_left(alloc: Global, plant: &Plant) -> Result<bool, Fail> {
+// That the log tells what stands where, and what is left at 8.
+fn is_asked(alloc: Global, plant: &Plant) -> Result<(), Fail> {
+    so(told(plant)? == (1, Some(1), 1), "what stands where")?;
     let outlook = plant.from_now_on(alloc, 8)?;
     goes_on(alloc, &outlook)
-}
-
-// Whether the log tells what stands where, and what is left from now on.
-fn is_asked(alloc: Global, plant: &Plant) -> Result<bool, Fail> {
-    Ok(told(plant)? == (1, Some(1), 1) && is_left(alloc, plant)?)
 }
 
 #[test]
@@ -80,7 +75,5 @@ fn due_rows_are_numbered_anew(rt: HostRuntime) -> Result<(), Fail> {
 
 #[test]
 fn a_log_tells_what_stands_where_and_goes_on(rt: HostRuntime) -> Result<(), Fail> {
-    let is_asked = is_asked(rt.alloc(), &plant(rt.alloc())?);
-    assert!(rt; is_asked?);
-    Ok(())
+    is_asked(rt.alloc(), &plant(rt.alloc())?)
 }

@@ -1,13 +1,14 @@
 //! The head of a list and a row, and two texts at once.
+use crate::told::so;
 use dioid::Date;
-use example_nets::{LOOP, ask_net};
+use example_nets::{LOOP, read};
 use std::alloc::Global;
 use std::test::Fail;
 use teg_net::{Net, OutOfMemory};
 use teg_report::{Answer, list_head, list_row, report_both};
 
 // Whether the head of a list of three firings of the net is told so.
-fn has_head(alloc: Global, net: &Net) -> Result<bool, Fail> {
+fn has_head(alloc: Global, net: &Net) -> Result<bool, OutOfMemory> {
     let head = list_head(alloc, net, 3)?;
     Ok(head.as_slice() == b"dates of 3 firings\ntransition a b\n".as_slice())
 }
@@ -31,10 +32,14 @@ fn has_both(alloc: Global) -> Result<bool, OutOfMemory> {
     )
 }
 
+// That all three are told so.
+fn tell_texts(alloc: Global, net: &Net) -> Result<(), Fail> {
+    so(has_head(alloc, net)?, "the head of a list")?;
+    so(has_row(alloc)?, "a row")?;
+    so(has_both(alloc)?, "both texts")
+}
+
 #[test]
 fn texts_are_told(rt: HostRuntime) -> Result<(), Fail> {
-    assert!(rt; ask_net(rt.alloc(), LOOP, has_head)?);
-    assert!(rt; has_row(rt.alloc())?);
-    assert!(rt; has_both(rt.alloc())?);
-    Ok(())
+    tell_texts(rt.alloc(), &read(rt.alloc(), LOOP)?)
 }
