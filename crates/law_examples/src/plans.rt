@@ -26,8 +26,9 @@ use due_changes::{
     latest_dates_move_with_dues,
 };
 use latest_laws::{
-    inputs_meet_by_floats, late_walks_refuse, latest_dates_are_feasible, latest_dates_are_solutions,
-    latest_dates_solve_backwards, tight_walks_bound, zero_inputs_meet_by_starts,
+    inputs_meet_by_floats, late_walks_refuse, latest_dates_are_feasible,
+    latest_dates_are_solutions, latest_dates_solve_backwards, tight_walks_bound,
+    zero_inputs_meet_by_starts,
 };
 use planning_laws::given_inputs_meet_in_time;
 use teg_check::{Live, ranked_nets_are_live};
