@@ -1,0 +1,5 @@
+use Rattle.part_changes.proofs.SameEnds.{kept_by_tokens}
+use Rattle.part_changes.proofs.laws.tokens_keep_parts.Goals as goal
+
+pub returns : goal.returns
+returns c = kept_by_tokens
