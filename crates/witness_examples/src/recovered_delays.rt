@@ -1,7 +1,10 @@
 //! Delays of a timetable that die out.
 use crate::kept_delays::{Told, tells_rows};
 use delay_check::shown_recovered;
+use delay_laws::Timetable;
+use std::alloc::Global;
 use std::test::Fail;
+use teg_net::{Net, OutOfMemory};
 
 const OVER: &str = "settled after 3 period 1
 recovered after 3
@@ -193,7 +196,18 @@ const TEXTS: [Told; 28] = [
     (32, 10, HUGE_LAST, None),
 ];
 
+// The number after which the text shows that no delay is left.
+fn last_late(
+    alloc: Global,
+    net: &Net,
+    period: u64,
+    table: &Timetable,
+    text: &str,
+) -> Result<Option<u64>, OutOfMemory> {
+    shown_recovered(alloc, net, period, table, text)
+}
+
 #[test]
 fn delays_that_die_out_are_shown(rt: HostRuntime) -> Result<(), Fail> {
-    tells_rows(rt.alloc(), &TEXTS, &shown_recovered)
+    tells_rows(rt.alloc(), &TEXTS, &last_late)
 }
