@@ -9,7 +9,7 @@ use Rattle.teg_net.specs.Ratios.{Fraction}
 use Rattle.teg_certificates.proofs.Short.{circuit_short, circuit_sums}
 use Rattle.token_shares.specs.declared.cuts.Cut.{Cut}
 use Rattle.token_shares.specs.KeptCuts.{IsCut, further_by, times_passed}
-use Rattle.token_shares.specs.TokenShares.{AreEnough, HasRoom, IsAbove, with_further}
+use Rattle.token_shares.specs.TokenShares.{AreEnough, with_further}
 use Rattle.token_shares.proofs.Further.{circuit_back, time_further, tokens_further}
 
 -- numbers that leave the circuit above the target are not enough
@@ -51,14 +51,3 @@ cut_is net places ps c ok circuit time tokens passes few =
         passes = λ i d l. let own = few i d l in omega arith;
       };
     }
-
--- a circuit above the target with the further tokens says that they are not enough
-pub not_enough : (net : NetLists) (r : Fraction) (places : List PlaceId) (ds : List ℕ) (ps : List PlaceId) → IsAbove (with_further net places ds) r ps → AreEnough net r places ds → ⊥
-not_enough net r places ds ps a enough =
-    let low = enough.kept ps a.circuit in
-    let above = a.above in
-    absurd (omega arith)
-
--- in a net all places have room
-pub has_room : (net : NetLists) (places : List PlaceId) (ds : List ℕ) → IsNet (with_further net places ds) → HasRoom net places ds
-has_room net places ds ok = λ i d l. (ok.each_place i d l).tokens_in

@@ -8,7 +8,7 @@ use Rattle.std.proofs.lemmas.List.Sums.{sum_by-cons}
 use Rattle.teg_net.specs.declared.entries.Place.{Place}
 use Rattle.teg_net.specs.declared.entries.PlaceId.{PlaceId}
 use Rattle.teg_net.specs.Changes.{place_with_tokens, with_tokens}
-use Rattle.teg_net.specs.Circuits.{no_place, place_at, IsCircuit, BeginsLowest, time_of, tokens_of}
+use Rattle.teg_net.specs.Circuits.{no_place, place_at, IsCircuit, time_of, tokens_of}
 use Rattle.teg_net.specs.Nets.{NetLists}
 use Rattle.teg_net.proofs.Changing.{HaveSameEnds, circuit_along}
 use Rattle.teg_net.proofs.Reading.{same_id}
@@ -17,7 +17,7 @@ use Rattle.teg_check.proofs.Changing.{ranking_with_more}
 use Rattle.token_shares.specs.BareNets.{HasNoDates}
 use Rattle.token_shares.specs.KeptCuts.{one_at, times_passed, further_by}
 use Rattle.token_shares.specs.TokenShares.{with_further}
-use Rattle.token_shares.proofs.Places.{kept_at, new_at, other_at, sum_shared, lowest_shared}
+use Rattle.token_shares.proofs.Places.{kept_at, new_at, other_at, sum_shared}
 
 -- the net after the first place of a list
 abbrev pub after_one : NetLists → PlaceId → ℕ → NetLists
@@ -38,11 +38,6 @@ count_further net [] ds = refl
 count_further net (p ∷ places) [] = refl
 count_further net (p ∷ places) (d ∷ ds) =
     count_further (after_one net p d) places ds ∙ length-set net.places p.index (place_with_tokens ((place_at net p).tokens + d) (place_at net p))
-
-pub transitions_further : (net : NetLists) (places : List PlaceId) (ds : List ℕ) → (with_further net places ds).transitions ≡ net.transitions
-transitions_further net [] ds = refl
-transitions_further net (p ∷ places) [] = refl
-transitions_further net (p ∷ places) (d ∷ ds) = transitions_further (after_one net p d) places ds
 
 -- ---- circuits
 
@@ -143,8 +138,3 @@ ranking_further net ranks (p ∷ places) (d ∷ ds) r h =
 -- a net without dates stays one
 pub dates_after : (net : NetLists) (p : PlaceId) (d : ℕ) → p.index < length net.places → HasNoDates net → HasNoDates (after_one net p d)
 dates_after net p d l h = All-set (λ (z : Place). z.ready ≡ []) net.places p.index (place_with_tokens ((place_at net p).tokens + d) (place_at net p)) (h p.index no_place l) h
-
--- circuits that begin lowest do so still
-pub lowest_forth : (net : NetLists) (places : List PlaceId) (ds : List ℕ) (ps : List PlaceId) → BeginsLowest (with_further net places ds) ps → BeginsLowest net ps
-lowest_forth net places ds ps l =
-    lowest_shared (with_further net places ds) net ps (λ i d m. kept_further (λ p. p.from.index) (λ t p. refl) net places ds _) l

@@ -1,14 +1,14 @@
 -- Further tokens that are laid into a net one place after another.
-use Rattle.std.proofs.Common.{ℕ, ◌+◌, ◌<◌, ◌≤◌, ◌≡◌, List, [], ◌∷◌, length, get_or, drop, drop-cons, refl, sym, ap, subst, ◌∙◌, arith, add-one}
+use Rattle.std.proofs.Common.{ℕ, ◌+◌, ◌<◌, ◌≡◌, List, ◌∷◌, length, get_or, drop, drop-cons, refl, sym, ap, subst, ◌∙◌, arith, add-one}
 use Rattle.std.specs.Prelude.{All}
-use Rattle.std.proofs.lemmas.List.{drop_all, length-set}
+use Rattle.std.proofs.lemmas.List.{length-set}
 use Rattle.std.proofs.lemmas.List.Elements.{All-drop}
 use Rattle.teg_net.specs.declared.entries.Place.{Place}
 use Rattle.teg_net.specs.declared.entries.PlaceId.{PlaceId}
 use Rattle.teg_net.specs.Changes.{place_with_tokens, with_tokens}
 use Rattle.teg_net.specs.Circuits.{no_place, place_at}
 use Rattle.teg_net.specs.Nets.{NetLists}
-use Rattle.token_shares.specs.BareNets.{HasNoDates, IsTrialUpTo}
+use Rattle.token_shares.specs.BareNets.{IsTrialUpTo}
 use Rattle.token_shares.specs.TokenShares.{HasRoom, with_further}
 use Rattle.token_shares.proofs.Places.{new_at}
 use Rattle.token_shares.proofs.Further.{after_one, count_further, dates_after, grows}
@@ -17,9 +17,6 @@ abbrev none : PlaceId
 none = record { index = 0 }
 
 module _ (plain : NetLists) (places : List PlaceId) (ds : List ℕ) (range : All (λ p. p.index < length plain.places) places) (count : length ds ≡ length places) where
-  pub begun : HasNoDates plain → IsTrialUpTo plain places ds 0 plain
-  begun h = record { count = refl; no_dates = h; rest = refl }
-
   module _ (i : ℕ) (trial : NetLists) (l : i < length places) (h : IsTrialUpTo plain places ds i trial) where
     abbrev place : PlaceId
     place = get_or places i none
@@ -38,12 +35,6 @@ module _ (plain : NetLists) (places : List PlaceId) (ds : List ℕ) (range : All
 
     same_count : length (after_one trial place number).places ≡ length trial.places
     same_count = length-set trial.places place.index (place_with_tokens ((place_at trial place).tokens + number) (place_at trial place))
-
-    pub dated : length (place_at trial place).ready ≡ 0
-    dated = ap (λ (xs : List ℕ). length xs) (h.no_dates place.index no_place in_range)
-
-    pub within : place.index < length trial.places
-    within = in_range
 
     pub more : (after : NetLists) → after ≡ with_tokens trial place ((place_at trial place).tokens + number) → IsTrialUpTo plain places ds (i + 1) after
     more after e = subst (IsTrialUpTo plain places ds (i + 1)) (sym e) (record {
@@ -66,9 +57,3 @@ module _ (plain : NetLists) (places : List PlaceId) (ds : List ℕ) (range : All
         ap (λ (n : NetLists). (place_at n place).tokens) (sym step ∙ h.rest) in
         let low = room place.index no_place (subst (λ (n : ℕ). place.index < n) (sym (count_further plain places ds)) (range i none l)) in
         absurd (omega arith)
-
-  pub done : (i : ℕ) (trial : NetLists) → length places ≤ i → IsTrialUpTo plain places ds i trial → trial ≡ with_further plain places ds
-  done i trial l h =
-      let one : drop i places ≡ [] = drop_all i places l in
-      let all : with_further trial (drop i places) (drop i ds) ≡ trial = rw one refl in
-      sym all ∙ h.rest

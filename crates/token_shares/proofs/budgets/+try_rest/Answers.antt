@@ -12,8 +12,8 @@ loop-next-preserved t c =
     let next = c.loop-next.next in
     let h = c.loop-next.invariant in
     let no : c.in_ok-try_rest.field-0 ≡ false = search rules in
-    let pushed : c.push.new.self.items ≡ begun ++ next ∷ [] = c.in_ok-push.ensures.items ∙ ap (λ (xs : List ℕ). xs ++ next ∷ []) h.same in
-    let all : c.try_rest.new.numbers.items ≡ begun ++ next ∷ [] = c.in_ok-try_rest.ensures.back no ∙ pushed in
+    let pushed : c.push.new.self.items ≡ begun ++ next ∷ [] = ◌∙◌ {A = List ℕ} c.in_ok-push.ensures.items (ap (λ (xs : List ℕ). xs ++ next ∷ []) h.same) in
+    let all : c.try_rest.new.numbers.items ≡ begun ++ next ∷ [] = ◌∙◌ {A = List ℕ} (c.in_ok-try_rest.ensures.back no) pushed in
     let here : NoneGoesOn net r places (begun ++ next ∷ []) (c.args.rest - next) =
     subst (λ (xs : List ℕ). NoneGoesOn net r places xs (c.args.rest - next)) pushed (c.in_ok-try_rest.ensures.no no) in
     record {

@@ -1,8 +1,9 @@
-use Rattle.std.proofs.Common.{◌≡◌, arith, sym, subst}
+use Rattle.std.proofs.Common.{◌≡◌, List, arith, sym, subst}
 use Rattle.std.specs.Prelude.{All}
 use Rattle.std.proofs.lemmas.List.Elements.{All-push}
 use Rattle.teg_net.specs.Nets.{NetLists}
 use Rattle.teg_check.specs.Ranks.{IsRanking}
+use Rattle.token_shares.specs.declared.cuts.Cut.{Cut}
 use Rattle.token_shares.specs.KeptCuts.{IsCut}
 use Rattle.token_shares.specs.TokenShares.{IsAbove, with_further}
 use Rattle.token_shares.proofs.Further.{circuit_forth, count_further, ranking_further}
@@ -38,5 +39,5 @@ pub returns-clause-cuts : goal.returns-clause-cuts
 returns-clause-cuts c =
     let net = c.args.asked.now.plain.now in
     let places = c.args.asked.now.places.now in
-    subst (All (IsCut net places)) (sym c.in_ok-push.ensures.items)
+    subst (All (IsCut net places)) (sym {A = List Cut} c.in_ok-push.ensures.items)
     (All-push (IsCut net places) c.args.cuts.now.items c.in_ok-cut_of.field-0 c.requires.cuts c.in_ok-cut_of.ensures)
