@@ -15,6 +15,7 @@ use teg_dates::first_dates;
 use teg_due::Due;
 use teg_net::{Net, Ratio, TransitionId};
 use teg_state::live_net_after;
+use token_shares::{Shares, fewest_tokens};
 use whatif::{BestCut, Cut, best_of, may_add_tokens, pace_with_tokens};
 
 /// A part comes in every 4 units, and a machine works 3 units on it.
@@ -253,4 +254,42 @@ fn has_pieces(alloc: Global, held: &LiveNet) -> Result<(), Fail> {
 #[test]
 fn a_pace_has_pieces(rt: HostRuntime) -> Result<(), Fail> {
     has_pieces(rt.alloc(), &held(rt.alloc(), CARDS)?)
+}
+
+// How many further cards from b to a and from c to b are enough for this time a token, of at most so
+// many in all.
+fn cards_for(alloc: Global, held: &LiveNet, time: u32, most: u32) -> Result<Shares, Fail>
+    requires { most ≤ 20 }
+{
+    let first = place_named(held.net(), "ba")?;
+    let second = place_named(held.net(), "cb")?;
+    let target = Ratio::of(u64::from(time), 1);
+    Ok(fewest_tokens(alloc, held, &[first, second], &target, most)?)
+}
+
+// Whether these numbers are told to be enough.
+fn are_cards(shares: &Shares, numbers: &[u32]) -> bool {
+    match shares {
+        Shares::Enough { extra } => extra.as_slice() == numbers,
+        _ => false,
+    }
+}
+
+// That a card each is enough for 4, that one is not, and that c alone takes more than 3.
+fn shares_are_told(alloc: Global, held: &LiveNet) -> Result<(), Fail> {
+    so(
+        are_cards(&cards_for(alloc, held, 4, 20)?, &[1, 1]),
+        "a card each",
+    )?;
+    so(
+        matches!(cards_for(alloc, held, 4, 1)?, Shares::More),
+        "two cards",
+    )?;
+    let never = cards_for(alloc, held, 3, 20)?;
+    so(matches!(never, Shares::Impossible { .. }), "c alone")
+}
+
+#[test]
+fn cards_are_shared(rt: HostRuntime) -> Result<(), Fail> {
+    shares_are_told(rt.alloc(), &held(rt.alloc(), CARDS)?)
 }
