@@ -27,9 +27,9 @@
 //! in a turn, none is late at all. Otherwise each number looked at falls behind by as much in each
 //! turn, and the least late number is the one that is late after the fewest turns (`IsSoonest`);
 //! only that one is known to be small (`LateIsSoon`), so turns are compared and not late numbers.
-//! Before that two lines for each class of numbers may hold the dates and the due dates apart past
-//! the numbers from which both repeat (`none_late_past`); then only the numbers up to there are
-//! looked at.
+//! Before that two lines for each class of numbers may hold the dates and the due dates apart from
+//! some number on (`none_late_past`): past those from which both repeat, or where due dates that
+//! rise faster have caught up; then only the numbers up to there are looked at.
 //!
 //! Where the form is longer, as for rates that nearly agree, rows alone are asked (`src/alone.rt`,
 //! `src/together.rt`): a stream makes the dates row by row, one for all rows of due dates.
