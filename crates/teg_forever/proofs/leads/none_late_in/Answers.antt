@@ -1,5 +1,3 @@
-use Rattle.std.proofs.Common.{◌*◌, ◌/◌, ◌≤◌, arith}
-use Rattle.std.proofs.lemmas.Nat.{mul-le}
 use Rattle.teg_forever.proofs.KeptApart.{none_past, some_map}
 use Rattle.teg_forever.proofs.leads.none_late_in.Goals as goal
 

@@ -1,4 +1,3 @@
-use Rattle.std.proofs.Common.{arith}
 use Rattle.teg_forever.proofs.KeptApart.{apart_after, some_map}
 use Rattle.teg_forever.proofs.leads.places_apart.Goals as goal
 
