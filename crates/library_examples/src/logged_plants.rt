@@ -59,18 +59,12 @@ fn goes_on(alloc: Global, outlook: &Outlook) -> Result<(), Fail> {
     so(outlook.settle(alloc)?.period() == 1, "a period of 1")
 }
 
-// That the log tells what stands where, and what is left at 8.
+// That the log tells what stands where, and what is left at 8, for which due rows are numbered anew.
 fn is_asked(alloc: Global, plant: &Plant) -> Result<(), Fail> {
     so(told(plant)? == (1, Some(1), 1), "what stands where")?;
+    so(still_planned(alloc, plant)? == 2, "due rows by new numbers")?;
     let outlook = plant.from_now_on(alloc, 8)?;
     goes_on(alloc, &outlook)
-}
-
-#[test]
-fn due_rows_are_numbered_anew(rt: HostRuntime) -> Result<(), Fail> {
-    let numbers = still_planned(rt.alloc(), &plant(rt.alloc())?);
-    assert!(rt; numbers? == 2);
-    Ok(())
 }
 
 #[test]
