@@ -17,14 +17,9 @@ use Rattle.teg_text.proofs.NamesRead.{name_is_word}
 use Rattle.teg_text.proofs.Reading.{written_read}
 use Rattle.teg_text.proofs.Words.{decimal_is_word}
 use Rattle.word_lines.specs.WordLines.{IsTextOf}
+use Rattle.word_lines.proofs.Lines.{passes_at, range_passes, same_lines}
 use Rattle.answer_check.specs.ListReading.{AreReadRows, IsReadList, IsRow, row_words, told_word}
 use Rattle.answer_check.specs.ShownLists.{IsListText, all_names_line, count_line, lines_of_words, words_line}
-
--- what all pass, each passes
-passes_at : {A : Type 0} (test : A → Bool) (xs : List A) (i : ℕ) (d : A) → list_all test xs ≡ true → i < length xs → test (get_or xs i d) ≡ true
-passes_at test [] i d h l = absurd (omega (arith, l))
-passes_at test (x ∷ xs) zero d h l = (and_parts (test x) (list_all test xs) h).0
-passes_at test (x ∷ xs) (suc i) d h l = passes_at test xs i d (and_parts (test x) (list_all test xs) h).1 (omega (arith, l))
 
 -- ---- the lines have words without blanks
 
@@ -38,11 +33,6 @@ names_are_words net ok = map_passes (λ (t : Transition). IsTrue (is_name t.name
 head_are_lines : (net : NetLists) (count : ℕ) → IsNet net → are_lines (head_lines net count) ≡ true
 head_are_lines net count ok = rw (decimal_is_word count, names_are_words net ok) refl
 
--- lines over numbers pass what each of them passes
-range_passes : {A : Type 0} (test : A → Bool) (f : ℕ → A) (a n : ℕ) → ((k : ℕ) → a ≤ k → k < a + n → test (f k) ≡ true) → list_all test (map f (range_with_len a n)) ≡ true
-range_passes test f a zero h = refl
-range_passes test f a (suc n) h = and_from _ _ (h a (omega arith) (omega arith)) (range_passes test f (a + 1) n (λ k l m. h k (omega (arith, l)) (omega (arith, m))))
-
 rows_are_lines : (width : ℕ) (words : ℕ → ℕ → List ℕ) (count : ℕ) → ((t k : ℕ) → t < width → 1 ≤ k → k ≤ count → is_word (words t k) ≡ true)
     → list_all is_line (map (words_line width words) (range_with_len 1 count)) ≡ true
 rows_are_lines width words count are =
@@ -54,10 +44,6 @@ list_are_lines net count words ok are = rw (decimal_is_word count, names_are_wor
 
 pub list_is_text : (net : NetLists) (text : List ℕ) (count : ℕ) (words : ℕ → ℕ → List ℕ) → IsNet net → IsListText net text count words → IsTextOf text (lines_of_words net words count)
 list_is_text net text count words ok h = record { are = list_are_lines net count words ok h.are; told = h.told }
-
--- one text has one list of lines
-pub same_lines : (text : List ℕ) (lines others : List (List (List ℕ))) → IsTextOf text lines → IsTextOf text others → lines ≡ others
-same_lines text lines others one two = sym (written_read lines one.are) ∙ (ap lines_in (sym one.told ∙ two.told) ∙ written_read others two.are)
 
 -- ---- rows
 

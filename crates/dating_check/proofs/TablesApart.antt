@@ -44,7 +44,7 @@ use Rattle.dating_check.specs.ShownTables.{IsShownTable, firing_line, firing_lin
 
 -- the lines have words without blanks
 
-role_is_word : (role : Role) → is_word (role_told role) ≡ true
+pub role_is_word : (role : Role) → is_word (role_told role) ≡ true
 role_is_word Internal = refl
 role_is_word Input = refl
 role_is_word Output = refl
@@ -61,7 +61,7 @@ way_is_words net None ok = refl
 way_is_words net (Some (By p)) ok = rw (some_place_is_word net p ok) refl
 way_is_words net (Some Next) ok = refl
 
-date_is_words : (net : NetLists) (date : Date) (way : Option Step) → IsNet net → list_all is_word (latest_date_words net date way) ≡ true
+pub date_is_words : (net : NetLists) (date : Date) (way : Option Step) → IsNet net → list_all is_word (latest_date_words net date way) ≡ true
 date_is_words net Early way ok = way_is_words net way ok
 date_is_words net (At z) way ok = rw (signed_is_word z) (way_is_words net way ok)
 date_is_words net Never way ok = refl
@@ -101,7 +101,7 @@ numbers_same net a b ds es vs ws few many same =
     sym (number_back a (omega (arith, few))) ∙ (ap (λ (ls : List (List (List ℕ))). number_in (get_or (get_or ls 0 []) 3 [])) same ∙ number_back b (omega (arith, many)))
 
 -- the cell of a grid, in the list of its cells
-grid_at : {L : Type 0} (f : ℕ → ℕ → L) (a width count t k : ℕ) (d : L) → t < width → k < count →
+pub grid_at : {L : Type 0} (f : ℕ → ℕ → L) (a width count t k : ℕ) (d : L) → t < width → k < count →
     get_or (flat_map (λ t. map (f t) (range_with_len 1 count)) (range_with_len a width)) (t * count + k) d ≡ f (a + t) (k + 1)
 grid_at f a zero count t k d l m = absurd (omega (arith, l))
 grid_at f a (suc width) count zero k d l m =

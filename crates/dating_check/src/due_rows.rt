@@ -21,7 +21,8 @@ fn is_due_row(net: &Net, row: DueRow) -> bool
 // Whether no two rows are of one firing: each firing is seen once.
 fn are_once(alloc: Global, net: &Net, rows: &[DueRow]) -> Result<bool, OutOfMemory>
     requires { All (IsDueRow net.now) rows.now }
-    ensures { IfOk result (λ yes. IsTrue yes → AllPairs AreApart rows.now) }
+    ensures once { IfOk result (λ yes. IsTrue yes → AllPairs AreApart rows.now) }
+    ensures all { IfOk result (λ yes. AllPairs AreApart rows.now → IsTrue yes) }
 {
     net.rules();
     let Ok(mut seen) = Seen::new(alloc, net.transitions().len()) else {
@@ -41,10 +42,12 @@ fn are_once(alloc: Global, net: &Net, rows: &[DueRow]) -> Result<bool, OutOfMemo
 // Whether the rows are a due list of the net: each a firing that may be due, and no firing twice. It
 // takes 10,001 bytes for each transition, and a step a row.
 pub(crate) fn is_due_list(alloc: Global, net: &Net, due: &Due) -> Result<bool, OutOfMemory>
-    ensures { IfOk result (λ yes. IsTrue yes → IsDueOf net.now due.now.rows.items) }
+    ensures due { IfOk result (λ yes. IsTrue yes → IsDueOf net.now due.now.rows.items) }
+    ensures all { IfOk result (λ yes. IsDueOf net.now due.now.rows.items → IsTrue yes) }
 {
     if !due.rows.iter().all(|row| is_due_row(net, *row)) {
         return Ok(false);
     }
-    are_once(alloc, net, &due.rows)
+    let once = are_once(alloc, net, &due.rows)?;
+    Ok(once)
 }

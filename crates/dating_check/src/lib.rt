@@ -5,6 +5,7 @@
 //! | `dates` | its dates and steps | [`shown_settled`] |
 //! | `jit`: all its lines | the dates and steps of the lines | [`shown_table`] |
 //! | `jit`: false | the same | [`refutes_table`] |
+//! | `jit`: what is false | all lines; latest dates are made anew | [`table_fault`] |
 //! | `jit`: a line | the steps of the lines that it leads to | [`shown_latest`] |
 //! | `jit`: late | the walk | [`shown_late`] |
 //! | `jit`: late, and first | the walk; least dates are found anew | [`shown_first_late`] |
@@ -13,28 +14,35 @@
 //! without a promise, as those of `witness_check` do, lets a checker look at what was read, prints
 //! the text anew, of a line of `jit` that line, and compares. So what it tells rests on the checker,
 //! on its law and on the words of the lines, and neither on the parser nor on whatever found the
-//! answer. Where it tells nothing, its clause says nothing.
+//! answer. Where it tells nothing, its clause says nothing, but of [`table_fault`]: it reads the
+//! lines whole, and so it tells nothing just where nothing is false or the text is no table.
 //!
 //! The crate stands on `dating_certificates` for checkers of dates, on `latest_laws` for what walks
 //! show, on `witness_check` for whether a net is live and for first lines, on `settled_laws` for
-//! settled forms, on `teg_due` and `csv_records` for rows that are due, on `teg_text` and
-//! `late_lines` for texts, and on `teg_net` for nets; no crate of the program's search is below it.
+//! settled forms, on `teg_due` and `csv_records` for rows that are due, on `teg_text`, `word_lines`
+//! and `late_lines` for texts, and on `teg_net` for nets; no crate of the program's search is below
+//! it.
 //! Its examples stand in `witness_examples`.
 #![tactic(auto)]
 
+mod back_order;
 mod due_rows;
 mod first_late;
 mod late;
 mod latest;
 mod least_rows;
+mod made_rows;
 mod refuted_table;
 mod rows;
 mod settled;
 mod settled_reading;
 mod table;
+mod table_faults;
+mod table_lines;
 mod table_reading;
 mod walk_reading;
 mod ways;
+mod wrong_line;
 
 pub use first_late::shown_first_late;
 pub use late::shown_late;
@@ -43,3 +51,4 @@ pub use least_rows::least_dates;
 pub use refuted_table::refutes_table;
 pub use settled::{ShownSettled, shown_settled};
 pub use table::shown_table;
+pub use table_faults::{TableFault, table_fault};

@@ -15,7 +15,7 @@ use teg_net::{Net, OutOfMemory, Role, Step};
 use witness_check::is_seen_live;
 
 // How lines of a transition begin.
-fn role_told(role: Role) -> &'static str
+pub(crate) fn role_told(role: Role) -> &'static str
     ensures { result.now ≡ role_told role }
 {
     match role {

@@ -1,10 +1,10 @@
 //! The table of latest dates.
-use dating_check::{refutes_table, shown_table};
+use dating_check::{TableFault, refutes_table, shown_table, table_fault};
 use example_nets::{SHOP, ask_net, due_rows};
 use std::alloc::Global;
 use std::test::Fail;
 use teg_due::Due;
-use teg_net::{Net, OutOfMemory};
+use teg_net::{Net, OutOfMemory, TransitionId};
 
 // What `jit` tells of the shop where the second part is due to be shipped at 40.
 pub(crate) const PLAN: &str = "latest inputs for 3 firings
@@ -22,13 +22,60 @@ latest ship 2 40 due
 latest ship 3 free
 ";
 
-// Due dates, a text, the number that it shows, and whether it is refuted.
-type Table<'a> = (&'a str, &'a str, Option<u32>, bool);
+// Due dates, a text, the number that it shows, whether it is refuted, and what is false in it.
+type Table<'a> = (&'a str, &'a str, Option<u32>, bool, Option<TableFault>);
 
-const TABLES: [Table<'static>; 9] = [
-    ("ship,2,40\ndrill,3,36\n", PLAN, Some(3), false),
-    ("ship,2,40\ndrill,3,37\n", PLAN, None, true),
-    ("ship,2,40\ndrill,3,36\nship,4,90\n", PLAN, None, true),
+// That the line of the first firing of material is false, which is the first line.
+const MATERIAL: TableFault = TableFault::Line {
+    transition: TransitionId { index: 0 },
+    number: 1,
+    line: 1,
+};
+
+// That the line of the first firing of the saw is, of a table of first firings.
+const SAW: TableFault = TableFault::Line {
+    transition: TransitionId { index: 1 },
+    number: 1,
+    line: 2,
+};
+
+// That the line of its third firing is, of a table of three firings.
+const THIRD_SAW: TableFault = TableFault::Line {
+    transition: TransitionId { index: 1 },
+    number: 3,
+    line: 6,
+};
+
+const TABLES: [Table<'static>; 12] = [
+    ("ship,2,40\ndrill,3,36\n", PLAN, Some(3), false, None),
+    ("ship,2,40\ndrill,3,37\n", PLAN, None, true, Some(MATERIAL)),
+    (
+        "ship,2,40\ndrill,3,36\nship,4,90\n",
+        PLAN,
+        None,
+        true,
+        Some(TableFault::OtherNumbers),
+    ),
+    (
+        "ship,2,40\ndrill,3,36\n",
+        "latest inputs for 3 firings
+input material 1 15 by feed
+input material 2 22 by feed
+input material 3 29 by feed
+latest saw 1 17 by to_drill
+latest saw 2 24 by to_drill
+latest saw 3 30 by to_drill
+latest drill 1 22 by drill_free
+latest drill 2 29 by drill_free
+latest drill 3 35 due
+latest ship 1 40 next
+latest ship 2 40 due
+latest ship 3 free
+",
+        None,
+        true,
+        Some(THIRD_SAW),
+    ),
     // what no inputs keep shows nothing, and no table with another step, date or role
     (
         "ship,1,15\n",
@@ -40,6 +87,7 @@ latest ship 1 15 due
 ",
         Some(1),
         false,
+        None,
     ),
     (
         "ship,1,14\n",
@@ -51,6 +99,7 @@ latest ship 1 14 due
 ",
         None,
         true,
+        Some(TableFault::Late),
     ),
     (
         "ship,1,15\n",
@@ -62,6 +111,19 @@ latest ship 1 15 due
 ",
         None,
         true,
+        Some(SAW),
+    ),
+    (
+        "ship,1,15\n",
+        "latest inputs for 1 firings
+input material 1 0
+latest saw 1
+latest drill 1 soon
+latest ship 1 15 due
+",
+        None,
+        false,
+        Some(SAW),
     ),
     (
         "ship,1,15\n",
@@ -73,6 +135,19 @@ latest ship 1 15 due
 ",
         None,
         true,
+        Some(MATERIAL),
+    ),
+    (
+        "ship,1,15\n",
+        "latest inputs for 1 firings
+latest saw 1 1 by to_drill
+input material 1 0 by feed
+latest drill 1 7 by to_ship
+latest ship 1 15 due
+",
+        None,
+        false,
+        None,
     ),
     (
         "ship,1,15\n",
@@ -84,6 +159,7 @@ latest ship 1 15 due
 ",
         None,
         false,
+        None,
     ),
     (
         "ship,1,15\n",
@@ -95,15 +171,17 @@ latest ship 1 15 due
 ",
         None,
         false,
+        None,
     ),
 ];
 
 // Whether the text of a row shows so of the shop with these due dates.
 fn is_so(alloc: Global, shop: &Net, due: &Due, row: &Table<'_>) -> Result<bool, OutOfMemory> {
-    let (_, text, number, refuted) = *row;
+    let (_, text, number, refuted, fault) = *row;
     Ok(
         shown_table(alloc, shop, due, text)? == number
-            && refutes_table(alloc, shop, due, text)? == refuted,
+            && refutes_table(alloc, shop, due, text)? == refuted
+            && table_fault(alloc, shop, due, text)? == fault,
     )
 }
 
