@@ -1,6 +1,6 @@
 -- What the window of a settled form tells of its net: whether the least dating keeps rows for ever.
 use Rattle.std.proofs.Common.{ℕ, ℤ, ◌+◌, ◌*◌, ◌/◌, ◌<◌, ◌≤◌, ◌≡◌, List, [], ◌∷◌, ◌++◌, length, take, get_or, sym, ap, subst, ◌∙◌, arith, ⊎_elim, ◌-◌, ◌*ℤ◌}
-use Rattle.std.specs.Prelude.{pos, ◌≤ℤ◌, ◌↔◌, All, Some}
+use Rattle.std.specs.Prelude.{pos, ◌≤ℤ◌, ◌↔◌, All}
 use Rattle.std.proofs.lemmas.Bool.{cases_lt}
 use Rattle.std.proofs.lemmas.Int.{ints}
 use Rattle.std.proofs.lemmas.List.Elements.{All-push}
@@ -17,8 +17,8 @@ use Rattle.settled_laws.specs.SettledForms.{SettledForm, IsSettledFormOf, settle
 use Rattle.settled_laws.proofs.Telling.{form_tells}
 use Rattle.due_laws.specs.MeetingDueDates.{InputsMeet}
 use Rattle.endless_due.specs.declared.row.EndlessRow.{EndlessRow}
-use Rattle.endless_due.specs.EndlessRows.{row_due, due_on, IsEndlessRow, IsEndlessOf}
-use Rattle.forever_laws.proofs.GoingOn.{due_number, due_is, due_only}
+use Rattle.endless_due.specs.EndlessRows.{due_on, IsEndlessRow, IsEndlessOf}
+use Rattle.forever_laws.proofs.GoingOn.{due_number, due_is}
 use Rattle.endless_laws.specs.declared.kept_rows.Window.{Window}
 use Rattle.endless_laws.specs.KeptRows.{KeepsRowAt, KeepsRowTo, KeepsRow, RisesNoFaster}
 use Rattle.endless_laws.specs.KeptWindows.{IsWindowOf, RisesInTurn}
@@ -27,13 +27,6 @@ use Rattle.endless_laws.proofs.KeptRows.{number_below, date_on, windows_tell, ro
 -- datings that agree at a number keep the row alike there
 alike_at : (x y : ℕ → ℕ → Date) (r : EndlessRow) (k : ℕ) → x r.transition.index k ≡ y r.transition.index k → KeepsRowAt x r k → KeepsRowAt y r k
 alike_at x y r k e h d due = subst (λ (z : Date). IsAtMostDate z (At (pos d))) e (h d due)
-
--- a row is kept where the date is at most what is due
-pub at_due : (x : ℕ → ℕ → Date) (r : EndlessRow) (k due : ℕ) → row_due r k ≡ Some due → KeepsRowAt x r k ↔ IsAtMostDate (x r.transition.index k) (At (pos due))
-at_due x r k due e = (
-  λ keeps. keeps due e,
-  λ most d f. subst (λ (n : ℕ). IsAtMostDate (x r.transition.index k) (At (pos n))) (due_only r k due e ∙ sym (due_only r k d f)) most,
-)
 
 -- kept up to the number before, and at the number
 pub keeps_more : (x : ℕ → ℕ → Date) (r : EndlessRow) (n : ℕ) → KeepsRowTo x r (n - 1) → KeepsRowAt x r n → KeepsRowTo x r n

@@ -1,9 +1,9 @@
 -- A net with other input lists has the datings of the net under their releases.
-use Rattle.std.proofs.Common.{ℕ, ◌<◌, ◌≤◌, ◌≡◌, List, Option, length}
+use Rattle.std.proofs.Common.{ℕ, List, Option}
 use Rattle.teg_net.specs.declared.entries.InputList.{InputList}
 use Rattle.dioid.specs.declared.dates.Date.{Date}
 use Rattle.teg_net.specs.Nets.{NetLists}
-use Rattle.teg_model.specs.Datings.{IsFeasibleUnder, IsLeastUnder}
+use Rattle.teg_model.specs.Datings.{IsFeasibleUnder}
 use Rattle.due_laws.specs.MeetingDueDates.{InputsMeet}
 use Rattle.forever_check.specs.ShownReleases.{with_lists}
 

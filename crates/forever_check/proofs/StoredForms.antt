@@ -1,10 +1,10 @@
 -- The form that rows of a net tell is one that can be kept in memory.
 use Rattle.std.proofs.Common.{ℕ, ℤ, zero, suc, ◌+◌, ◌<◌, ◌≤◌, ◌≡◌, List, [], ◌∷◌, ◌++◌, length, map, take, get_or, refl, sym, ap, subst, ◌∙◌, arith}
-use Rattle.std.specs.Prelude.{pos, All}
+use Rattle.std.specs.Prelude.{pos}
 use Rattle.std.specs.List.{range_with_len}
 use native.Mathlib.Numerals.{unary_clauses}
 use Rattle.std.proofs.Math.Seq.{take-suc}
-use Rattle.std.proofs.lemmas.List.{get_or_default, take_all}
+use Rattle.std.proofs.lemmas.List.{take_all}
 use Rattle.std.proofs.lemmas.List.FromFn.{get_or-range_with_len, length-map-range_with_len, length-range_with_len, map-range_with_len_more}
 use Rattle.dioid.specs.declared.dates.Date.{Date}
 use Rattle.teg_net.specs.Limits.{most_rows}

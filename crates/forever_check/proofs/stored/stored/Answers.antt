@@ -1,7 +1,7 @@
 use Rattle.std.proofs.Common.{ℕ, ℤ, List, ◌≡◌, ◌+◌, length, sym, ap, subst, ◌∙◌}
 use Rattle.std.specs.List.{range_with_len}
 use Rattle.dioid.specs.declared.dates.Date.{Date}
-use Rattle.settled_laws.specs.SettledForms.{SettledForm, IsSettledFormOf}
+use Rattle.settled_laws.specs.SettledForms.{IsSettledFormOf}
 use Rattle.settled_forms.specs.Stored.{IsStored, stored_form}
 use Rattle.forever_check.proofs.StoredForms.{told_rows, stored_is, is_stored}
 use Rattle.forever_check.proofs.stored.stored.Goals as goal

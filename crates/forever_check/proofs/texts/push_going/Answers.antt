@@ -1,4 +1,4 @@
-use Rattle.std.proofs.Common.{◌≡◌, ◌++◌, [], ◌∷◌, codes, string_bytes}
+use Rattle.std.proofs.Common.{[], ◌∷◌, codes, string_bytes}
 use Rattle.std.specs.Fmt.{decimal}
 use Rattle.teg_text.proofs.Joining.{line_goes_on}
 use Rattle.forever_check.proofs.Written.{told_on}

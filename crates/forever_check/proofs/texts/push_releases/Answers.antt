@@ -1,4 +1,4 @@
-use Rattle.std.proofs.Common.{take, ◌≡◌, ◌≤◌, length, string_bytes, ap, ◌∙◌, ◌++◌, List, ℕ, [], arith}
+use Rattle.std.proofs.Common.{take, ◌≡◌, string_bytes, ap, ◌∙◌, ◌++◌, List, [], arith}
 use Rattle.std.specs.List.{flat_map}
 use Rattle.std.proofs.lemmas.List.{take_all}
 use Rattle.teg_net.specs.declared.entries.InputList.{InputList}
