@@ -9,6 +9,8 @@ mod jumps;
 #[cfg(test)]
 mod kept_delays;
 #[cfg(test)]
+mod kept_orders;
+#[cfg(test)]
 mod one_dates;
 #[cfg(test)]
 mod own_rows;

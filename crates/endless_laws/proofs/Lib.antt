@@ -1,0 +1,3 @@
+pub mod KeptRows
+pub mod KeptForms
+pub mod WalksToDues

@@ -1,0 +1,3 @@
+pub mod StoredForms
+pub mod Released
+pub mod Written
