@@ -1,5 +1,5 @@
 -- The pace with each change of a list, one change after the other.
-use Rattle.std.proofs.Common.{ℕ, ◌+◌, ◌<◌, ◌≤◌, ◌≡◌, List, [], ◌∷◌, ◌++◌, Option, length, take, get_or, refl, arith, ⊎_elim}
+use Rattle.std.proofs.Common.{ℕ, ◌+◌, ◌<◌, ◌≤◌, ◌≡◌, List, [], ◌∷◌, ◌++◌, Option, length, take, get_or, arith, ⊎_elim}
 use Rattle.std.proofs.lemmas.Bool.{cases_lt}
 use Rattle.std.proofs.lemmas.List.{length_push, get_or_append_left, get_or_push, take_more}
 use Rattle.teg_net.specs.Nets.{NetLists}
@@ -27,10 +27,6 @@ one_more net changes paces c r h is =
           rw (get_or_push changes c d k here, get_or_push paces r s k there) is)
           (cases_lt k (length changes));
     }
-
--- no change has no pace
-pub no_change : (net : NetLists) (changes : List Change) → ArePaces net (take 0 changes) []
-no_change net changes = record { count = refl; each = λ k d s l. absurd (omega (arith, l)) }
 
 -- the paces with the first changes, and that with the change at index i
 pub next_pace : (net : NetLists) (changes : List Change) (i : ℕ) (d : Change) (paces : List (Option Fraction)) (r : Option Fraction) → i < length changes
