@@ -5,11 +5,11 @@ name, and the lines of `use` that a file with the call and these clauses has.
     tools/show_call.py CRATE::NAME
     tools/show_call.py CRATE::TYPE::NAME
 
-NAME is a call, or a struct, an enum or a trait, of which the whole text is shown, with what contracts see of it and the
-line by which a file of specs/ names it; of a call on a value its type stands before it, as teg_check::LiveNet::copy. The
-crate may hand it on from another one. Definitions are shown with the comment above them, those alone that the clauses
-name (tools/check_definitions.py --below NAME goes on from there); those of std are left out. The exit status is 0 where
-there is such a call, and else 1.
+NAME is a call, or a struct, an enum or a trait, of which the whole text is shown, with what contracts see of it, the names
+of its calls with the first sentence of each, and the line by which a file of specs/ names it; of a call on a value its type
+stands before it, as teg_check::LiveNet::copy. The crate may hand it on from another one. Definitions are shown with the
+comment above them, those alone that the clauses name (tools/check_definitions.py --below NAME goes on from there); those
+of std are left out. The exit status is 0 where there is such a call, and else 1.
 """
 import re
 import sys
@@ -21,17 +21,24 @@ from common import TOP
 def origin_of(crate, name):
     """The crate that the name is of, where this one hands it on."""
     root = TOP / f"crates/{crate}/src/lib.rt"
-    for origin, many, one in re.findall(r"^pub use (\w+)(?:::\w+)*::(?:\{([^}]*)\}|(\w+));", root.read_text() if root.is_file() else "", re.M):
-        if name in {it.strip() for it in (many or one).split(",")} and (TOP / "crates" / origin).is_dir():
+    text = root.read_text() if root.is_file() else ""
+    own = set(re.findall(r"^(?:pub )?mod (\w+);", text, re.M))
+    for origin, many, one in re.findall(r"^pub use (\w+)(?:::\w+)*::(?:\{([^}]*)\}|(\w+));", text, re.M):
+        if name in {it.strip() for it in (many or one).split(",")} and origin not in own and (TOP / "crates" / origin).is_dir():
             return origin_of(origin, name)
     return crate
 
 
+def above(lines, at):
+    """The number of the first line of the docstring and the attributes above this line."""
+    while at > 0 and lines[at - 1].strip().startswith(("///", "#[")):
+        at -= 1
+    return at
+
+
 def shown_from(lines, at):
     """The lines of the item whose first line is this one, with its docstring and attributes, up to a body."""
-    first, last = at, at
-    while first > 0 and lines[first - 1].strip().startswith(("///", "#[")):
-        first -= 1
+    first, last = above(lines, at), at
     indent, is_call = re.match(r" *", lines[at])[0], "fn " in lines[at]
     ends = (lambda line: line.endswith((" {", ";")) or line == f"{indent}{{") if is_call else (lambda line: line == "}")
     if is_call or lines[at].endswith("{"):
@@ -92,6 +99,28 @@ def seen_of(path, name):
     return said, [line.strip() for line in block if "ghost use " in line]
 
 
+def first_sentence(lines, at):
+    """The first sentence of the docstring above this line."""
+    said = (line.strip().removeprefix("///").strip() for line in lines[above(lines, at) : at] if "///" in line)
+    return re.split(r"(?<=\.) ", " ".join(filter(None, said)))[0]
+
+
+def calls_of(crate, name):
+    """The public calls on values of a type, in whichever file of the crate they stand, each with its first sentence."""
+    calls = []
+    for path in sorted((TOP / f"crates/{crate}/src").glob("**/*.rt")):
+        lines, inside = path.read_text().splitlines(), False
+        for at, line in enumerate(lines):
+            if re.match(rf"impl\b(?:<[^{{]*?>)? ?{name}\b", line):
+                inside = True
+            elif line == "}":
+                inside = False
+            call = re.match(r"    pub (?:\w+ )*fn (\w+)", line)
+            if inside and call:
+                calls.append(f"{name}::{call[1]}: {first_sentence(lines, at)}")
+    return calls
+
+
 def path_in_specs(origin, path, name):
     """The line by which a file of specs/ names a type of the code that contracts see as it stands."""
     module = ".".join(path.relative_to(TOP / f"crates/{origin}/src").with_suffix("").parts)
@@ -113,7 +142,7 @@ def show(crate, kind, name):
         if is_type:
             seen, more = seen_of(path, name)
             said, uses = "\n".join(seen), more
-            shown += [f"// contracts see of it: {line}" for line in seen]
+            shown += [f"// contracts see of it: {line}" for line in seen] + [f"// call: {line}" for line in calls_of(origin, name)]
         print("\n".join([f"// {path.relative_to(TOP)}:{number}", *shown]))
         for at in sorted(specs.named(said, imports_of("\n".join(uses)))):
             print("\n" + "\n".join(definition(specs, at)))

@@ -369,6 +369,28 @@ impl Bag {
         self.assertEqual(printed(show_call.show, "low", "Bag", "own"), ("", False))
         self.assertEqual(printed(show_call.show, "low", None, "size"), ("", False))
 
+    def test_a_type_is_shown_with_its_calls(self):
+        self.write_types()
+        self.write("crates/low/src/more.rt", """impl Kind {
+    /// How many
+    /// there are. It takes no memory.
+    #[inline]
+    pub fn size(&self) -> u8
+    {
+        0
+    }
+
+    fn own(&self) {}
+}
+""")
+        self.assertIn("}\n// call: Kind::size: How many there are.\n\nuse low::Kind;\n", printed(show_call.show, "low", None, "Kind")[0])
+
+    def test_a_module_with_the_name_of_a_crate_is_none(self):
+        self.write("crates/high/src/lib.rt", "mod low;\n\npub use low::{Bag, count};\n")
+        self.assertEqual(show_call.origin_of("high", "count"), "high")
+        self.write("crates/high/src/lib.rt", "pub use low::{Bag, count};\n")
+        self.assertEqual(show_call.origin_of("high", "count"), "low")
+
     def test_a_type_is_shown_with_what_contracts_see(self):
         self.write_types()
         self.write("crates/low/src/inner/seen.rt", """/// Seen.

@@ -49,8 +49,9 @@ pub fn outlook(
     Ok(rows)
 }
 
-// Whether the date is after this one.
-fn is_after(date: Date, due: u64) -> bool
+/// Whether the date is after this one, in the user's unit: a firing that never comes is, and one
+/// that waits for nothing is not (chapter 5). It takes no memory.
+pub fn is_after(date: Date, due: u64) -> bool
     ensures { result ≡ is_after date due }
 {
     match date {

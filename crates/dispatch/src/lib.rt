@@ -19,5 +19,5 @@ mod forecast;
 mod happened;
 
 pub use dispatcher::{Dispatcher, NotFired};
-pub use forecast::{missed, outlook};
+pub use forecast::{is_after, missed, outlook};
 pub use happened::Happened;

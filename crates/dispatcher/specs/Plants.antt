@@ -1,6 +1,7 @@
 -- A plant with what happened in it, and which firings are not taken down.
-use Rattle.std.specs.Prelude.{◌<◌, ◌≤◌, ◌≡◌, ◌^◌, ◌⊎◌, List, All, length, ⊤}
+use Rattle.std.specs.Prelude.{ℕ, ◌<◌, ◌≤◌, ◌≡◌, ◌^◌, ◌⊎◌, List, All, Ok, length, map, ⊤}
 use Rattle.run_laws.specs.declared.fired.Fired.{Fired}
+use Rattle.teg_due.specs.Logs.{log_of}
 use Rattle.teg_due.specs.declared.rows.LogRow.{LogRow}
 use Rattle.teg_net.specs.Nets.{NetLists}
 use Rattle.teg_state.specs.Histories.{Past}
@@ -21,6 +22,12 @@ pub record IsPlantOf (net : NetLists) (past : Past) : Type 0 where
 -- the firing of a row of a log
 abbrev pub fired_of : LogRow → Fired
 fired_of row = record { transition = row.transition; date = row.date }
+
+-- the log says rows, and these are their firings, in their order
+pub record AreFiringsOf (net : NetLists) (log : List ℕ) (run : List Fired) : Type 0 where
+  pub rows : List LogRow
+  pub said : log_of net log ≡ Ok rows
+  pub firings : run ≡ map fired_of rows
 
 -- why a firing is not taken down: the net has no such transition, or a limit is reached; want of memory says nothing
 abbrev pub IsWhyNotTaken : PlantState → Fired → NotTaken → Type 0

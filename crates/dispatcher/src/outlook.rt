@@ -1,8 +1,12 @@
 //! What is left to do in a plant, as a net that is asked.
 ghost use Rattle.std.specs.Prelude.{◌≡◌, ◌<◌, ◌≤◌, IfErr, IfOk, length};
+ghost use Rattle.std.specs.List.{filter};
 ghost use Rattle.date_rows.specs.DateTables.{HasLeastDates, most_numbers};
+ghost use Rattle.dispatch.specs.Outlooks.{is_missed};
 ghost use Rattle.due_laws.specs.MeetingDueDates.{AreLatestInputs};
+ghost use Rattle.pace_calls.specs.Paces.{IsPaceWithCircuit};
 ghost use Rattle.settled_laws.specs.SettledForms.{IsSettledFormOf};
+ghost use Rattle.teg_check.specs.Ranks.{IsRanking};
 ghost use Rattle.teg_due.specs.RowRules.{IsDueOf, due_in};
 ghost use Rattle.teg_jit.specs.LateRefusals.{LateIsRight};
 ghost use Rattle.teg_jit.specs.Plans.{dates_of_plan};
@@ -11,10 +15,12 @@ ghost use Rattle.teg_sizing.specs.Sizings.{IsSizing};
 ghost use Rattle.teg_sizing.specs.ValueRounds.{IsTarget};
 
 use date_rows::{Table, first_dates};
-use std::alloc::Global;
+use dispatch::is_after;
+use pace_calls::{PaceWithCircuit, bottleneck};
+use std::alloc::{AllocError, Global};
 use std::marker::Model;
-use teg_check::LiveNet;
-use teg_due::Due;
+use teg_check::{Live, LiveNet};
+use teg_due::{Due, DueRow};
 use teg_jit::{JitRefusal, Plan, latest_inputs};
 use teg_net::{Net, OutOfMemory, PlaceId, Ratio};
 use teg_settle::{Settled, settle};
@@ -34,6 +40,16 @@ impl Model for Outlook {
     ghost view = { λ o. o.rest };
 }
 
+// Whether the table has the firing of the row, and at a date after it is due.
+fn is_missed(table: &Table, row: DueRow) -> bool
+    requires width { row.transition.index < table.now.width }
+    requires number { 1 ≤ row.number }
+    ensures { result ≡ is_missed table.now row }
+{
+    row.number <= table.count()
+        && is_after(table.date(row.transition, u64::from(row.number)), row.date)
+}
+
 impl Outlook {
     // The outlook of this net.
     pub(crate) fn of(rest: LiveNet) -> Outlook
@@ -51,6 +67,21 @@ impl Outlook {
         self.rest.net()
     }
 
+    /// The ranks of the net, for calls on live nets that an outlook has not. It takes no memory.
+    pub fn live(&self) -> &Live
+        ensures { IsRanking self.now result.now }
+    {
+        self.rest.live()
+    }
+
+    /// The pace from now on, in the user's unit for a token, with its bottleneck; none where the net
+    /// has no circuit (chapter 2). It is told as [`pace_calls::bottleneck`] tells it.
+    pub fn bottleneck(&self, alloc: Global) -> Result<Option<PaceWithCircuit>, OutOfMemory>
+        ensures { IfOk result (IsPaceWithCircuit self.now) }
+    {
+        bottleneck(alloc, self.rest.net(), self.rest.live())
+    }
+
     /// The least dates of the first firings from now on (chapter 2), as [`date_rows::first_dates`]
     /// tells them.
     pub fn first_dates(&self, alloc: Global, count: u32) -> Result<Table, OutOfMemory>
@@ -60,6 +91,23 @@ impl Outlook {
         ensures least { IfOk result (λ table. HasLeastDates self.now table) }
     {
         first_dates(alloc, self.rest.net(), self.rest.live(), count)
+    }
+
+    /// The due rows, in their order, whose firing this table of [`Outlook::first_dates`] tells at a
+    /// later date than it is due; a firing past its last number is not told (chapter 5). Table and
+    /// rows count from now on, as those of [`crate::Plant::due_left`] do. `AllocError` comes only
+    /// where no memory is found. It takes a step for each due row.
+    pub fn missed(&self, alloc: Global, table: &Table, due: &Due) -> Result<Vec<DueRow>, AllocError>
+        requires width { table.now.width ≡ length self.now.transitions }
+        requires due { IsDueOf self.now due.now.rows.items }
+        ensures { IfOk result (λ missed. missed.items
+            ≡ filter (is_missed table.now) due.now.rows.items) }
+    {
+        due.rows
+            .iter()
+            .copied()
+            .filter(|row| is_missed(table, *row))
+            .collect(alloc)
     }
 
     /// The shortest settled form of the least dates from now on (chapter 3), as

@@ -3,11 +3,12 @@ ghost use Rattle.std.specs.Prelude.{◌≡◌, ◌<◌, ◌≤◌, ◌^◌, ◌+
 ghost use Rattle.run_laws.specs.Earliest.{tokens_in};
 ghost use Rattle.run_laws.specs.Runs.{firing_date};
 ghost use Rattle.state_laws.specs.NetsLeft.{IsNetAfter, count_in};
+ghost use Rattle.state_laws.specs.Rests.{ArePaid};
 ghost use Rattle.teg_due.specs.Logs.{log_of};
 ghost use Rattle.teg_due.specs.csv_records.Records.{most_file_bytes};
 ghost use Rattle.teg_net.specs.Circuits.{place_at};
 ghost use Rattle.teg_state.specs.WhyNotLeft.{IsWhyNotLeft};
-ghost use Rattle.dispatcher.specs.Plants.{IsWhyNotTaken, fired_of};
+ghost use Rattle.dispatcher.specs.Plants.{AreFiringsOf, IsWhyNotTaken, fired_of};
 
 use crate::outlook::Outlook;
 use run_laws::Fired;
@@ -117,8 +118,7 @@ impl Plant {
     pub fn of_log(alloc: Global, held: LiveNet, log: &[u8]) -> Result<Plant, LogRefusal>
         requires { length log.now ≤ most_file_bytes }
         ensures net { IfOk result (λ plant. plant.net ≡ held) }
-        ensures run { IfOk result (λ plant. IfOk (log_of held log.now)
-            (λ rows. plant.run ≡ map fired_of rows)) }
+        ensures run { IfOk result (λ plant. AreFiringsOf held log.now plant.run) }
         ensures refused { IfErr result (λ e. (e ≡ LogRefusal.OutOfMemory → ⊥) → log_of held log.now
             ≡ Err e) }
     {
@@ -139,9 +139,12 @@ impl Plant {
         self.held.net()
     }
 
-    /// What happened, in the order in which it was taken down. It takes no memory.
+    /// What happened, in the order in which it was taken down, within the limits that
+    /// `live_net_after` asks. It takes no memory.
     pub fn run(&self) -> &[Fired]
-        ensures { result.now ≡ self.now.run }
+        ensures run { result.now ≡ self.now.run }
+        ensures dates { All (λ f. f.date ≤ 10 ^ 18) result.now }
+        ensures few { length result.now ≤ 2 ^ 40 }
     {
         self.history.run()
     }
@@ -173,11 +176,12 @@ impl Plant {
     }
 
     /// What is left to do from now on, a date in the user's unit: the net that the firings leave,
-    /// in which no token and no input's date is before now (chapter 2). It is refused as
-    /// `live_net_after` is, and takes its time, of order n + p + r for n transitions, p places and r
-    /// firings beside the tokens and dates that are left.
+    /// in which no token and no input's date is before now (chapter 2). No place gave more tokens
+    /// than it had and got. It is refused as `live_net_after` is, and takes its time, of order
+    /// n + p + r for n transitions, p places and r firings beside the tokens and dates that are left.
     pub fn from_now_on(&self, alloc: Global, now: u64) -> Result<Outlook, NotLeft>
         ensures net { IfOk result (IsNetAfter self.now.net self.now.run now) }
+        ensures paid { IfOk result (λ _. ArePaid (count_in self.now.run) self.now.net.places) }
         ensures refused { IfErr result (IsWhyNotLeft self.now.net self.now.run now) }
     {
         let rest = live_net_after(alloc, &self.held, self.history.run(), now)?;

@@ -1,1 +1,2 @@
 pub mod BestCuts
+pub mod EachChange
