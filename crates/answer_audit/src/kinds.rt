@@ -19,7 +19,7 @@ pub enum Alone {
     NoCircuit,
     /// `slack`.
     Slack,
-    /// `cycle`.
+    /// `cycle`, with the rounds or without.
     Cycle,
     /// `dates`.
     Settled,

@@ -1,1 +1,6 @@
 pub mod Checks
+pub mod Offers
+pub mod PolicyCircuits
+pub mod Routes
+pub mod Rounds
+pub mod ShownRounds
