@@ -90,7 +90,6 @@ def questions(net, folder):
     base = f"{folder}/{os.path.basename(net)}"
     yield ["check", net], []
     yield ["cycle", net], []
-    yield ["cycle", net, "--rounds"], []
     yield ["dates", net], []
     yield ["list", net, "3"], []
     yield ["slack", net], []

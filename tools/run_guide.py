@@ -36,7 +36,7 @@ from common import TOP, Status
 
 
 # What asks for an answer that a checker reads, and how such answers begin.
-ASKS = re.compile(r"\./(?:teg|try) (?:check|list|cycle|dates|slack|size|bound|jit|timetable)(?: [\w./]+)+(?: --rounds)?")
+ASKS = re.compile(r"\./(?:teg|try) (?:check|list|cycle|dates|slack|size|bound|jit|timetable)(?: [\w./]+)+")
 TABLE = "latest inputs for "
 SETTLED = "settled after "
 LISTED = "dates of "

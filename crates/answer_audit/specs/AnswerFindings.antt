@@ -1,5 +1,5 @@
 -- What is found of an answer, and when it is so.
-use Rattle.std.specs.Prelude.{ℕ, ◌+◌, ◌≡◌, ◌⊎◌, ⊤, List}
+use Rattle.std.specs.Prelude.{ℕ, ◌+◌, ◌≡◌, ⊤, List}
 use Rattle.teg_net.specs.Nets.{NetLists}
 use Rattle.teg_net.specs.Circuits.{IsLive}
 use Rattle.teg_net.specs.Ratios.{Fraction}
@@ -11,7 +11,6 @@ use Rattle.witness_check.specs.Liveness.{TellsDeadlock, TellsLive}
 use Rattle.pace_check.specs.ShownCycles.{IsShownPace}
 use Rattle.pace_check.specs.ShownSizes.{IsShownSize}
 use Rattle.pace_check.specs.declared.sizes.ShownSize.{ShownSize}
-use Rattle.round_check.specs.ShownRounds.{IsShownRounds}
 use Rattle.dating_check.specs.FirstLate.{IsShownFirstLate}
 use Rattle.dating_check.specs.ShownForms.{IsShownSettled}
 use Rattle.dating_check.specs.ShownTables.{IsShownTable}
@@ -36,7 +35,7 @@ IsShownAlone net Deadlock text = TellsDeadlock net text
 IsShownAlone net Listed text = (count : ℕ) × IsShownList net text count
 IsShownAlone net NoCircuit text = IsShownNoCircuit net text
 IsShownAlone net Slack text = (ratio : Fraction) × IsShownSlack net text ratio
-IsShownAlone net Cycle text = (ratio : Fraction) × (IsShownPace net text ratio ⊎ IsShownRounds net text ratio)
+IsShownAlone net Cycle text = (ratio : Fraction) × IsShownPace net text ratio
 IsShownAlone net Settled text = (shown : ShownSettled) × IsShownSettled net text shown
 IsShownAlone net Size text = (shown : ShownSize) × IsLive net × IsShownSize net text shown
 IsShownAlone net Bound text = (shown : ShownBound) × IsShownBound net text shown

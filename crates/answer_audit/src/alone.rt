@@ -12,7 +12,6 @@ use answer_check::{refutes_list, shown_list, shown_no_circuit, shown_slack};
 use bound_check::{refutes_bound, shown_bound};
 use dating_check::shown_settled;
 use pace_check::{shown_pace, shown_size};
-use round_check::shown_rounds;
 use std::alloc::{AllocError, Global};
 use teg_net::{Net, OutOfMemory};
 use witness_check::{is_seen_live, shows_deadlock};
@@ -102,23 +101,13 @@ fn slack_finding(alloc: Global, net: &Net, text: &str) -> Result<Finding, OutOfM
     }
 }
 
-// Of `cycle` with the rounds.
-fn rounds_finding(alloc: Global, net: &Net, text: &str) -> Result<Finding, OutOfMemory>
-    ensures { IfOk result (IsFound net.now (IsShownAlone net.now Alone.Cycle text.now)) }
-{
-    match shown_rounds(alloc, net, text)? {
-        Some(_) => Ok(Finding::Shown),
-        None => Ok(Finding::NotShown),
-    }
-}
-
-// Of `cycle`, with the rounds or without.
+// Of `cycle`.
 fn cycle_finding(alloc: Global, net: &Net, text: &str) -> Result<Finding, OutOfMemory>
     ensures { IfOk result (IsFound net.now (IsShownAlone net.now Alone.Cycle text.now)) }
 {
     match shown_pace(alloc, net, text)? {
         Some(_) => Ok(Finding::Shown),
-        None => rounds_finding(alloc, net, text),
+        None => Ok(Finding::NotShown),
     }
 }
 

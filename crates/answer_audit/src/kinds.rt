@@ -19,7 +19,7 @@ pub enum Alone {
     NoCircuit,
     /// `slack`.
     Slack,
-    /// `cycle`, with the rounds or without.
+    /// `cycle`.
     Cycle,
     /// `dates`.
     Settled,

@@ -1,2 +1,2 @@
 mod PathSums
-pub mod Paces
+mod Paces

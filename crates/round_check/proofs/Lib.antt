@@ -5,4 +5,3 @@ pub mod Walking
 pub mod Joining
 pub mod Offering
 pub mod Stepping
-pub mod Telling

@@ -1,14 +1,21 @@
 -- The offers of the places that enter a transition, place by place.
-use Rattle.std.proofs.Common.{ℕ, ◌+◌, ◌<◌, ◌≤◌, ◌≡◌, ◌≢◌, List, Option, Some, None, length, get_or, refl, sym, ap, subst, ◌∙◌, arith, inl, inr, ⊎_elim}
-use Rattle.std.specs.Prelude.{ℤ, pos, ◌<ℤ◌, ◌≤ℤ◌, ◌⊎◌}
+use Rattle.std.proofs.Common.{ℕ, ◌+◌, ◌<◌, ◌≤◌, ◌≡◌, ◌≢◌, List, [], ◌∷◌, Option, Some, None, length, get_or, refl, sym, ap, subst, ◌∙◌, arith, inl, inr, ⊎_elim}
+use Rattle.std.specs.Prelude.{ℤ, pos, ◌<ℤ◌, ◌≤ℤ◌, ◌⊎◌, All}
 use Rattle.std.proofs.lemmas.Int.{ints}
-use Rattle.std.proofs.lemmas.Bool.{cases_lt}
+use Rattle.std.proofs.lemmas.Bool.{cases_lt, ne_eqb}
+use Rattle.std.proofs.lemmas.List.{get_or_past}
+use Rattle.std.proofs.lemmas.List.Elements.{All-tail}
 use Rattle.teg_net.specs.declared.entries.PlaceId.{PlaceId}
+use Rattle.teg_net.specs.declared.rounds.Choice.{Choice}
 use Rattle.teg_net.specs.Nets.{NetLists}
-use Rattle.teg_howard.specs.Policies.{Enters, IsGreatestOffer, Improves, offer_of}
+use Rattle.teg_net.specs.Parts.{IsMember}
+use Rattle.teg_howard.specs.Policies.{Enters, IsGreatestOffer, Improves, first_id, offer_of}
+use Rattle.teg_howard.specs.PolicyRounds.{choice_of_member, chosen_place, value_in}
+use Rattle.teg_howard.specs.FoundCircuits.{policy_of}
+use Rattle.teg_howard.proofs.Turns.{cases_less}
 use Rattle.teg_net.proofs.Reading.{same_id}
 use Rattle.round_check.specs.declared.policies.Offer.{Offer}
-use Rattle.round_check.specs.Offers.{IsBetterAt, IsGreaterOf, IsMostBelow, MostBelow}
+use Rattle.round_check.specs.Offers.{IsBetterAt, IsGreaterOf, IsMostBelow, MostBelow, values_at}
 
 -- a number below the next one is below this one, or is that of the place
 pub below_next : (p q : PlaceId) (i : ℕ) → p.index ≡ i → q.index < i + 1 → (q.index < i) ⊎ (q ≡ p)
@@ -115,3 +122,50 @@ module _ (net : NetLists) (parts : List ℕ) (part a b : ℕ) (v : ℕ → ℤ) 
         };
         kept = λ none. absurd (none o.place (record { enters = h.enters; more = more }));
       }
+
+  -- the place of the offer where that is more than the value, and else the own one
+  pub better_is : (own : PlaceId) (n : ℕ) (o : Offer) (p : PlaceId) → length net.places ≤ n → MostBelow net parts part a b v t n o → (v t <ℤ o.value → p ≡ o.place)
+      → ((v t <ℤ o.value → ⊥) → p ≡ own) → IsBetterAt net parts part a b v t own p
+  better_is own n o p long h more rest =
+      ⊎_elim
+      (λ (up : v t <ℤ o.value). rw (more up) (better_taken own n o long h up))
+      (λ (down : v t <ℤ o.value → ⊥). rw (rest down) (better_kept own n o long h down))
+      (cases_less (v t) o.value)
+
+  -- past the last place
+  pub most_past : (i : ℕ) (most : Option Offer) → length net.places ≤ i → IsMostBelow net parts part a b v t i most → IsMostBelow net parts part a b v t (length net.places) most
+  most_past i None past h = λ q e l. h q e (omega arith)
+  most_past i (Some o) past h = record {
+    enters = h.enters;
+    value = h.value;
+    before = h.enters.inside.in_range;
+    most = λ q e l. h.most q e (omega arith);
+    lowest = λ q e l s. h.lowest q e (omega arith) s;
+  }
+
+-- who is entered in the part is a member
+pub entered_member : (net : NetLists) (parts : List ℕ) (part t : ℕ) (p : PlaceId) → Enters net parts part t p → IsMember parts part t
+entered_member net parts part t p e = subst (IsMember parts part) e.ends e.inside.to_member
+
+-- choices for lower numbered transitions have none for this one
+none_for : (cs : List Choice) (count t : ℕ) → All (λ c. c.transition.index < count) cs → count ≤ t → choice_of_member cs t ≡ None
+none_for [] count t h l = refl
+none_for (c ∷ cs) count t h l =
+    let low : c.transition.index < count = h 0 c (omega arith) in
+    rw (ne_eqb c.transition.index t (λ e. let f : ⊥ = omega arith in f)) (none_for cs count t (All-tail (λ (x : Choice). x.transition.index < count) c cs h) l)
+
+pub spread_places : (cs : List Choice) (count i : ℕ) (ps : List PlaceId) → All (λ c. c.transition.index < count) cs → count ≤ i → length ps ≡ i
+    → ((t : ℕ) → t < i → policy_of ps t ≡ chosen_place (choice_of_member cs t)) → (t : ℕ) → policy_of ps t ≡ chosen_place (choice_of_member cs t)
+spread_places cs count i ps all past long h t =
+    ⊎_elim
+    (λ (k : t < i). h t k)
+    (λ (k : i ≤ t). rw (none_for cs count t all (omega arith)) (get_or_past ps t first_id (omega arith)))
+    (cases_lt t i)
+
+pub spread_values : (cs : List Choice) (count i : ℕ) (vs : List ℤ) → All (λ c. c.transition.index < count) cs → count ≤ i → length vs ≡ i
+    → ((t : ℕ) → t < i → values_at vs t ≡ value_in (choice_of_member cs t)) → (t : ℕ) → values_at vs t ≡ value_in (choice_of_member cs t)
+spread_values cs count i vs all past long h t =
+    ⊎_elim
+    (λ (k : t < i). h t k)
+    (λ (k : i ≤ t). rw (none_for cs count t all (omega arith)) (get_or_past vs t (pos 0) (omega arith)))
+    (cases_lt t i)

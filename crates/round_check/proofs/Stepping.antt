@@ -47,6 +47,10 @@ places_are count r s is = same_functions (policy_of s.policy.items) (chosen r) i
 pub values_are : (count : ℕ) (r : Round) (s : Spread) → IsSpread count r.choices.items s → values_at s.values.items ≡ potential r
 values_are count r s is = same_functions (values_at s.values.items) (potential r) is.values
 
+pub step_marks : (parts : List ℕ) (part : ℕ) (r : Round) (s : Spread) (better : List PlaceId) (marks : List Bool) → IsSpread (length parts) r.choices.items s
+    → ((t : ℕ) → IsMarked marks t ↔ IsChanged parts part (policy_of s.policy.items) (policy_of better) t) → (t : ℕ) → IsMarked marks t ↔ IsChanged parts part (chosen r) (policy_of better) t
+step_marks parts part r s better marks is h = subst (λ f. (t : ℕ) → IsMarked marks t ↔ IsChanged parts part f (policy_of better) t) (places_are (length parts) r s is) h
+
 module _ (net : NetLists) (parts : List ℕ) (part : ℕ) where
   -- better places of each transition are an improvement
   pub improvement : (a b : ℕ) (v : ℕ → ℤ) (π better : Policy) → ((t : ℕ) → t < length parts → IsBetterAt net parts part a b v t (π t) (better t)) → IsImprovement net parts part a b π v better
@@ -55,10 +59,10 @@ module _ (net : NetLists) (parts : List ℕ) (part : ℕ) where
     kept = λ t m none. (each t m.in_range).kept none;
   }
 
-  pub step_is : (r : Round) (s : Spread) (better : List PlaceId) (marks : List Bool) (st : Step) → IsSpread (length parts) r.choices.items s
+  pub step_improves : (r : Round) (s : Spread) (better : List PlaceId) → IsSpread (length parts) r.choices.items s
       → IsImprovement net parts part r.ratio.time r.ratio.tokens (policy_of s.policy.items) (values_at s.values.items) (policy_of better)
       → IsImprovement net parts part r.ratio.time r.ratio.tokens (chosen r) (potential r) (policy_of better)
-  step_is r s better marks st is imp =
+  step_improves r s better is imp =
       subst (λ f. IsImprovement net parts part r.ratio.time r.ratio.tokens f (potential r) (policy_of better)) (places_are (length parts) r s is)
       (subst (λ w. IsImprovement net parts part r.ratio.time r.ratio.tokens (policy_of s.policy.items) w (policy_of better)) (values_are (length parts) r s is) imp)
 

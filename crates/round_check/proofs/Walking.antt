@@ -6,6 +6,7 @@ use Rattle.std.proofs.lemmas.List.Sums.{sum_by-cons}
 use Rattle.teg_net.specs.declared.entries.PlaceId.{PlaceId}
 use Rattle.teg_net.specs.Nets.{NetLists, IsNet}
 use Rattle.teg_net.specs.Circuits.{place_at, from_of, time_of, tokens_of}
+use Rattle.teg_net.specs.Limits.{greatest_circuit_time, most_circuit_tokens}
 use Rattle.teg_net.specs.Parts.{IsMember, to_of}
 use Rattle.teg_net.specs.PartAnswers.{first_transition_of}
 use Rattle.teg_howard.specs.Policies.{Policy, IsPolicy, IsPolicyCircuit, step_back, first_id}
@@ -156,6 +157,12 @@ module _ (net : NetLists) (parts : List ℕ) (part : ℕ) (π : Policy) (ok : Is
       let up : start ≤ step_back net π w.0 start = subst (λ x. x ≤ step_back net π w.0 x) e (low_back d hd low w.0 w.1) in
       let down = w.2 in
       absurd (omega arith)
+
+  -- the sums of the circuit that was found are small
+  pub around_small : (start : ℕ) (found : Option Around) → IfSome found (IsAround net parts part π marked start)
+      → IfSome found (λ a. (a.time ≤ greatest_circuit_time) × (a.tokens ≤ most_circuit_tokens))
+  around_small start None h = tt
+  around_small start (Some a) h = (h.time_in, h.tokens_in)
 
   at_most : (b : Option Bound) (a : Around) (start time tokens : ℕ) (d : List PlaceId) → FitsBound (Some a) b start → IsTrue a.passes
       → time_of net d ≡ a.time → tokens_of net d ≡ a.tokens → first_transition_of net d ≡ start → IsAtMost net b d

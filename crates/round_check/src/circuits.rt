@@ -7,7 +7,7 @@ ghost use Rattle.teg_net.specs.Parts.{IsMember, to_of};
 ghost use Rattle.teg_howard.specs.Policies.{IsPolicy, IsPolicyCircuit};
 ghost use Rattle.teg_howard.specs.FoundCircuits.{GoesBelow, policy_of};
 ghost use Rattle.teg_parts.specs.Components.{IsMarked};
-ghost use Rattle.round_check.specs.PolicyCircuits.{AreAtMost, FitsBound, IsAround, IsAtMost, IsBoundSmall};
+ghost use Rattle.round_check.specs.PolicyCircuits.{AreAtMost, FitsBound, IsAround, IsAtMost, IsAtMostAt, IsBoundSmall};
 
 use crate::parts::{Part, end_of};
 use teg_net::{Net, Place, PlaceId};
@@ -86,9 +86,21 @@ pub(crate) struct Bound {
     pub(crate) first: usize,
 }
 
-// Whether the circuit that begins at the transition, if it passes a marked one, has at most the
-// ratio of the bound, and begins no lower where it has that ratio. Where there is no bound, none may
-// pass one.
+// Whether the circuit that begins at the transition has at most the ratio of the bound, and begins
+// no lower where it has that ratio.
+fn is_at_most(found: Around, bound: Bound, start: usize) -> bool
+    requires time { found.time ≤ greatest_circuit_time }
+    requires tokens { found.tokens ≤ most_circuit_tokens }
+    requires bound { IsBoundSmall bound }
+    ensures { IsTrue result ↔ IsAtMostAt found.time found.tokens start bound }
+{
+    let left = found.time * bound.tokens;
+    let right = bound.time * found.tokens;
+    left < right || left == right && bound.first <= start
+}
+
+// Whether the circuit that begins at the transition, if it passes a marked one, does so. Where there
+// is no bound, none may pass one.
 fn fits_bound(found: Option<Around>, bound: Option<Bound>, start: usize) -> bool
     requires small { IfSome found (λ a. (a.time ≤ greatest_circuit_time)
         × (a.tokens ≤ most_circuit_tokens)) }
@@ -101,12 +113,10 @@ fn fits_bound(found: Option<Around>, bound: Option<Bound>, start: usize) -> bool
     if !found.passes {
         return true;
     }
-    let Some(bound) = bound else {
-        return false;
-    };
-    let left = found.time * bound.tokens;
-    let right = bound.time * found.tokens;
-    left < right || left == right && bound.first <= start
+    match bound {
+        Some(bound) => is_at_most(found, bound, start),
+        None => false,
+    }
 }
 
 // Whether the circuit of which the transition is the lowest one fits the bound.

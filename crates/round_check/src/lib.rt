@@ -12,12 +12,9 @@ mod choices;
 mod circuits;
 mod parts;
 mod policies;
-mod reading;
 mod rounds;
 mod routing;
 mod runs;
-mod shown;
 
 pub use rounds::check_round;
 pub use runs::check_run;
-pub use shown::shown_rounds;

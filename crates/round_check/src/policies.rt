@@ -1,6 +1,6 @@
 //! The policies that a run goes by: the lowest numbered places, and after each round the places that
 //! offer more.
-ghost use Rattle.std.specs.Prelude.{◌≡◌, ◌↔◌, ◌<◌, ◌≤◌, ◌+◌, ◌*◌, ◌+ℤ◌, ◌-ℤ◌, ◌<ℤ◌, ℕ, pos, All, IfNone, IfOk, IfSome, length};
+ghost use Rattle.std.specs.Prelude.{◌≡◌, ◌↔◌, ◌<◌, ◌≤◌, ◌+◌, ◌*◌, ◌+ℤ◌, ◌-ℤ◌, ◌<ℤ◌, ℕ, pos, All, IfNone, IfOk, IfSome, IsTrue, length};
 ghost use Rattle.teg_net.specs.declared.entries.PlaceId.{PlaceId};
 ghost use Rattle.teg_net.specs.Circuits.{from_of};
 ghost use Rattle.teg_net.specs.Limits.{greatest_hold, greatest_scaled_potential, most_place_tokens};
@@ -14,6 +14,7 @@ ghost use Rattle.round_check.specs.Offers.{AreSmall, IsBetterAt, IsGreaterOf, Is
 
 use crate::choices::{place_for, value_for};
 use crate::parts::{Part, enters, is_member};
+use crate::rounds::reduced;
 use std::alloc::{AllocError, Global};
 use teg_net::{Choice, Net, Place, PlaceId, Ratio};
 
@@ -90,6 +91,18 @@ pub(crate) struct Offer {
     pub(crate) value: i128,
 }
 
+// The reduced time of the place at the ratio.
+fn reduced_at(ratio: Ratio, place: &Place) -> i128
+    requires ratio { IsCircuitRatio ratio }
+    requires hold { place.now.hold ≤ greatest_hold }
+    requires tokens { place.now.tokens ≤ most_place_tokens }
+    ensures value { result ≡ (pos (ratio.tokens * place.now.hold) -ℤ pos (ratio.time
+        * place.now.tokens)) }
+    ensures within { IsMagnitudeWithin greatest_scaled_potential result }
+{
+    reduced(ratio, place)
+}
+
 // What a place offers to its end, where its start has the value.
 fn offered(ratio: Ratio, place: &Place, value: i128) -> i128
     requires ratio { IsCircuitRatio ratio }
@@ -99,9 +112,7 @@ fn offered(ratio: Ratio, place: &Place, value: i128) -> i128
     ensures { result ≡ (pos (ratio.tokens * place.now.hold) -ℤ pos (ratio.time * place.now.tokens)
         +ℤ value) }
 {
-    let gain = i128::from(ratio.tokens()) * i128::from(place.hold);
-    let loss = i128::from(ratio.time()) * i128::from(place.tokens);
-    gain - loss + value
+    reduced_at(ratio, place) + value
 }
 
 // What the place of this number offers.
@@ -212,27 +223,22 @@ pub(crate) fn better_policy(
     alloc: Global,
     part: &Part,
     ratio: Ratio,
-    before: &Spread,
+    policy: &[PlaceId],
+    values: &[i128],
 ) -> Result<Vec<PlaceId>, AllocError>
     requires ratio { IsCircuitRatio ratio }
-    requires count { length before.now.policy.items ≡ length part.now.parts.now }
-    requires count_values { length before.now.values.items ≡ length part.now.parts.now }
-    requires within { AreSmall before.now.values.items }
+    requires count { length policy.now ≡ length part.now.parts.now }
+    requires count_values { length values.now ≡ length part.now.parts.now }
+    requires within { AreSmall values.now }
     ensures count { IfOk result (λ better. length better.items ≡ length part.now.parts.now) }
     ensures improves { IfOk result (λ better. IsImprovement part.now.net.now part.now.parts.now
-        part.now.number ratio.time ratio.tokens (policy_of before.now.policy.items)
-        (values_at before.now.values.items) (policy_of better.items)) }
+        part.now.number ratio.time ratio.tokens (policy_of policy.now) (values_at values.now)
+        (policy_of better.items)) }
 {
     let mut better = Vec::new(alloc);
     for transition in 0..part.parts.len() {
-        let own = before.policy[transition];
-        better.push(better_into(
-            part,
-            ratio,
-            &before.values,
-            transition,
-            own,
-        ))?;
+        let own = policy[transition];
+        better.push(better_into(part, ratio, values, transition, own))?;
     }
     Ok(better)
 }
@@ -250,7 +256,18 @@ pub(crate) fn members(alloc: Global, part: &Part) -> Result<Vec<bool>, AllocErro
     Ok(marks)
 }
 
-// For each transition whether it is a member of which the policies have different places.
+// Whether the transition is a member of which the policies have different places.
+fn is_changed(part: &Part, policy: &[PlaceId], better: &[PlaceId], transition: usize) -> bool
+    requires count { length policy.now ≡ length part.now.parts.now }
+    requires count_better { length better.now ≡ length part.now.parts.now }
+    requires transition { transition < length part.now.parts.now }
+    ensures { IsTrue result ↔ IsChanged part.now.parts.now part.now.number (policy_of policy.now)
+        (policy_of better.now) transition }
+{
+    is_member(part.parts, part.number, transition) && better[transition] != policy[transition]
+}
+
+// For each transition whether it is so.
 pub(crate) fn changed(
     alloc: Global,
     part: &Part,
@@ -266,8 +283,7 @@ pub(crate) fn changed(
 {
     let mut marks = Vec::new(alloc);
     for transition in 0..part.parts.len() {
-        let is_other = better[transition] != policy[transition];
-        marks.push(is_member(part.parts, part.number, transition) && is_other)?;
+        marks.push(is_changed(part, policy, better, transition))?;
     }
     Ok(marks)
 }

@@ -29,7 +29,18 @@ fn leads_home(part: &Part, policy: &[PlaceId], root: usize, member: usize) -> bo
     false
 }
 
-// For each transition whether it is a member from which the policy leads back to the root.
+// Whether it is a member from which the policy leads back to the root.
+fn is_home(part: &Part, policy: &[PlaceId], root: usize, member: usize) -> bool
+    requires policy { IsPolicy part.now.net.now part.now.parts.now part.now.number (policy_of
+        policy.now) }
+    requires count { length policy.now ≡ length part.now.parts.now }
+    ensures { IsTrue result ↔ (IsMember part.now.parts.now part.now.number member
+        × LeadsBack part.now.net.now (policy_of policy.now) member root) }
+{
+    is_member(part.parts, part.number, member) && leads_home(part, policy, root, member)
+}
+
+// For each transition whether it is so.
 fn homes(
     alloc: Global,
     part: &Part,
@@ -45,9 +56,7 @@ fn homes(
 {
     let mut home = Vec::new(alloc);
     for member in 0..part.parts.len() {
-        let is_home = is_member(part.parts, part.number, member)
-            && leads_home(part, policy, root, member);
-        home.push(is_home)?;
+        home.push(is_home(part, policy, root, member))?;
     }
     Ok(home)
 }
@@ -109,6 +118,14 @@ fn all_marked(part: &Part, marked: &[bool]) -> bool
     true
 }
 
+// Whether the policy has the place for the transition.
+pub(crate) fn has_place(policy: &[PlaceId], transition: usize, id: PlaceId) -> bool
+    requires { transition < length policy.now }
+    ensures { IsTrue result ↔ (policy_of policy.now transition ≡ id) }
+{
+    policy[transition] == id
+}
+
 // Whether the places that join the members that are not at home, one by one, are those of the
 // routed policy, until all are.
 fn joins_all(
@@ -132,7 +149,7 @@ fn joins_all(
             return all_marked(part, &home);
         };
         let member = end_of(part.net, id);
-        if routed[member] != id {
+        if !has_place(routed, member, id) {
             return false;
         }
         home[member] = true;

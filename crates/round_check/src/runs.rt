@@ -1,15 +1,16 @@
 //! Whether rounds are a policy run of a part.
-ghost use Rattle.std.specs.Prelude.{◌≡◌, ◌↔◌, ◌<◌, ◌≤◌, ◌-◌, ℕ, List, All, IfOk, IsTrue, length};
+ghost use Rattle.std.specs.Prelude.{◌≡◌, ◌↔◌, ◌<◌, ◌≤◌, ◌-◌, ℕ, List, All, Any, IfOk, IsTrue, Some, length};
+ghost use Rattle.teg_net.specs.declared.entries.PlaceId.{PlaceId};
 ghost use Rattle.teg_net.specs.Circuits.{AreInRange, IsCircuit};
 ghost use Rattle.teg_net.specs.Limits.{greatest_scaled_potential};
 ghost use Rattle.teg_net.specs.Parts.{to_of};
 ghost use Rattle.teg_net.specs.ReducedTimes.{IsMagnitudeWithin};
-ghost use Rattle.teg_howard.specs.Policies.{IsPolicy};
+ghost use Rattle.teg_howard.specs.Policies.{IsPolicy, IsPolicyCircuit};
 ghost use Rattle.teg_howard.specs.PolicyRounds.{FollowsRound, IsFirstRound, IsPolicyRun, IsRound, IsRoundOf};
 ghost use Rattle.teg_howard.specs.FoundCircuits.{policy_of};
 ghost use Rattle.teg_howard.specs.RoundStates.{IsLastRound};
 ghost use Rattle.teg_parts.specs.Components.{IsMarked};
-ghost use Rattle.round_check.specs.PolicyCircuits.{IsBoundOf};
+ghost use Rattle.round_check.specs.PolicyCircuits.{IsAtMost, IsBoundOf, IsBoundSmall};
 ghost use Rattle.round_check.specs.Offers.{IsSpread};
 ghost use Rattle.round_check.specs.Rounds.{AreFollowing, HasPlacesOf, IsStep, Keeps, KeepsLimits, Stands};
 
@@ -17,7 +18,7 @@ use crate::circuits::{Bound, all_fit, passes};
 use crate::parts::{Part, end_of};
 use crate::policies::{Spread, better_policy, changed, lowest_places, members, spread_choices};
 use crate::rounds::{check_round, root_of};
-use crate::routing::is_routing;
+use crate::routing::{has_place, is_routing};
 use std::alloc::{AllocError, Global};
 use teg_net::{Choice, Net, OutOfMemory, PlaceId, Round, time_of, tokens_of};
 
@@ -79,7 +80,7 @@ fn is_of_policy(part: &Part, policy: &[PlaceId], circuit: &[PlaceId]) -> bool
 {
     part.net.rules();
     for id in circuit {
-        if policy[end_of(part.net, *id)] != *id {
+        if !has_place(policy, end_of(part.net, *id), *id) {
             return false;
         }
     }
@@ -99,6 +100,35 @@ fn bound_of(net: &Net, circuit: &[PlaceId]) -> Bound
     }
 }
 
+// Whether the places of the circuit are the policy's, one of them ends at a marked transition, and
+// no other circuit of the policy that passes one is above the bound.
+fn fits_policy(
+    part: &Part,
+    policy: &[PlaceId],
+    marked: &[bool],
+    circuit: &[PlaceId],
+    bound: Bound,
+) -> bool
+    requires policy { IsPolicy part.now.net.now part.now.parts.now part.now.number (policy_of
+        policy.now) }
+    requires count { length policy.now ≡ length part.now.parts.now }
+    requires count_marked { length marked.now ≡ length part.now.parts.now }
+    requires range { AreInRange part.now.net.now circuit.now }
+    requires bound { IsBoundSmall bound }
+    ensures own { IsTrue result → All (λ p. policy_of policy.now (to_of part.now.net.now p) ≡ p)
+        circuit.now }
+    ensures through { IsTrue result → Any (λ p. IsMarked marked.now (to_of part.now.net.now p))
+        circuit.now }
+    ensures most { IsTrue result → ((d : List PlaceId)
+        → IsPolicyCircuit part.now.net.now part.now.parts.now part.now.number (policy_of policy.now)
+        d → Any (λ p. IsMarked marked.now (to_of part.now.net.now p)) d
+        → IsAtMost part.now.net.now (Some bound) d) }
+{
+    is_of_policy(part, policy, circuit)
+        && passes(part.net, circuit, marked)
+        && all_fit(part, policy, marked, Some(bound))
+}
+
 // Whether the round is that of the policy's best circuit through a marked transition, with every
 // other member routed to it.
 fn is_made_of(
@@ -116,16 +146,13 @@ fn is_made_of(
     ensures { IfOk result (λ yes. IsTrue yes → IsRoundOf part.now.net.now part.now.parts.now
         part.now.number (policy_of policy.now) (IsMarked marked.now) round.now) }
 {
-    let circuit = &round.circuit.places;
-    if !is_of_policy(part, policy, circuit) || !passes(part.net, circuit, marked) {
-        return Ok(false);
-    }
-    let bound = bound_of(part.net, circuit);
-    if !all_fit(part, policy, marked, Some(bound)) {
+    let bound = bound_of(part.net, &round.circuit.places);
+    if !fits_policy(part, policy, marked, &round.circuit.places, bound) {
         return Ok(false);
     }
     let own = spread_of(alloc, part, round)?;
-    is_routing(alloc, part, policy, bound.first, &own.policy)
+    let is_made = is_routing(alloc, part, policy, bound.first, &own.policy)?;
+    Ok(is_made)
 }
 
 // Whether the round is the first of the part.
@@ -136,7 +163,8 @@ fn is_first(alloc: Global, part: &Part, round: &Round) -> Result<bool, AllocErro
 {
     let policy = lowest_places(alloc, part)?;
     let everywhere = members(alloc, part)?;
-    is_made_of(alloc, part, &policy, &everywhere, round)
+    let is_first = is_made_of(alloc, part, &policy, &everywhere, round)?;
+    Ok(is_first)
 }
 
 // Whether each member has the place of the policy in the round.
@@ -187,7 +215,7 @@ fn step_from(alloc: Global, part: &Part, round: &Round) -> Result<Step, AllocErr
     ensures { IfOk result (IsStep part.now.net.now part.now.parts.now part.now.number round.now) }
 {
     let own = spread_of(alloc, part, round)?;
-    let policy = better_policy(alloc, part, round.ratio, &own)?;
+    let policy = better_policy(alloc, part, round.ratio, &own.policy, &own.values)?;
     let marks = changed(alloc, part, &own.policy, &policy)?;
     Ok(Step { policy, marks })
 }
@@ -222,9 +250,11 @@ fn follows(
         return Ok(false);
     }
     if all_fit(part, &step.policy, &step.marks, None) {
-        return keeps(alloc, part, before, &step.policy, round);
+        let is_kept = keeps(alloc, part, before, &step.policy, round)?;
+        return Ok(is_kept);
     }
-    is_made_of(alloc, part, &step.policy, &step.marks, round)
+    let is_made = is_made_of(alloc, part, &step.policy, &step.marks, round)?;
+    Ok(is_made)
 }
 
 // Whether each round follows from the one before.
@@ -248,7 +278,10 @@ fn is_last(alloc: Global, part: &Part, round: &Round) -> Result<bool, AllocError
         part.now.number round.now) }
 {
     let step = step_from(alloc, part, round)?;
-    Ok(!is_any(&step.marks))
+    if is_any(&step.marks) {
+        return Ok(false);
+    }
+    Ok(true)
 }
 
 /// Whether the rounds are a policy run of the part.

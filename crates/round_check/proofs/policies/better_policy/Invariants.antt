@@ -7,5 +7,5 @@ abbrev pub invariant-loop-transition : goal.invariant-loop-transition
 invariant-loop-transition l = record {
   count : length l.better.items ≡ l.transition;
   each : (t : ℕ) → t < l.transition → IsBetterAt l.part.net.now l.part.parts.now l.part.number l.ratio.time l.ratio.tokens
-      (values_at l.before.values.items) t (policy_of l.before.policy.items t) (policy_of l.better.items t);
+      (values_at l.values) t (policy_of l.policy t) (policy_of l.better.items t);
 }

@@ -28,5 +28,5 @@ returns-then-enters-clause-some c = record {
 pub returns-clause-none : goal.returns-clause-none
 returns-clause-none c = λ q e.
     let long = e.inside.in_range in
-    let past : length c.args.part.now.net.now.places ≤ c.loop-index.index = rw c.places.ensures.value at c.loop-index-test.false in
+    let past : length c.args.part.now.net.now.places ≤ c.loop-index.index = rw c.places-index-end.ensures.value at c.loop-index-test.false in
     c.loop-index.invariant q e (omega arith)

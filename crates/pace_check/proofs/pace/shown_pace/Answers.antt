@@ -2,7 +2,7 @@ use Rattle.std.proofs.Common.{rules}
 use Rattle.teg_net.specs.Certificates.{IsCertificate}
 use Rattle.teg_net.proofs.NetRules.{net_ends}
 use Rattle.pace_check.proofs.Paces.{best_is_greatest}
-use Rattle.pace_check.proofs.pace.shown_times.Goals as goal
+use Rattle.pace_check.proofs.pace.shown_pace.Goals as goal
 
 pub returns : goal.returns
 returns c =
@@ -12,6 +12,6 @@ returns c =
     let sure : IsCertificate net answer = search rules in
     record {
       live = c.in_ok-is_seen_live.ensures.0 (search rules);
-      greatest = (ratio, search rules, best_is_greatest net answer.parts.items answer.best ratio (c.certificates_tell.ensures.nets net answer (net_ends net c.rules.ensures) sure) (search rules));
-      times = record { certificate = sure; strong = search rules; parts = search rules; told = search rules };
+      greatest = best_is_greatest net answer.parts.items answer.best ratio (c.certificates_tell.ensures.nets net answer (net_ends net c.rules.ensures) sure) (search rules);
+      times = (answer, search rules, record { certificate = sure; strong = search rules; parts = search rules; told = search rules });
     }
