@@ -3,7 +3,6 @@ use Rattle.std.proofs.Common.{ℕ, ◌+◌, ◌-◌, ◌*◌, ◌<◌, ◌≤◌
 use Rattle.std.specs.Prelude.{ℤ, pos, ◌<ℤ◌, ◌≤ℤ◌, ◌⊎◌, ◌↔◌, All, Any}
 use Rattle.std.proofs.lemmas.Int.{ints}
 use Rattle.std.proofs.lemmas.Bool.{cases_eq, cases_lt, eq-eqb, ne_eqb}
-use Rattle.std.proofs.lemmas.List.{get_or_default}
 use Rattle.std.proofs.lemmas.List.Elements.{All-tail}
 use Rattle.teg_net.specs.declared.entries.PlaceId.{PlaceId}
 use Rattle.teg_net.specs.declared.rounds.Choice.{Choice}
@@ -177,26 +176,22 @@ module _ (net : NetLists) (parts : List ℕ) (part : ℕ) where
         (cases_id (policy_of st.policy.items t) (chosen r t))
 
   -- ---- the run
-  pub following_more : (rounds : List Round) (i : ℕ) (d : Round) → 1 ≤ i → AreFollowing net parts part rounds i
-      → FollowsRound net parts part (get_or rounds (i - 1) d) (get_or rounds i d) → i < length rounds → AreFollowing net parts part rounds (i + 1)
-  following_more rounds i d some h next within k e l =
+  pub following_at : (rounds : List Round) (i : ℕ) (x y : Round) → 1 ≤ i → AreFollowing net parts part rounds i → ((d : Round) → x ≡ get_or rounds (i - 1) d)
+      → ((d : Round) → y ≡ get_or rounds i d) → FollowsRound net parts part x y → AreFollowing net parts part rounds (i + 1)
+  following_at rounds i x y some h x_is y_is next k e l =
       ⊎_elim
       (λ (q : k + 1 < i). h k e q)
       (λ (q : i ≤ k + 1).
       let is : i ≡ k + 1 = omega arith in
       let back : i - 1 ≡ k = omega arith in
-      let low : get_or rounds (i - 1) d ≡ get_or rounds k e = ap (λ x. get_or rounds x d) back ∙ get_or_default rounds k d e (omega arith) in
-      let high : get_or rounds i d ≡ get_or rounds (k + 1) e = ap (λ x. get_or rounds x d) is ∙ get_or_default rounds (k + 1) d e (omega arith) in
+      let low : x ≡ get_or rounds k e = x_is e ∙ ap (λ (n : ℕ). get_or rounds n e) back in
+      let high : y ≡ get_or rounds (k + 1) e = y_is e ∙ ap (λ (n : ℕ). get_or rounds n e) is in
       rw (sym low, sym high) next)
       (cases_lt (k + 1) i)
 
-  pub run_is : (rounds : List Round) (d : Round) → 0 < length rounds → IsFirstRound net parts part (get_or rounds 0 d) → AreFollowing net parts part rounds (length rounds)
-      → IsLastRound net parts part (get_or rounds (length rounds - 1) d) → IsPolicyRun net parts part rounds
-  run_is rounds d some first next last = record {
-    run = record {
-      some = some;
-      first = λ e. subst (IsFirstRound net parts part) (get_or_default rounds 0 d e some) first;
-      next = next;
-    };
-    last = λ e. subst (IsLastRound net parts part) (get_or_default rounds (length rounds - 1) d e (omega arith)) last;
+  pub run_at : (rounds : List Round) (x y : Round) → 0 < length rounds → ((d : Round) → x ≡ get_or rounds 0 d) → ((d : Round) → y ≡ get_or rounds (length rounds - 1) d)
+      → IsFirstRound net parts part x → AreFollowing net parts part rounds (length rounds) → IsLastRound net parts part y → IsPolicyRun net parts part rounds
+  run_at rounds x y some x_is y_is first next last = record {
+    run = record { some = some; first = λ e. subst (IsFirstRound net parts part) (x_is e) first; next = next };
+    last = λ e. subst (IsLastRound net parts part) (y_is e) last;
   }

@@ -1,6 +1,7 @@
 //! Whether rounds are a policy run of a part.
-ghost use Rattle.std.specs.Prelude.{◌≡◌, ◌↔◌, ◌<◌, ◌≤◌, ◌-◌, ℕ, List, All, Any, IfOk, IsTrue, Some, length};
+ghost use Rattle.std.specs.Prelude.{◌≡◌, ◌↔◌, ◌<◌, ◌≤◌, ◌-◌, ℕ, List, All, Any, IfOk, IsTrue, Some, length, slice_index_or};
 ghost use Rattle.teg_net.specs.declared.entries.PlaceId.{PlaceId};
+ghost use Rattle.teg_net.specs.declared.rounds.Round.{Round};
 ghost use Rattle.teg_net.specs.Circuits.{AreInRange, IsCircuit};
 ghost use Rattle.teg_net.specs.Limits.{greatest_scaled_potential};
 ghost use Rattle.teg_net.specs.Parts.{to_of};
@@ -257,6 +258,14 @@ fn follows(
     Ok(is_made)
 }
 
+// The round of this number.
+fn round_at<'r>(rounds: &'r [Round], number: usize) -> &'r Round
+    requires { number < length rounds.now }
+    ensures { (d : Round) → result.now ≡ slice_index_or rounds.now number d }
+{
+    &rounds[number]
+}
+
 // Whether each round follows from the one before.
 fn follow_each(alloc: Global, part: &Part, rounds: &[Round]) -> Result<bool, AllocError>
     requires { All (Stands part.now.net.now part.now.parts.now part.now.number) rounds.now }
@@ -264,7 +273,8 @@ fn follow_each(alloc: Global, part: &Part, rounds: &[Round]) -> Result<bool, All
         part.now.number rounds.now (length rounds.now)) }
 {
     for next in 1..rounds.len() {
-        if !follows(alloc, part, &rounds[next - 1], &rounds[next])? {
+        let is_next = follows(alloc, part, round_at(rounds, next - 1), round_at(rounds, next))?;
+        if !is_next {
             return Ok(false);
         }
     }
@@ -284,7 +294,37 @@ fn is_last(alloc: Global, part: &Part, round: &Round) -> Result<bool, AllocError
     Ok(true)
 }
 
-/// Whether the rounds are a policy run of the part.
+// Whether the rounds are a policy run of the part.
+fn is_run(alloc: Global, part: &Part, rounds: &[Round]) -> Result<bool, AllocError>
+    ensures { IfOk result (λ yes. IsTrue yes → IsPolicyRun part.now.net.now part.now.parts.now
+        part.now.number rounds.now) }
+{
+    if rounds.len() == 0 {
+        return Ok(false);
+    }
+    if !all_stand(part, rounds) {
+        return Ok(false);
+    }
+    let is_begun = is_first(alloc, part, round_at(rounds, 0))?;
+    if !is_begun {
+        return Ok(false);
+    }
+    let are_next = follow_each(alloc, part, rounds)?;
+    if !are_next {
+        return Ok(false);
+    }
+    let is_ended = is_last(alloc, part, round_at(rounds, rounds.len() - 1))?;
+    Ok(is_ended)
+}
+
+/// Whether the rounds are a policy run of the part (`IsPolicyRun`; Howard's algorithm, of which the
+/// book has none). A yes says that they are: the first is that of the policy of the lowest numbered
+/// places, each follows from the one before by the rule of the search, and no place improves the
+/// last. A no says nothing.
+///
+/// The numbers of parts are one for each transition, in any sense. `Err` is want of memory, and
+/// nothing else. It takes time of the order of the cube of the part's members for each round, and
+/// memory for a few numbers for each transition.
 pub fn check_run(
     alloc: Global,
     net: &Net,
@@ -300,12 +340,6 @@ pub fn check_run(
         parts,
         number: part,
     };
-    if rounds.len() == 0 || !all_stand(&own, rounds) {
-        return Ok(false);
-    }
-    if !is_first(alloc, &own, &rounds[0])? || !follow_each(alloc, &own, rounds)? {
-        return Ok(false);
-    }
-    let last = is_last(alloc, &own, &rounds[rounds.len() - 1])?;
-    Ok(last)
+    let is_run = is_run(alloc, &own, rounds)?;
+    Ok(is_run)
 }
