@@ -183,7 +183,16 @@ fn has_places_of(part: &Part, policy: &[PlaceId], own: &Spread) -> bool
     true
 }
 
-// Whether the round has the ratio and the circuit of the one before, and the places of the policy.
+// Whether the round has the ratio and the circuit of the one before.
+fn has_circuit_of(before: &Round, round: &Round) -> bool
+    ensures circuit { IsTrue result → round.now.circuit.places.items
+        ≡ before.now.circuit.places.items }
+    ensures ratio { IsTrue result → round.now.ratio ≡ before.now.ratio }
+{
+    round.circuit.places == before.circuit.places && round.ratio == before.ratio
+}
+
+// Whether it does, and has the places of the policy.
 fn keeps(
     alloc: Global,
     part: &Part,
@@ -196,7 +205,7 @@ fn keeps(
     ensures { IfOk result (λ yes. IsTrue yes → Keeps part.now.parts.now part.now.number before.now
         policy.now round.now) }
 {
-    if round.circuit.places != before.circuit.places || round.ratio != before.ratio {
+    if !has_circuit_of(before, round) {
         return Ok(false);
     }
     let own = spread_of(alloc, part, round)?;

@@ -2,13 +2,10 @@ use Rattle.teg_howard.specs.FoundCircuits.{policy_of}
 use Rattle.round_check.proofs.Stepping.{lowest_policy, first_is}
 use Rattle.round_check.proofs.runs.is_first.Goals as goal
 
-pub is_made_of-is_first-requires-clause-policy : goal.is_made_of-is_first-requires-clause-policy
-is_made_of-is_first-requires-clause-policy c =
+pub is_made_of-requires-clause-policy : goal.is_made_of-requires-clause-policy
+is_made_of-requires-clause-policy c =
     let part = c.args.part.now in
     rw c.deref.ensures.value (lowest_policy part.net.now part.parts.now part.number c.args.round.now c.in_ok-policy.policy.items c.requires c.in_ok-policy.ensures)
-
-pub is_made_of-is_first-requires-clause-count : goal.is_made_of-is_first-requires-clause-count
-is_made_of-is_first-requires-clause-count c = rw c.deref.ensures.value c.in_ok-policy.ensures.count
 
 pub returns : goal.returns
 returns c =

@@ -13,9 +13,6 @@ fits_policy-requires-clause-range c =
     let h = c.requires.round.circuit.circuit in
     rw c.deref-2.ensures.value (IsPathBetween-in_range c.args.part.now.net.now c.args.round.now.circuit.places.items h.closed.0 h.closed.0 h.closed.1)
 
-pub is_routing-is_made-requires-clause-count_routed : goal.is_routing-is_made-requires-clause-count_routed
-is_routing-is_made-requires-clause-count_routed c = rw c.deref-3.ensures.value c.in_ok-own.ensures.count_places
-
 pub returns : goal.returns
 returns c =
     let part = c.args.part.now in

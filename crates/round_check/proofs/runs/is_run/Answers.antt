@@ -3,17 +3,14 @@ use Rattle.round_check.specs.Rounds.{Stands}
 use Rattle.round_check.proofs.Stepping.{run_at}
 use Rattle.round_check.proofs.runs.is_run.Goals as goal
 
-pub is_first-is_begun-requires : goal.is_first-is_begun-requires
-is_first-is_begun-requires c =
+pub is_first-requires : goal.is_first-requires
+is_first-requires c =
     let part = c.args.part.now in
     let d = c.round_at.result.now in
     (subst (Stands part.net.now part.parts.now part.number) (sym (c.round_at.ensures d)) (c.all_stand.ensures c.if-not-all_stand.false 0 d (search rules))).round
 
-pub follow_each-are_next-requires : goal.follow_each-are_next-requires
-follow_each-are_next-requires c = c.all_stand.ensures c.if-not-all_stand.false
-
-pub is_last-is_ended-requires : goal.is_last-is_ended-requires
-is_last-is_ended-requires c =
+pub is_last-requires : goal.is_last-requires
+is_last-requires c =
     let part = c.args.part.now in
     let d = c.round_at-2.result.now in
     subst (Stands part.net.now part.parts.now part.number) (sym (c.round_at-2.ensures d))
