@@ -26,7 +26,11 @@ pub(crate) struct Spread {
 }
 
 // The choices, by transition.
-pub(crate) fn spread_choices(alloc: Global, count: usize, choices: &[Choice]) -> Result<Spread, AllocError>
+pub(crate) fn spread_choices(
+    alloc: Global,
+    count: usize,
+    choices: &[Choice],
+) -> Result<Spread, AllocError>
     requires { All (λ c. c.transition.index < count) choices.now }
     ensures { IfOk result (IsSpread count choices.now) }
 {

@@ -183,13 +183,20 @@ fn has_places_of(part: &Part, policy: &[PlaceId], own: &Spread) -> bool
     true
 }
 
+// Whether the places are the same.
+fn same_places(first: &[PlaceId], second: &[PlaceId]) -> bool
+    ensures { IsTrue result ↔ (first.now ≡ second.now) }
+{
+    first == second
+}
+
 // Whether the round has the ratio and the circuit of the one before.
 fn has_circuit_of(before: &Round, round: &Round) -> bool
     ensures circuit { IsTrue result → round.now.circuit.places.items
         ≡ before.now.circuit.places.items }
     ensures ratio { IsTrue result → round.now.ratio ≡ before.now.ratio }
 {
-    round.circuit.places == before.circuit.places && round.ratio == before.ratio
+    same_places(&round.circuit.places, &before.circuit.places) && round.ratio == before.ratio
 }
 
 // Whether it does, and has the places of the policy.
@@ -244,12 +251,7 @@ fn is_any(marks: &[bool]) -> bool
 
 // Whether the round follows from the one before: the better policy has a circuit through a changed
 // member, and the round is of the best of them, or it has none, and the round keeps the circuit.
-fn follows(
-    alloc: Global,
-    part: &Part,
-    before: &Round,
-    round: &Round,
-) -> Result<bool, AllocError>
+fn follows(alloc: Global, part: &Part, before: &Round, round: &Round) -> Result<bool, AllocError>
     requires before { Stands part.now.net.now part.now.parts.now part.now.number before.now }
     requires round { IsRound part.now.net.now part.now.parts.now part.now.number round.now }
     ensures { IfOk result (λ yes. IsTrue yes → FollowsRound part.now.net.now part.now.parts.now
@@ -282,7 +284,12 @@ fn follow_each(alloc: Global, part: &Part, rounds: &[Round]) -> Result<bool, All
         part.now.number rounds.now (length rounds.now)) }
 {
     for next in 1..rounds.len() {
-        let is_next = follows(alloc, part, round_at(rounds, next - 1), round_at(rounds, next))?;
+        let is_next = follows(
+            alloc,
+            part,
+            round_at(rounds, next - 1),
+            round_at(rounds, next),
+        )?;
         if !is_next {
             return Ok(false);
         }

@@ -19,6 +19,7 @@ joins-preserved c =
     let ends : c.end_of-member.result ≡ to_of net id = c.end_of-member.ensures in
     let next : IsNextMark net part.parts.now part.number c.joins.home.items id = rw c.deref.ensures.value at c.in-Some.ensures.some in
     let own : policy_of c.args.routed.now (to_of net id) ≡ id = rw ends at (c.has_place.ensures.0 c.if-not-has_place.false) in
-    rw ends
-    (js ++ id ∷ [],
-    joined_more net part.parts.now part.number (policy_of c.args.policy.now) c.args.root (policy_of c.args.routed.now) js c.joins.home.items id c.joins.invariant.1 next own)
+    rw ends (
+      js ++ id ∷ [],
+      joined_more net part.parts.now part.number (policy_of c.args.policy.now) c.args.root (policy_of c.args.routed.now) js c.joins.home.items id c.joins.invariant.1 next own,
+    )
