@@ -1,1 +1,5 @@
 pub mod Checks
+pub mod Offers
+pub mod PolicyCircuits
+pub mod Routes
+pub mod Rounds

@@ -86,7 +86,7 @@ fn is_circuit_told(part: &Part, ratio: Ratio, choices: &[Choice], circuit: &[Pla
 }
 
 // The reduced time of the place at the ratio.
-fn reduced(ratio: Ratio, place: &Place) -> i128
+pub(crate) fn reduced(ratio: Ratio, place: &Place) -> i128
     requires hold { place.now.hold ≤ greatest_hold }
     requires tokens { place.now.tokens ≤ most_place_tokens }
     ensures { result ≡ reduced_time_of_place ratio place.now }
