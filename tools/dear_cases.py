@@ -11,7 +11,7 @@ from functools import partial
 from common import Status
 from random_net import random_places
 
-DONE, NET, LATE, TOO_LONG, CALC = Status.DONE, Status.NET, Status.LATE, Status.TOO_LONG, Status.CALC
+DONE, NET, LATE, TOO_LONG, LOG, CALC = Status.DONE, Status.NET, Status.LATE, Status.TOO_LONG, Status.LOG, Status.CALC
 TOO_LONG_TEXT = "too long: no settled form within {}\n"
 
 
@@ -599,22 +599,41 @@ def rows_cases():
     yield hub_inputs(10, 10)
     yield hub_inputs(20, 20)
     yield crossing_rows(50)
+    yield crossing_rows(100, more=1)
+    yield paired_rows(20)
     yield ("forever: 100 rows that go on after 30 firings, rates that nearly agree, room for 50 parts", ["forever", "net", "rows"],
            {"net": near_rates(100, 50).text(), "rows": steady_rows(100, 30)}, TOO_LONG, "too long: input feed\n")
-    yield wide_replay(100_000)
+    yield wide_replay(1_048_576, 1)
+    yield longer_held_replay(100_000)
 
 
-def crossing_rows(ends, every=998, unit=1_000):
+def crossing_rows(ends, every=998, unit=1_000, more=0):
     """Rows behind a hub of two own places of even numbers of tokens: firing k + 1 comes at k times the unit at most, and
     one unit earlier where k is odd, as it is due. The due dates of all numbers lie in part under the dates of some, but
-    those of even numbers over the dates of even ones, and so do those of odd ones, which is all that meet."""
+    those of even numbers over the dates of even ones, and so do those of odd ones, which is all that meet. So they
+    do where the due dates rise by `more` more in each turn."""
     names = ["s0", "s1", "h"] + [f"d{k}" for k in range(ends)]
     places = [(f"l{k}", f"s{k}", f"s{k}", own * unit, own) for k, own in enumerate((178, 202))]
     places += [(f"m{k}", f"s{k}", "h", 0, 0) for k in range(2)] + [(f"d{k}", "h", f"d{k}", 0, 0) for k in range(ends)]
     dates = ",".join(str(unit * (k - k % 2)) for k in range(every))
-    return (f"forever: {ends} rows that share a divisor with a period of 17,978, none late", ["forever", "net", "rows"],
-            {"net": Net(names, places).text(), "rows": "".join(f"d{k},{every},{every * unit},{dates}\n" for k in range(ends))},
+    later = f" and rise by {more} more" if more else ""
+    return (f"forever: {ends} rows that share a divisor with a period of 17,978{later}, none late", ["forever", "net", "rows"],
+            {"net": Net(names, places).text(), "rows": "".join(f"d{k},{every},{every * unit + more},{dates}\n" for k in range(ends))},
             DONE, "latest inputs forever\n")
+
+
+def paired_rows(count, lead=19_000, due=10**9):
+    """`forever` with walk times of its own for each pair of an input and a row, of two ways: one begins slowly, the other
+    gains on it. Each row is due as fast as the faster one, so the longer of the two ways to it at the start tells each date."""
+    inputs, ends = [f"u{k}" for k in range(count)], [f"c{k}" for k in range(count)]
+    places = [("aa", "a", "a", 10, 1), ("dd", "d", "d", 11, 1)]
+    for k in range(count):
+        places += [(f"ua{k}", f"u{k}", "a", 0, 0), (f"ud{k}", f"u{k}", "d", k * count, 0)]
+        places += [(f"ac{k}", "a", f"c{k}", lead, 0), (f"dc{k}", "d", f"c{k}", k, 0)]
+    dates = [due - max(lead, k * count + count - 1) for k in range(count)]
+    return (f"forever: {count} inputs and {count} rows, each pair with walk times of its own", ["forever", "net", "rows"],
+            {"net": Net(inputs + ["a", "d"] + ends, places, inputs).text(), "rows": "".join(f"{end},1,11,{due}\n" for end in ends)},
+            DONE, "latest inputs forever\n" + "".join(f"input u{k} {date} period 1 step 11\n" for k, date in enumerate(dates)))
 
 
 def steady_rows(count, every, gap=3_601, first=10**8):
@@ -623,12 +642,28 @@ def steady_rows(count, every, gap=3_601, first=10**8):
     return "".join(f"m{k},{every},{gap * every},{dates}\n" for k in range(count))
 
 
-def wide_replay(firings):
-    """A log of one transition with 4,000 places to itself: each firing asks all of them."""
-    net = Net(["a"], [(f"p{k}", "a", "a", 0, 1) for k in range(4000)])
-    return (f"replay: {firings:,} firings of a transition with 4,000 places", ["replay", "net", "rows"],
+def wide_replay(firings, most):
+    """A log of one transition with 4,000 places to itself, of 1 token up to so many: each firing asks one place of each
+    number of tokens, and the first 1,000 ask all."""
+    own = [1 + k % most for k in range(4000)]
+    net = Net(["a"], [(f"p{k}", "a", "a", 0, tokens) for k, tokens in enumerate(own)])
+    return (f"replay: {firings:,} firings of a transition with 4,000 places of up to {most:,} tokens", ["replay", "net", "rows"],
             {"net": net.text(), "rows": "a,0\n" * firings}, DONE,
-            f"replayed {firings} firings\nfirings {firings}\nhigh water 4000\ngreatest lateness 0\n")
+            f"replayed {firings} firings\nfirings {firings}\nhigh water {sum(own)}\ngreatest lateness 0\n")
+
+
+def longer_held_replay(firings):
+    """A log of one transition with places to itself, some held longer than others of as many tokens. A firing every 10
+    units is in time, the second and the third 4 units late; the last comes before the tokens of the two last places,
+    and the first of these is told."""
+    held = [(k % 3 + 1, k % 7) for k in range(1_500)] + [(3, 29), (3, 30)]
+    net = Net(["a"], [(f"p{k}", "a", "a", hold, tokens) for k, (tokens, hold) in enumerate(held)])
+    dates = [10 * k for k in range(firings)]
+    dates[-1] -= 2
+    return (f"replay: {firings:,} firings of a transition with places held longer than others, the last too early",
+            ["replay", "net", "rows"], {"net": net.text(), "rows": "".join(f"a,{date}\n" for date in dates)}, LOG,
+            f"refused: log row {firings} illegal place p1500\nfirings {firings - 1}\n"
+            f"high water {sum(own for own, _ in held)}\ngreatest lateness 4\n")
 
 
 def overtaken_inputs(inputs, lead, later=0):
@@ -653,4 +688,4 @@ def dear_cases():
     yield ("forever: 100 inputs with other holds each and 135 rows of 10,000 dates behind a long chain", ["forever", "net", "rows"],
            {"net": long_chain(100, 135, 1).text(), "rows": chain_rows(135, 99)}, DONE, partial(chain_text, 100, 99, 1))
     yield hub_inputs(329, 68)
-    yield wide_replay(1_048_576)
+    yield wide_replay(1_048_576, 1_000)

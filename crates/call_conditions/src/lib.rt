@@ -5,7 +5,7 @@
 //! [`is_ranked`] before what takes a net and its ranks, [`is_enough`] before `enough_potentials`,
 //! [`is_rising`] before `Series::from_list`, [`has_few_nodes`] and [`has_short_numbers`] before
 //! `evaluate`. The numbers that they compare with are those of `call_limits`.
-//! Its examples stand in `condition_examples`, in `conditions.rt`.
+//! Its examples stand in `library_examples`, in `conditions.rt`.
 #![tactic(auto)]
 
 mod expressions;

@@ -21,23 +21,16 @@ fn come_in_order() -> bool {
     is_less && is_last && second.compare(first) == Ordering::Greater
 }
 
-#[test]
-fn dates_come_in_order(rt: HostRuntime) {
-    assert!(rt; come_in_order());
-}
-
 // The row of two entries.
 fn row_of(alloc: Global, entries: &[Date; 2]) -> Result<Matrix<Date>, Fail> {
     Ok(Matrix::new(1, 2, Vec::from_slice(alloc, entries)?)?)
 }
 
-#[test]
-fn a_matrix_is_shown(rt: HostRuntime) -> Result<(), Fail> {
-    let alloc = rt.alloc();
+// Whether a matrix is written with its shape and its entries.
+fn is_shown(alloc: Global) -> Result<bool, Fail> {
     let row = row_of(alloc, &[Date::At(1), Date::Early])?;
     let text = format!(in alloc; "{row:?}")?;
-    assert!(rt; text.as_str() == "Matrix { rows: 1, columns: 2, entries: [At(1), Early] }");
-    Ok(())
+    Ok(text.as_str() == "Matrix { rows: 1, columns: 2, entries: [At(1), Early] }")
 }
 
 // Why the row is not multiplied with the other.
@@ -97,7 +90,8 @@ fn star_is_never(alloc: Global) -> Result<bool, Fail> {
 #[test]
 fn answers_that_were_worked_out(rt: HostRuntime) -> Result<(), Fail> {
     let alloc = rt.alloc();
-    assert!(rt; keeps_misfits());
+    assert!(rt; keeps_misfits() && come_in_order());
+    assert!(rt; is_shown(alloc)?);
     assert!(rt; is_a_row(alloc)?);
     assert!(rt; asks_for_four(alloc)?);
     assert!(rt; star_is_never(alloc)?);

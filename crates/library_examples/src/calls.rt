@@ -12,49 +12,17 @@ use teg_net::{Net, PlaceId, Ratio, is_circuit, time_of, tokens_of};
 use teg_reader::{ReadRefusal, read_net, write_net};
 use teg_sizing::{Sizing, size};
 
-// The place of the loop that leads there.
-fn place_there(net: &Net) -> Result<PlaceId, Fail>
-    ensures { IfOk result (λ id. id.index < length net.now.places) }
-{
-    let there = net.find_place("ab").ok_or("no such place")?;
-    Ok(there)
-}
-
-// The place that leads back.
-fn place_back(net: &Net) -> Result<PlaceId, Fail>
-    ensures { IfOk result (λ id. id.index < length net.now.places) }
-{
-    let back = net.find_place("ba").ok_or("no such place")?;
-    Ok(back)
-}
-
-// Both of them.
-fn both_places(net: &Net) -> Result<(PlaceId, PlaceId), Fail>
-    ensures there { IfOk result (λ found. found.0.index < length net.now.places) }
-    ensures back { IfOk result (λ found. found.1.index < length net.now.places) }
-{
-    let there = place_there(net)?;
-    let back = place_back(net)?;
-    Ok((there, back))
-}
-
 #[test]
 fn a_circuit_has_a_time_and_tokens(rt: HostRuntime) -> Result<(), Fail> {
     let alloc = rt.alloc();
     let mut net = read_net(alloc, LOOP)?;
-    let (there, back) = both_places(&net)?;
+    let there = net.find_place("ab").ok_or("no such place")?;
+    let back = net.find_place("ba").ok_or("no such place")?;
     let circuit = [there, back];
     assert!(rt; is_circuit(&net, &circuit));
     assert!(rt; time_of(&net, &circuit) == 5 && tokens_of(&net, &circuit) == 1);
     net.set_hold(there, 7);
     assert!(rt; time_of(&net, &circuit) == 9);
-    Ok(())
-}
-
-// The place that leads back is as the file has it.
-fn look_at_back(rt: &impl Abort, net: &Net) -> Result<(), Fail> {
-    let back = place_back(net)?;
-    assert!(rt; net.place(back).hold == 2);
     Ok(())
 }
 
@@ -71,9 +39,10 @@ fn read_nothing(rt: &impl Abort, alloc: Global) {
     assert!(rt; matches!(empty, Err(ReadRefusal::NoTransitions)));
 }
 
-// All this of the net.
+// The place that leads back is as the file has it, and so is the file that is written.
 fn look_at_file(rt: &impl Abort, alloc: Global, net: &Net) -> Result<(), Fail> {
-    look_at_back(rt, net)?;
+    let back = net.find_place("ba").ok_or("no such place")?;
+    assert!(rt; net.place(back).hold == 2);
     let file = write_net(alloc, &net)?;
     read_again(rt, alloc, file)?;
     read_nothing(rt, alloc);

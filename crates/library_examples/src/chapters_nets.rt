@@ -1,7 +1,7 @@
 //! Chapters of the page on the library: a net that is read, checked, asked for its pace, changed
 //! and asked again, and an answer that is checked. What a test asks of a net that it owns stands in
 //! functions to which it lends the net.
-use example_nets::held;
+use example_nets::ask_changed;
 use std::alloc::Global;
 use std::process::Abort;
 use std::test::Fail;
@@ -74,15 +74,10 @@ fn pace_when_slower(alloc: Global, held: &mut LiveNet) -> Result<Option<Ratio>, 
     Ok(best_ratio(&cycle_times(alloc, held)?))
 }
 
-// The pace of the net of the file where it is so slow.
-fn slower_pace(alloc: Global) -> Result<Option<Ratio>, Fail> {
-    let mut held = held(alloc, NET)?;
-    pace_when_slower(alloc, &mut held)
-}
-
 #[test]
 fn a_net_is_changed_and_asked_again(rt: HostRuntime) -> Result<(), Fail> {
-    assert!(rt; slower_pace(rt.alloc())? == Some(Ratio::of(5, 1)));
+    let pace = ask_changed(rt.alloc(), NET, pace_when_slower)?;
+    assert!(rt; pace == Some(Ratio::of(5, 1)));
     Ok(())
 }
 

@@ -5,7 +5,7 @@ ghost use Rattle.teg_due.specs.RowRules.{IsDueOf};
 use crate::told::so;
 use dioid::Date;
 use dispatch::Dispatcher;
-use example_nets::{due_rows, held, place_named, read, transition_named};
+use example_nets::{ask_held, due_rows, place_named, transition_named};
 use pace_pieces::{Piece, pace_by_hold};
 use run_laws::Fired;
 use std::alloc::Global;
@@ -13,8 +13,9 @@ use std::test::Fail;
 use teg_check::LiveNet;
 use teg_dates::first_dates;
 use teg_due::Due;
-use teg_net::{Net, Ratio, TransitionId};
+use teg_net::{Ratio, TransitionId};
 use teg_state::live_net_after;
+use token_shares::{Shares, fewest_tokens};
 use whatif::{BestCut, Cut, best_of, may_add_tokens, pace_with_tokens};
 
 /// A part comes in every 4 units, and a machine works 3 units on it.
@@ -44,9 +45,14 @@ fn left_at_8(alloc: Global, shop: &LiveNet) -> Result<LiveNet, Fail> {
     Ok(live_net_after(alloc, shop, &run, 8)?)
 }
 
-/// The shop as it is at 8.
-pub fn shop_at_8(alloc: Global) -> Result<LiveNet, Fail> {
-    left_at_8(alloc, &held(alloc, NET)?)
+/// What the question answers of the shop as it is at 8.
+pub fn ask_at_8<F>(alloc: Global, ask: F) -> Result<(), Fail>
+where
+    F: FnOnce(Global, &LiveNet) -> Result<(), Fail> + Drop,
+    requires { F.IsAlwaysCallable ask }
+{
+    let rest = ask_held(alloc, NET, left_at_8)?;
+    ask(alloc, &rest)
 }
 
 // The first dates from now on.
@@ -70,7 +76,7 @@ fn goes_on(alloc: Global, rest: &LiveNet) -> Result<(), Fail> {
 
 #[test]
 fn a_net_goes_on_from_now(rt: HostRuntime) -> Result<(), Fail> {
-    goes_on(rt.alloc(), &shop_at_8(rt.alloc())?)
+    ask_at_8(rt.alloc(), goes_on)
 }
 
 // Takes down what happened up to 8.
@@ -115,10 +121,10 @@ fn missed_at_8(alloc: Global, shop: &Dispatcher, due: &Due) -> Result<usize, Fai
 }
 
 // The shop before anything happened in it.
-fn open(alloc: Global, net: &Net) -> Result<Dispatcher, Fail>
-    ensures { IfOk result (λ shop. shop.net ≡ net.now) }
+fn open(alloc: Global, held: &LiveNet) -> Result<Dispatcher, Fail>
+    ensures { IfOk result (λ shop. shop.net ≡ held.now) }
 {
-    Ok(Dispatcher::new(alloc, LiveNet::new(alloc, net.copy(alloc)?)?)?)
+    Ok(Dispatcher::new(alloc, held.copy(alloc)?)?)
 }
 
 // That the dates of work, and how many due dates are missed, are told so at 8.
@@ -139,24 +145,28 @@ fn is_told_at_8(
 }
 
 // That the shop that this net is tells so, with these due dates.
-fn tells_at_8(alloc: Global, net: &Net, due: &Due) -> Result<(), Fail>
-    requires { IsDueOf net.now due.now.rows.items }
+fn tells_at_8(alloc: Global, held: &LiveNet, due: &Due) -> Result<(), Fail>
+    requires { IsDueOf held.now due.now.rows.items }
 {
-    let entry = transition_named(net, "in")?;
-    let work = transition_named(net, "work")?;
-    let mut shop = open(alloc, net)?;
+    let entry = transition_named(held.net(), "in")?;
+    let work = transition_named(held.net(), "work")?;
+    let mut shop = open(alloc, held)?;
     is_told_at_8(alloc, &mut shop, due, entry, work)
 }
 
 // The same with the due dates as their file has them.
-fn is_seen(alloc: Global, net: &Net) -> Result<(), Fail> {
-    let due = due_rows(alloc, net, b"work,1,2\nwork,2,9\nwork,3,11\nwork,4,14\n")?;
-    tells_at_8(alloc, net, &due)
+fn is_seen(alloc: Global, held: &LiveNet) -> Result<(), Fail> {
+    let due = due_rows(
+        alloc,
+        held.net(),
+        b"work,1,2\nwork,2,9\nwork,3,11\nwork,4,14\n",
+    )?;
+    tells_at_8(alloc, held, &due)
 }
 
 #[test]
 fn a_late_part_is_seen(rt: HostRuntime) -> Result<(), Fail> {
-    is_seen(rt.alloc(), &read(rt.alloc(), NET)?)
+    ask_held(rt.alloc(), NET, is_seen)
 }
 
 // Three steps, each pair of them with a card between.
@@ -220,11 +230,6 @@ fn is_tried(alloc: Global, held: &LiveNet) -> Result<(), Fail> {
     so(with_card(alloc, held)? == 2, "a card again")
 }
 
-#[test]
-fn a_change_is_tried(rt: HostRuntime) -> Result<(), Fail> {
-    is_tried(rt.alloc(), &held(rt.alloc(), CARDS)?)
-}
-
 // The pace as the work on c takes from nothing to 10 units.
 fn pace_of_work(alloc: Global, held: &LiveNet) -> Result<Vec<Piece>, Fail> {
     let work = place_named(held.net(), "bc")?;
@@ -251,6 +256,45 @@ fn has_pieces(alloc: Global, held: &LiveNet) -> Result<(), Fail> {
 }
 
 #[test]
-fn a_pace_has_pieces(rt: HostRuntime) -> Result<(), Fail> {
-    has_pieces(rt.alloc(), &held(rt.alloc(), CARDS)?)
+fn a_change_is_tried(rt: HostRuntime) -> Result<(), Fail> {
+    ask_held(rt.alloc(), CARDS, is_tried)?;
+    ask_held(rt.alloc(), CARDS, has_pieces)
+}
+
+// How many further cards from b to a and from c to b are enough for this time a token, of at most so
+// many in all.
+fn cards_for(alloc: Global, held: &LiveNet, time: u32, most: u32) -> Result<Shares, Fail>
+    requires { most ≤ 20 }
+{
+    let first = place_named(held.net(), "ba")?;
+    let second = place_named(held.net(), "cb")?;
+    let target = Ratio::of(u64::from(time), 1);
+    Ok(fewest_tokens(alloc, held, &[first, second], &target, most)?)
+}
+
+// Whether these numbers are told to be enough.
+fn are_cards(shares: &Shares, numbers: &[u32]) -> bool {
+    match shares {
+        Shares::Enough { extra } => extra.as_slice() == numbers,
+        _ => false,
+    }
+}
+
+// That a card each is enough for 4, that one is not, and that c alone takes more than 3.
+fn shares_are_told(alloc: Global, held: &LiveNet) -> Result<(), Fail> {
+    so(
+        are_cards(&cards_for(alloc, held, 4, 20)?, &[1, 1]),
+        "a card each",
+    )?;
+    so(
+        matches!(cards_for(alloc, held, 4, 1)?, Shares::More),
+        "two cards",
+    )?;
+    let never = cards_for(alloc, held, 3, 20)?;
+    so(matches!(never, Shares::Impossible { .. }), "c alone")
+}
+
+#[test]
+fn cards_are_shared(rt: HostRuntime) -> Result<(), Fail> {
+    shares_are_told(rt.alloc(), &held(rt.alloc(), CARDS)?)
 }

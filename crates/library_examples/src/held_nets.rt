@@ -2,7 +2,7 @@
 use crate::told::so;
 use dating_certificates::check_rows;
 use dioid::Date;
-use example_nets::{LOOP, held, place_named, read};
+use example_nets::{LOOP, ask_changed, ask_held, ask_net, held, place_named};
 use scheduler_loop::Scheduler;
 use std::alloc::Global;
 use std::test::Fail;
@@ -65,12 +65,6 @@ fn is_let_go(held: LiveNet) -> bool {
     held.into_net().place_count() == 2
 }
 
-#[test]
-fn tokens_are_changed_where_the_net_stays_live(rt: HostRuntime) -> Result<(), Fail> {
-    so(is_let_go(held(rt.alloc(), LOOP)?), "places of the net")?;
-    keeps_copy(rt.alloc(), &mut held(rt.alloc(), LOOP)?)
-}
-
 // Whether ranks are told to be right, and that nothing shows a deadlock.
 fn has_ranks(net: &Net) -> bool {
     is_ranking(net, &[0, 1])
@@ -85,11 +79,6 @@ fn are_checked(alloc: Global, net: &Net) -> Result<(), Fail> {
     so(has_ranks(net), "ranks")?;
     so(check_rows(alloc, net, &rows)?, "rows")?;
     so(!check_rows(alloc, net, &others)?, "other rows")
-}
-
-#[test]
-fn ranks_a_deadlock_and_rows_are_checked(rt: HostRuntime) -> Result<(), Fail> {
-    are_checked(rt.alloc(), &read(rt.alloc(), LOOP)?)
 }
 
 // Whether what was found shows that 2 more are enough, and one too few.
@@ -119,8 +108,12 @@ fn is_sized(alloc: Global, held: &LiveNet) -> Result<(), Fail> {
 }
 
 #[test]
-fn further_tokens_are_checked(rt: HostRuntime) -> Result<(), Fail> {
-    is_sized(rt.alloc(), &held(rt.alloc(), LOOP)?)
+fn a_net_is_changed_and_answers_are_checked(rt: HostRuntime) -> Result<(), Fail> {
+    let alloc = rt.alloc();
+    so(is_let_go(held(alloc, LOOP)?), "places of the net")?;
+    ask_changed(alloc, LOOP, keeps_copy)?;
+    ask_net(alloc, LOOP, are_checked)?;
+    ask_held(alloc, LOOP, is_sized)
 }
 
 // Whether the pace is so much.

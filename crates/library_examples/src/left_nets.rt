@@ -1,9 +1,9 @@
 //! A plan that is asked for in the middle of the work, and a run that leaves no net.
 ghost use Rattle.std.specs.Prelude.{◌<◌};
 
-use crate::chapters_states::{NET, fired, shop_at_8};
+use crate::chapters_states::{NET, ask_at_8, fired};
 use crate::told::so;
-use example_nets::{due_rows, read, transition_named};
+use example_nets::{ask_net, due_rows, transition_named};
 use std::alloc::Global;
 use std::test::Fail;
 use teg_check::LiveNet;
@@ -41,11 +41,7 @@ fn is_unpaid(alloc: Global, shop: &Net) -> Result<(), Fail> {
 }
 
 #[test]
-fn plans_go_on_from_now(rt: HostRuntime) -> Result<(), Fail> {
-    are_planned(rt.alloc(), &shop_at_8(rt.alloc())?)
-}
-
-#[test]
-fn a_run_too_early_leaves_no_net(rt: HostRuntime) -> Result<(), Fail> {
-    is_unpaid(rt.alloc(), &read(rt.alloc(), NET)?)
+fn plans_go_on_from_now_and_a_run_too_early_leaves_no_net(rt: HostRuntime) -> Result<(), Fail> {
+    ask_at_8(rt.alloc(), are_planned)?;
+    ask_net(rt.alloc(), NET, is_unpaid)
 }

@@ -1,7 +1,8 @@
 //! Examples of the crates as libraries: the chapters of docs/LIBRARY.md, the calls that heads of
 //! crates show, nets that are held, made from lists and changed, matrices through their bounds and
-//! at their limits, and texts with what they show. The crate has tests alone: they show what no
-//! contract says, that memory is found.
+//! at their limits, texts with what they show, and what a program asks before it calls: the numbers
+//! of a net in order, conditions of calls, and of how many transitions or places a value tells. The
+//! crate has tests alone: they show what no contract says, that memory is found.
 #![tactic(auto)]
 
 #[cfg(test)]
@@ -21,6 +22,8 @@ mod chapters_series;
 #[cfg(test)]
 mod chapters_states;
 #[cfg(test)]
+mod conditions;
+#[cfg(test)]
 mod held_nets;
 #[cfg(test)]
 mod left_nets;
@@ -32,6 +35,8 @@ mod logged_plants;
 mod made_nets;
 #[cfg(test)]
 mod matrices;
+#[cfg(test)]
+mod numbers;
 #[cfg(test)]
 mod one_refusal;
 #[cfg(test)]
@@ -46,5 +51,7 @@ mod texts;
 mod told;
 #[cfg(test)]
 mod usage;
+#[cfg(test)]
+mod widths;
 #[cfg(test)]
 mod words;

@@ -1,7 +1,7 @@
 //! The texts of cycle times and of a circuit without tokens, written on `teg_lines` without the
 //! other crates of answers.
 use crate::told::so;
-use example_nets::{LOOP, held, read};
+use example_nets::{LOOP, ask_held, read};
 use std::alloc::Global;
 use std::test::Fail;
 use teg_certificates::check_cycle;
@@ -52,6 +52,11 @@ fn has_cycle_times(alloc: Global, held: &LiveNet) -> Result<bool, OutOfMemory> {
     Ok(text.starts_with(b"cycle time 5/1\ncircuit ab ba\n"))
 }
 
+// That it does.
+fn tells_cycle_times(alloc: Global, held: &LiveNet) -> Result<(), Fail> {
+    so(has_cycle_times(alloc, held)?, "cycle times")
+}
+
 // Whether a net is not held, for which the text is this.
 fn is_refused(alloc: Global, net: Net) -> Result<bool, OutOfMemory> {
     match LiveNet::new(alloc, net) {
@@ -70,6 +75,5 @@ fn cycle_times_and_a_circuit_without_tokens_are_told(rt: HostRuntime) -> Result<
         is_refused(alloc, read(alloc, STUCK)?)?,
         "a circuit without tokens",
     )?;
-    let has_cycle_times = has_cycle_times(alloc, &held(alloc, LOOP)?);
-    so(has_cycle_times?, "cycle times")
+    ask_held(alloc, LOOP, tells_cycle_times)
 }

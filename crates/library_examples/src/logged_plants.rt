@@ -1,10 +1,13 @@
 //! The log of a machine, asked in the middle of its work.
+ghost use Rattle.teg_due.specs.RowRules.{IsDueOf};
+
 use crate::told::so;
 use dioid::Date;
 use dispatcher::{Outlook, Plant};
 use example_nets::{due_rows, held, place_named, transition_named};
 use std::alloc::Global;
 use std::test::Fail;
+use teg_due::Due;
 
 const NET: &[u8] = b"transition = [{name = 'in', role = 'input'}, {name = 'work'}]
 place = [
@@ -36,20 +39,25 @@ fn next_date(alloc: Global, outlook: &Outlook) -> Result<Date, Fail> {
     Ok(outlook.first_dates(alloc, 2)?.date(work, 1))
 }
 
-// How many firings from now on are planned where its second one is due at 20.
-fn planned(alloc: Global, outlook: &Outlook) -> Result<u32, Fail> {
-    let due = due_rows(alloc, outlook.net(), b"work,2,20\n")?;
-    let plan = outlook.latest_inputs(alloc, &due);
-    Ok(plan?.numbers())
+// How many firings from now on are planned for these due dates.
+fn planned_for(alloc: Global, outlook: &Outlook, due: &Due) -> Result<u32, Fail>
+    requires { IsDueOf outlook.now due.now.rows.items }
+{
+    Ok(outlook.latest_inputs(alloc, due)?.numbers())
 }
 
-// How many firings from now on are planned for due dates that count from the plant's beginning.
+// The same where its second one is due at 20.
+fn planned(alloc: Global, outlook: &Outlook) -> Result<u32, Fail> {
+    let due = due_rows(alloc, outlook.net(), b"work,2,20\n")?;
+    planned_for(alloc, outlook, &due)
+}
+
+// The same for due dates that count from the plant's beginning.
 fn still_planned(alloc: Global, plant: &Plant) -> Result<u32, Fail> {
     let due = due_rows(alloc, plant.net(), b"work,1,2\nwork,3,20\n")?;
     let outlook = plant.from_now_on(alloc, 8)?;
     let left = plant.due_left(alloc, &outlook, &due)?;
-    let plan = outlook.latest_inputs(alloc, &left);
-    Ok(plan?.numbers())
+    planned_for(alloc, &outlook, &left)
 }
 
 // That it next works at 9, two firings are planned, and all goes on in a period of 1.
@@ -59,18 +67,12 @@ fn goes_on(alloc: Global, outlook: &Outlook) -> Result<(), Fail> {
     so(outlook.settle(alloc)?.period() == 1, "a period of 1")
 }
 
-// That the log tells what stands where, and what is left at 8.
+// That the log tells what stands where, and what is left at 8, for which due rows are numbered anew.
 fn is_asked(alloc: Global, plant: &Plant) -> Result<(), Fail> {
     so(told(plant)? == (1, Some(1), 1), "what stands where")?;
+    so(still_planned(alloc, plant)? == 2, "due rows by new numbers")?;
     let outlook = plant.from_now_on(alloc, 8)?;
     goes_on(alloc, &outlook)
-}
-
-#[test]
-fn due_rows_are_numbered_anew(rt: HostRuntime) -> Result<(), Fail> {
-    let numbers = still_planned(rt.alloc(), &plant(rt.alloc())?);
-    assert!(rt; numbers? == 2);
-    Ok(())
 }
 
 #[test]

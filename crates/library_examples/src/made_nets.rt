@@ -24,26 +24,29 @@ fn net_of(alloc: Global, ends: &[(&str, u32, u32)]) -> Result<Net, Fail> {
     Ok(Net::checked(transitions(alloc)?, places, Vec::new(alloc))?)
 }
 
+// What the question answers of that net, which it may change.
+fn ask_made<F>(alloc: Global, ends: &[(&str, u32, u32)], ask: F) -> Result<bool, Fail>
+where
+    F: FnOnce(Global, &mut Net) -> Result<bool, Fail> + Drop,
+    requires { F.IsAlwaysCallable ask }
+{
+    let mut net = net_of(alloc, ends)?;
+    ask(alloc, &mut net)
+}
+
 // Whether the lists of an input and a machine with a place of its own are those of a net.
 fn are_lists_of_a_net(alloc: Global) -> Result<bool, Fail> {
     let places = places_of(alloc, &[("busy", 1, 1)])?;
     Ok(is_net(&transitions(alloc)?, &places, &[]))
 }
 
-// The name of the first transition of a net, a ratio, and how many places it has, as they are
-// written.
-fn written(alloc: Global, net: &Net) -> Result<String, Fail> {
+// Whether the name of the first transition of a net, a ratio, and how many places it has are
+// written so.
+fn is_written(alloc: Global, net: &mut Net) -> Result<bool, Fail> {
     let first = net.transitions().first().ok_or("no transition")?;
     let places = net.places().len();
-    Ok(format!(in alloc; "{} {} {places}", first.name, Ratio::of(6, 4))?)
-}
-
-#[test]
-fn lists_become_a_net(rt: HostRuntime) -> Result<(), Fail> {
-    assert!(rt; are_lists_of_a_net(rt.alloc())?);
-    let line = written(rt.alloc(), &net_of(rt.alloc(), &[("busy", 1, 1)])?);
-    assert!(rt; line?.as_str() == "in 3/2 1");
-    Ok(())
+    let line = format!(in alloc; "{} {} {places}", first.name, Ratio::of(6, 4))?;
+    Ok(line.as_str() == "in 3/2 1")
 }
 
 // The fault of a place from the input to the transition of this number, beside an input and a
@@ -61,17 +64,6 @@ fn fault_of_list(alloc: Global, transition: u32) -> Result<Option<InputFault>, F
         again: None,
     };
     Ok(input_fault(&transitions(alloc)?, &list))
-}
-
-#[test]
-fn entries_are_tested_alone(rt: HostRuntime) -> Result<(), Fail> {
-    let alloc = rt.alloc();
-    assert!(rt; fault_of_place(alloc, 1)?.is_none());
-    assert!(rt; fault_of_place(alloc, 2)? == Some(PlaceFault::UnknownTo));
-    assert!(rt; fault_of_place(alloc, 0)? == Some(PlaceFault::EntersInput));
-    assert!(rt; fault_of_list(alloc, 0)?.is_none());
-    assert!(rt; fault_of_list(alloc, 1)? == Some(InputFault::NoInput));
-    Ok(())
 }
 
 // Whether two places are equal that have these ends.
@@ -94,14 +86,6 @@ fn are_compared(alloc: Global) -> Result<bool, Fail> {
     Ok(are_apart(&own) && own == transitions(alloc)?)
 }
 
-#[test]
-fn entries_are_compared(rt: HostRuntime) -> Result<(), Fail> {
-    let alloc = rt.alloc();
-    assert!(rt; are_same(alloc, 1, 1)? && !are_same(alloc, 1, 2)?);
-    assert!(rt; are_compared(alloc)?);
-    Ok(())
-}
-
 // Whether the net is equal to a copy of it, and no longer where its place takes longer.
 fn is_compared(alloc: Global, net: &mut Net) -> Result<bool, Fail> {
     let (copy, busy) = (net.copy(alloc)?, PlaceId::new(0));
@@ -112,22 +96,9 @@ fn is_compared(alloc: Global, net: &mut Net) -> Result<bool, Fail> {
     Ok(is_same && *net != copy)
 }
 
-#[test]
-fn nets_are_compared(rt: HostRuntime) -> Result<(), Fail> {
-    let is_compared = is_compared(rt.alloc(), &mut net_of(rt.alloc(), &[("busy", 1, 1)])?);
-    assert!(rt; is_compared?);
-    Ok(())
-}
-
 // Whether ratios come in the order of their values.
 fn come_in_order(lesser: Ratio, greater: Ratio) -> bool {
     lesser < greater && greater >= lesser && lesser.max(greater) == greater
-}
-
-#[test]
-fn ratios_come_in_order(rt: HostRuntime) {
-    assert!(rt; come_in_order(Ratio::of(7, 3), Ratio::of(5, 2)));
-    assert!(rt; !come_in_order(Ratio::of(4, 2), Ratio::of(2, 1)));
 }
 
 // The circuit of the places of these numbers.
@@ -159,8 +130,17 @@ fn are_same_walks(alloc: Global, one: u32, other: u32) -> Result<bool, Fail> {
 }
 
 #[test]
-fn circuits_and_walks_are_compared(rt: HostRuntime) -> Result<(), Fail> {
+fn entries_are_tested_and_compared(rt: HostRuntime) -> Result<(), Fail> {
     let alloc = rt.alloc();
+    assert!(rt; fault_of_place(alloc, 1)?.is_none());
+    assert!(rt; fault_of_place(alloc, 2)? == Some(PlaceFault::UnknownTo));
+    assert!(rt; fault_of_place(alloc, 0)? == Some(PlaceFault::EntersInput));
+    assert!(rt; fault_of_list(alloc, 0)?.is_none());
+    assert!(rt; fault_of_list(alloc, 1)? == Some(InputFault::NoInput));
+    assert!(rt; are_same(alloc, 1, 1)? && !are_same(alloc, 1, 2)?);
+    assert!(rt; are_compared(alloc)?);
+    assert!(rt; come_in_order(Ratio::of(7, 3), Ratio::of(5, 2)));
+    assert!(rt; !come_in_order(Ratio::of(4, 2), Ratio::of(2, 1)));
     assert!(rt; are_same_circuits(alloc, &[0, 1], &[0, 1])?);
     assert!(rt; !are_same_circuits(alloc, &[0, 1], &[1, 0])?);
     assert!(rt; are_same_walks(alloc, 0, 0)? && !are_same_walks(alloc, 0, 1)?);
@@ -209,14 +189,6 @@ fn is_looked_up(alloc: Global, net: &mut Net) -> Result<bool, Fail> {
             && has_counts(alloc, net, PlaceEnd::From, &[2, 1])?
             && has_counts(alloc, net, PlaceEnd::To, &[0, 3])?,
     )
-}
-
-#[test]
-fn names_and_ends_are_looked_up(rt: HostRuntime) -> Result<(), Fail> {
-    let ends = [("belt", 0, 1), ("busy", 1, 1), ("side", 0, 1)];
-    let is_right = is_looked_up(rt.alloc(), &mut net_of(rt.alloc(), &ends)?);
-    assert!(rt; is_right?);
-    Ok(())
 }
 
 // A row of this transition, number and date.
@@ -286,13 +258,18 @@ fn are_logged(net: &Net) -> bool {
 }
 
 // Whether all rows are.
-fn are_told(alloc: Global, net: &Net) -> Result<bool, Fail> {
+fn are_told(alloc: Global, net: &mut Net) -> Result<bool, Fail> {
     Ok(are_due(alloc, net)? && are_logged(net))
 }
 
 #[test]
-fn rows_of_a_program_are_tested(rt: HostRuntime) -> Result<(), Fail> {
-    let are_told = are_told(rt.alloc(), &net_of(rt.alloc(), &[])?);
-    assert!(rt; are_told?);
+fn nets_of_lists_are_asked(rt: HostRuntime) -> Result<(), Fail> {
+    let alloc = rt.alloc();
+    assert!(rt; are_lists_of_a_net(alloc)?);
+    assert!(rt; ask_made(alloc, &[("busy", 1, 1)], is_written)?);
+    assert!(rt; ask_made(alloc, &[("busy", 1, 1)], is_compared)?);
+    let ends = [("belt", 0, 1), ("busy", 1, 1), ("side", 0, 1)];
+    assert!(rt; ask_made(alloc, &ends, is_looked_up)?);
+    assert!(rt; ask_made(alloc, &[], are_told)?);
     Ok(())
 }

@@ -91,11 +91,6 @@ fn a_program_has_one_refusal(rt: HostRuntime) {
     assert!(rt; is(logged(alloc, NET, b"in,0\nwork,2\n"), 2));
     let line = "log row 1 is not a firing";
     assert!(rt; says(alloc, logged(alloc, NET, b"work\n"), line));
-}
-
-#[test]
-fn a_builder_refuses_by_it(rt: HostRuntime) {
-    let alloc = rt.alloc();
     assert!(rt; is(second(alloc, "work"), 1));
     assert!(rt; says(alloc, second(alloc, "no name"), "the text is no name"));
     let line = "transition 1 has the name of an earlier one";

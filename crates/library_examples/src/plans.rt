@@ -1,6 +1,6 @@
 //! Latest inputs by the call for those who have the standard form.
 use crate::told::so;
-use example_nets::{LOOP, due_rows, held, transition_named};
+use example_nets::{LOOP, ask_held, due_rows, transition_named};
 use std::alloc::Global;
 use std::test::Fail;
 use teg_check::LiveNet;
@@ -27,6 +27,6 @@ fn latest_inputs_with_the_form(rt: HostRuntime) -> Result<(), Fail> {
         date: 12,
         onward: Onward::By(PlaceId { index: 0 }),
     };
-    let told = first_of_a(rt.alloc(), &held(rt.alloc(), LOOP)?)?;
+    let told = ask_held(rt.alloc(), LOOP, first_of_a)?;
     so(told == first, "the latest date of a")
 }

@@ -1,7 +1,7 @@
 //! The head of a list and a row, and two texts at once.
 use crate::told::so;
 use dioid::Date;
-use example_nets::{LOOP, read};
+use example_nets::{LOOP, ask_net};
 use std::alloc::Global;
 use std::test::Fail;
 use teg_net::{Net, OutOfMemory};
@@ -41,5 +41,5 @@ fn tell_texts(alloc: Global, net: &Net) -> Result<(), Fail> {
 
 #[test]
 fn texts_are_told(rt: HostRuntime) -> Result<(), Fail> {
-    tell_texts(rt.alloc(), &read(rt.alloc(), LOOP)?)
+    ask_net(rt.alloc(), LOOP, tell_texts)
 }

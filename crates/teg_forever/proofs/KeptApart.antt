@@ -18,7 +18,7 @@ use Rattle.forever_laws.specs.Late.{NoneLateTo, NoneLate}
 use Rattle.teg_net.specs.Nets.{NetLists}
 use Rattle.teg_forever.specs.declared.leads.Class.{Class}
 use Rattle.teg_forever.specs.declared.settled_row.Cycle.{Cycle}
-use Rattle.teg_forever.specs.LateFirings.{AreDatesUnder, AreDuesOver, GoesOnBySteps, IsClassOf, IsClimbing, NoneLateInClass, NoneLatePast, RisesIn, member}
+use Rattle.teg_forever.specs.LateFirings.{AreApartAfter, AreDatesUnder, AreDuesOver, GoesOnBySteps, IsClassOf, IsClimbing, NoneLateInClass, NoneLatePast, RisesIn, member}
 use Rattle.teg_forever.proofs.Cycles.{rises_times}
 
 -- ---- numbers
@@ -26,13 +26,14 @@ use Rattle.teg_forever.proofs.Cycles.{rises_times}
 pub distributes : (a b c : ℕ) → a * (b + c) ≡ a * b + a * c
 distributes a b c = grind arith
 
--- a number below a line is no greater than one above another, which begins no lower and rises no slower
-pub keep_apart : (firings rise every gap under over date due m i q j p : ℕ) → 1 ≤ firings → 1 ≤ every
+-- a number below a line is no greater than one above another, which is no lower after so many places and rises no slower
+pub keep_apart : (firings rise every gap under over places date due m i q j p : ℕ) → 1 ≤ firings → 1 ≤ every → places ≤ m
     → m ≡ q * firings + i → m ≡ p * every + j
     → firings * date + rise * firings ≤ under + rise * i → over + gap * j ≤ every * due + gap * every
-    → every * under + firings * (gap * every) ≤ firings * over + rise * firings * every → rise * every ≤ firings * gap
+    → every * under + firings * (gap * every) + places * (rise * every) ≤ firings * over + rise * firings * every + places * (firings * gap)
+    → rise * every ≤ firings * gap
     → date + q * rise ≤ due + p * gap
-keep_apart firings rise every gap under over date due m i q j p one two first second low high start slope =
+keep_apart firings rise every gap under over places date due m i q j p one two far first second low high start slope =
     let z : ℕ = date + q * rise in
     let d : ℕ = due + p * gap in
     let up : rise * m ≡ rise * (q * firings) + rise * i = ap (λ (n : ℕ). rise * n) first ∙ distributes rise (q * firings) i in
@@ -47,19 +48,32 @@ keep_apart firings rise every gap under over date due m i q j p one two first se
     let open_below : every * (firings * z + rise * firings) ≡ every * (firings * z) + rise * firings * every = grind arith in
     let open_left : every * (under + rise * m) ≡ every * under + rise * every * m = grind arith in
     let open_right : firings * (over + gap * m) ≡ firings * over + firings * gap * m = grind arith in
-    let slopes : m * (rise * every) ≤ m * (firings * gap) = mul-le-mul_left {m = rise * every} {n = firings * gap} m slope in
-    let turned : m * (rise * every) ≡ rise * every * m = grind arith in
-    let turned' : m * (firings * gap) ≡ firings * gap * m = grind arith in
+    let more : ℕ = m - places in
+    let whole : m ≡ places + more = omega (arith, far) in
+    let slopes : more * (rise * every) ≤ more * (firings * gap) = mul-le-mul_left {m = rise * every} {n = firings * gap} more slope in
+    let turned : rise * every * m ≡ places * (rise * every) + more * (rise * every) = grind arith in
+    let turned' : firings * gap * m ≡ places * (firings * gap) + more * (firings * gap) = grind arith in
     let both : every * (firings * z) ≤ firings * (every * d) = omega arith in
     ⊎_elim
     (λ (late : d < z).
     let some : 1 ≤ every * firings = omega (arith, mul-le 1 1 every firings two one) in
-    let more : (every * firings) * (d + 1) ≤ (every * firings) * z = mul-le-mul_left {m = d + 1} {n = z} (every * firings) (omega (arith, late)) in
+    let next : (every * firings) * (d + 1) ≤ (every * firings) * z = mul-le-mul_left {m = d + 1} {n = z} (every * firings) (omega (arith, late)) in
     let same : (every * firings) * z ≡ every * (firings * z) = grind arith in
     let same' : (every * firings) * (d + 1) ≡ firings * (every * d) + every * firings = grind arith in
     absurd (omega arith))
     (λ (not_late : z ≤ d). not_late)
     (cases_lt d z)
+
+-- lines are apart after so many places as make up for what is missing by what is gained
+pub apart_after : (r : EndlessRow) (cycle : Cycle) (under over dates dues places : ℕ) → dates ≡ r.every * under + cycle.firings * (r.gap * r.every)
+    → dues ≡ cycle.firings * over + cycle.rise * cycle.firings * r.every → cycle.rise * r.every ≤ cycle.firings * r.gap
+    → dates - dues ≤ places * (cycle.firings * r.gap - cycle.rise * r.every) → AreApartAfter r cycle under over places
+apart_after r cycle under over dates dues places first second slope enough =
+    let steep : ℕ = cycle.rise * r.every in
+    let fast : ℕ = cycle.firings * r.gap in
+    let whole : fast ≡ steep + (fast - steep) = omega (arith, slope) in
+    let parts : places * fast ≡ places * steep + places * (fast - steep) = ap (λ (n : ℕ). places * n) whole ∙ distributes places steep (fast - steep) in
+    record { start = omega (arith, first, second, enough, parts); slope = slope }
 
 -- a place among those of a period, by the class of the number whose place it is
 pub member_of : (class : Class) (m period : ℕ) → 1 ≤ period → class.rest < class.divisor → class.divisor ∣ period → m % class.divisor ≡ class.rest
@@ -120,12 +134,11 @@ due_times net r ok (suc n) k l =
 -- ---- both
 
 pub none_past : (net : NetLists) (r : EndlessRow) → IsEndlessRow net r → (f : SettledForm) → IsClimbing f r.transition.index → GoesOnBySteps f r.transition.index
-    → (past : ℕ) (cycle : Cycle) (class : Class) (under over : ℕ) → f.after ≤ past → length r.dates ≤ past + r.every → 1 ≤ cycle.firings
+    → (past : ℕ) (cycle : Cycle) (class : Class) (under over places : ℕ) → f.after ≤ past → length r.dates ≤ past + r.every → 1 ≤ cycle.firings
     → RisesIn f r.transition.index cycle.firings cycle.rise → IsClassOf cycle.firings r.every class
     → AreDatesUnder f r.transition.index past cycle class under → AreDuesOver r past class over
-    → r.every * under + cycle.firings * (r.gap * r.every) ≤ cycle.firings * over + cycle.rise * cycle.firings * r.every → cycle.rise * r.every ≤ cycle.firings * r.gap
-    → NoneLateInClass (settled_date f) r past class
-none_past net r ok f climbing steps past cycle class under over after listed one rises split low high start slope k due least far rest late =
+    → AreApartAfter r cycle under over places → NoneLateInClass (settled_date f) r past places class
+none_past net r ok f climbing steps past cycle class under over places after listed one rises split low high lines k due least far rest late =
     let t : ℕ = r.transition.index in
     let firings : ℕ = cycle.firings in
     let rise : ℕ = cycle.rise in
@@ -156,15 +169,20 @@ none_past net r ok f climbing steps past cycle class under over after listed one
     let again = due_times net r ok p (past + 1 + j) (omega arith) in
     let due_here : due ≡ due_number r k = due_only r k due late.is_due in
     let due_there : due_number r ((past + 1 + j) + p * r.every) ≡ due_number r k = ap (due_number r) by_turns in
-    let apart = keep_apart firings rise r.every r.gap under over date first m i q j p one every_one by_first by_second
-    (low (m % firings / class.divisor) date in_cycle.0 here.1) (high (m % r.every / class.divisor) first in_turn.0 (due_is r (past + 1 + j))) start slope in
+    let apart = keep_apart firings rise r.every r.gap under over places date first m i q j p one every_one (omega (arith, far)) by_first by_second
+    (low (m % firings / class.divisor) date in_cycle.0 here.1) (high (m % r.every / class.divisor) first in_turn.0 (due_is r (past + 1 + j))) lines.start lines.slope in
     let too_late = late.late in
     omega arith
 
--- where none of any class is late, none is
-pub none_of_classes : (x : ℕ → ℕ → Date) (r : EndlessRow) (past divisor : ℕ) → 0 < divisor
-    → ((rest : ℕ) → rest < divisor → NoneLateInClass x r past (record { divisor = divisor; rest = rest })) → NoneLatePast x r past
-none_of_classes x r past divisor some each k due least far late = each ((k - past - 1) % divisor) (mod_below (k - past - 1) divisor some) k due least far refl late
+-- where none of any class is late after so many places, none is
+pub none_of_classes : (x : ℕ → ℕ → Date) (r : EndlessRow) (past places divisor : ℕ) → 0 < divisor
+    → ((rest : ℕ) → rest < divisor → NoneLateInClass x r past places (record { divisor = divisor; rest = rest })) → NoneLatePast x r (past + places)
+none_of_classes x r past places divisor some each k due least far late = each ((k - past - 1) % divisor) (mod_below (k - past - 1) divisor some) k due least far refl late
+
+-- nor after more places
+pub none_after_more : (x : ℕ → ℕ → Date) (r : EndlessRow) (past places more : ℕ) (class : Class) → places ≤ more → NoneLateInClass x r past places class
+    → NoneLateInClass x r past more class
+none_after_more x r past places more class no_less none k due least far = none k due least (omega (arith, far, no_less))
 
 -- none late up to a number and none past it
 pub none_both : (x : ℕ → ℕ → Date) (r : EndlessRow) (past : ℕ) → NoneLateTo x r past → NoneLatePast x r past → NoneLate x r

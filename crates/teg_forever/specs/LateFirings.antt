@@ -117,9 +117,9 @@ pub record IsClassOf (firings every : ℕ) (class : Class) : Type 0 where
   pub of_cycle : class.divisor ∣ firings
   pub of_turn : class.divisor ∣ every
 
--- no number past this one is late whose place is of the class
-abbrev pub NoneLateInClass : (ℕ → ℕ → Date) → EndlessRow → ℕ → Class → Type 0
-NoneLateInClass x r past class = (k due least : ℕ) → past < k → (k - past - 1) % class.divisor ≡ class.rest → IsLateAt x r k due least → ⊥
+-- no number so many places past this one, or further, is late whose place is of the class
+abbrev pub NoneLateInClass : (ℕ → ℕ → Date) → EndlessRow → ℕ → ℕ → Class → Type 0
+NoneLateInClass x r past places class = (k due least : ℕ) → past + places < k → (k - past - 1) % class.divisor ≡ class.rest → IsLateAt x r k due least → ⊥
 
 -- times the firings of a cycle no date of its places of the class past this number is above a line that rises as the cycle does, from
 -- `start` on less the rise for each of its firings
@@ -132,6 +132,12 @@ AreDatesUnder f t past cycle class start =
 abbrev pub AreDuesOver : EndlessRow → ℕ → Class → ℕ → Type 0
 AreDuesOver r past class start =
     (j d : ℕ) → j < r.every / class.divisor → row_due r (past + 1 + member class j) ≡ Some d → start + r.gap * member class j ≤ r.every * d + r.gap * r.every
+
+-- times both periods: after so many places the line under the dates is no higher than that over the due dates, and it rises no faster
+pub record AreApartAfter (r : EndlessRow) (cycle : Cycle) (under over places : ℕ) : Type 0 where
+  pub start : r.every * under + cycle.firings * (r.gap * r.every) + places * (cycle.rise * r.every)
+      ≤ cycle.firings * over + cycle.rise * cycle.firings * r.every + places * (cycle.firings * r.gap)
+  pub slope : cycle.rise * r.every ≤ cycle.firings * r.gap
 
 -- the longest cycle whose dates are held against due dates by lines
 abbrev pub most_cycle : ℕ

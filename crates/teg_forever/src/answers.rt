@@ -110,25 +110,26 @@ fn keep_dues(alloc: Global, due: &DueRows<'_>) -> Result<(), ForeverRefusal>
 /// net's dates. Else the least dating with all inputs at 0 is settled within 20,000 numbers, if its
 /// form is so short: for a settling length l this takes rows of order l, each in time of order `n +
 /// p`, and each due row is held against it: by two lines for each class of numbers, in time of
-/// order `l + e` for a row that goes on after e firings; only where these cross, as far as the
-/// dates of its transition take to repeat with it, at most in time of order `1,000 l + 10,000`; the
-/// divisors of the net's period are tried for the period of the transition's own, each mostly for a
-/// few numbers. Where it is longer, as for rates that nearly agree, the rows of the net are gone
-/// through once more, without keeping them, for all due rows together: up to the greatest `d + e n
-/// m + m`, for a list of d dates that goes on after e, and places of at most m tokens; past a late
-/// row no further than those before it ask. They tell all, where one of the firings is late or no
-/// circuit that leads to the due transition gains on the row, which is found in time of order `n p`
-/// for each; only where they do not, or would be more than some seconds take, the form is looked
-/// for without a limit, with eight bytes a date. Then for each input the walk times are settled
-/// likewise; for a settling length k each due row takes a residual of at most 20,000 values, each
-/// in time of order k, less the numbers at which no walk arrives yet. Rows that ask the same dates
-/// take one residual for all inputs that reach their transitions alike, as long as the series that
-/// are kept for that have fewer than three million values, which take some 100 MB; then a row takes
-/// time of the order of its series. An input whose places have the ends and the tokens of those of
-/// an input before it, in any order, and are all held longer by one difference, or shorter, or as
-/// long, takes no more than that one's release with each date moved, in time of order k, as long as
-/// its numbers fit; inputs are compared for that in time of order `p^2` at most for all of them,
-/// mostly of order `i p` for i inputs.
+/// order `l + e` for a row that goes on after e firings; where these cross, as far as due dates
+/// that rise faster take to catch up; else as far as the dates of its transition take to repeat
+/// with it, at most in time of order `1,000 l + 10,000`; the divisors of the net's period are tried
+/// for the period of the transition's own, each mostly for a few numbers. Where it is longer, as
+/// for rates that nearly agree, the rows of the net are gone through once more, without keeping
+/// them, for all due rows together: up to the greatest `d + e n m + m`, for a list of d dates that
+/// goes on after e, and places of at most m tokens; past a late row no further than those before it
+/// ask. They tell all, where one of the firings is late or no circuit that leads to the due
+/// transition gains on the row, which is found in time of order `n p` for each; only where they do
+/// not, or would be more than some seconds take, the form is looked for without a limit, with eight
+/// bytes a date. Then for each input the walk times are settled likewise; for a settling length k
+/// each due row takes a residual of at most 20,000 values, each in time of order k, less the
+/// numbers at which no walk arrives yet. Rows that ask the same dates take one residual for all
+/// inputs that reach their transitions alike, as long as the series that are kept for that have
+/// fewer than three million values, which take some 100 MB; then a row takes time of the order of
+/// its series. An input whose places have the ends and the tokens of those of an input before it,
+/// in any order, and are all held longer by one difference, or shorter, or as long, takes no more
+/// than that one's release with each date moved, in time of order k, as long as its numbers fit;
+/// inputs are compared for that in time of order `p^2` at most for all of them, mostly of order `i
+/// p` for i inputs.
 pub fn forever(
     alloc: Global,
     net: &Net,

@@ -5,10 +5,11 @@ ghost use Rattle.teg_forever.specs.LateFirings.{IsGoingRow};
 ghost use Rattle.teg_forever.specs.Divisions.{AreAlike, AreDivisions, AreFirstsTo, IsAlikeAt, IsKeptIn, IsMisfit, IsDividedAt, StandsAt};
 
 use crate::gains::due_gain;
-use dioid::{Dioid, Refused, Residuated};
+use dioid::{Dioid, Refused};
 use endless_due::EndlessRow;
 use series_ops::Gain;
 use std::alloc::{AllocError, Global};
+use steady_series::left;
 
 // The values of series that are kept, at most: 96 MB, and one pair more.
 const MOST_KEPT: usize = 3_000_000;
@@ -157,7 +158,7 @@ impl Divisions {
             Ok(asked) => asked,
             Err(_) => return Err(Refused::OutOfMemory),
         };
-        match walk.left(alloc, &asked) {
+        match left(alloc, &walk, &asked) {
             Ok(residual) => self.keep(Divided {
                 due,
                 walk,

@@ -230,8 +230,8 @@ pub(crate) fn late_in_row(row: &SettledRow<'_>) -> Result<Option<LateFiring>, Ou
     row.settled();
     let cycle = own_cycle(row);
     let past = past_of(row);
-    if none_late_past(row, past, cycle) {
-        return Ok(late_listed(row, past));
+    if let Some(last) = none_late_past(row, past, cycle) {
+        return Ok(late_listed(row, last));
     }
     let turn = turn_of(row, cycle);
     let last = turn.past + turn.firings;

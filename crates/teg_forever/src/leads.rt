@@ -1,19 +1,21 @@
-//! Whether no date comes after it is due, past a number from which dates and due dates repeat, each
-//! after its own firings: by one look at each of them, and not along their common period.
+//! From which number on no date comes after it is due, past a number from which dates and due dates
+//! repeat, each after its own firings: by one look at each of them, and not along their common
+//! period.
 //!
 //! The dates of a cycle lie under a line that rises as they do in the long run, and the due dates
 //! of one turn lie over a line that rises as those do. Where the first line begins no higher than
-//! the second, and rises no faster, no date is late. Lines are drawn for each class of numbers: those
-//! of one rest by the greatest common divisor of the two periods, since a date of one class is never
+//! the second, and rises no faster, no date is late; where it begins higher and rises more slowly,
+//! none is late from where the lines cross on. Lines are drawn for each class of numbers: those of
+//! one rest by the greatest common divisor of the two periods, since a date of one class is never
 //! due by a due date of another. Within a class each date meets each due date, so where both rise
-//! alike the lines tell it just so; else they may cross though none is late.
+//! alike and the first line begins higher one of them is late.
 ghost use Rattle.std.specs.Prelude.{◌≡◌, ◌≤◌, ◌<◌, ◌+◌, ◌*◌, ◌/◌, IfSome, IsTrue};
 ghost use Rattle.std.specs.Int.{◌∣◌, IsGcd};
-ghost use Rattle.teg_net.specs.Limits.{greatest_every, greatest_input_date, most_rows};
+ghost use Rattle.teg_net.specs.Limits.{greatest_every, greatest_firing_number, greatest_input_date, most_rows};
 ghost use Rattle.forever_laws.specs.teg_model.DateBounds.{greatest_least_date};
 ghost use Rattle.endless_due.specs.EndlessRows.{most_endless_dates};
 ghost use Rattle.forever_laws.specs.settled_laws.SettledForms.{settled_date};
-ghost use Rattle.teg_forever.specs.LateFirings.{AreDatesUnder, AreDuesOver, IsClassOf, IsCycleOf, IsGoingRow, NoneLateInClass, NoneLatePast, GoesOnPast, greatest_row_number, member, most_cycle};
+ghost use Rattle.teg_forever.specs.LateFirings.{AreApartAfter, AreDatesUnder, AreDuesOver, IsClassOf, IsCycleOf, IsGoingRow, NoneLateInClass, NoneLatePast, GoesOnPast, greatest_row_number, member, most_cycle};
 
 use crate::dues::due_at;
 use crate::settled_row::{Cycle, SettledRow};
@@ -124,56 +126,78 @@ fn scaled(times: u128, height: u128, more: u128) -> Option<u128>
     }
 }
 
-// Whether the line under the dates begins no higher than that over the due dates, and rises no
-// faster.
-fn keep_apart(row: &EndlessRow, cycle: Cycle, under: u128, over: u128) -> bool
+// How many times a gain makes up for what is missing, if so many are enough.
+fn times_to_gain(missing: u128, gain: u128, most: u64) -> Option<u64>
+    ensures enough { IfSome result (λ times. missing ≤ times * gain) }
+    ensures most { IfSome result (λ times. times ≤ most) }
+{
+    if missing == 0 {
+        return Some(0);
+    }
+    if gain == 0 {
+        return None;
+    }
+    let times = missing.div_ceil(gain);
+    if times <= u128::from(most) {
+        Some(times as u64)
+    } else {
+        None
+    }
+}
+
+// After how many places the line under the dates is no higher than that over the due dates, and
+// rises no faster, if it is so after so many.
+fn places_apart(row: &EndlessRow, cycle: Cycle, under: u128, over: u128, most: u64) -> Option<u64>
     requires row { IsGoingRow row.now }
     requires firings { cycle.firings ≤ most_cycle }
     requires rise { cycle.rise ≤ greatest_least_date }
-    ensures start { IsTrue result → row.now.every * under
-        + cycle.firings * (row.now.gap * row.now.every)
-        ≤ cycle.firings * over + cycle.rise * cycle.firings * row.now.every }
-    ensures slope { IsTrue result → cycle.rise * row.now.every ≤ cycle.firings * row.now.gap }
+    ensures apart { IfSome result (AreApartAfter row.now cycle under over) }
+    ensures most { IfSome result (λ places. places ≤ most) }
 {
     let every = u128::from(row.every);
     let firings = u128::from(cycle.firings);
     let gap = u128::from(row.gap);
-    let Some(dates) = scaled(every, under, firings * (gap * every)) else {
-        return false;
-    };
-    let Some(dues) = scaled(firings, over, cycle.rise * firings * every) else {
-        return false;
-    };
-    cycle.rise * every <= firings * gap && dates <= dues
+    let dates = scaled(every, under, firings * (gap * every))?;
+    let dues = scaled(firings, over, cycle.rise * firings * every)?;
+    let (steep, fast) = (cycle.rise * every, firings * gap);
+    if fast < steep {
+        return None;
+    }
+    times_to_gain(dates.saturating_sub(dues), fast - steep, most)
 }
 
-// Whether two lines show that past the number no date of the class comes after it is due.
-fn none_late_in(row: &SettledRow<'_>, past: u64, cycle: Cycle, class: Class) -> bool
+// After how many places past the number no date of the class comes after it is due, where two lines
+// show that, within one common period.
+fn none_late_in(row: &SettledRow<'_>, past: u64, cycle: Cycle, class: Class) -> Option<u64>
     requires past { GoesOnPast row.now past }
     requires cycle { IsCycleOf row.now cycle }
     requires firings { cycle.firings ≤ most_cycle }
     requires class { IsClassOf cycle.firings row.now.row.every class }
-    ensures { IsTrue result → NoneLateInClass (settled_date row.now.settled) row.now.row past class }
+    ensures none { IfSome result (λ places. NoneLateInClass (settled_date row.now.settled)
+        row.now.row past places class) }
+    ensures few { IfSome result (λ places. places ≤ most_cycle * greatest_every) }
 {
     let under = line_under(row, past, cycle, class);
     let over = line_over(row.row(), past, class);
-    keep_apart(row.row(), cycle, under, over)
+    let most = cycle.firings / class.divisor * u64::from(row.row().every);
+    places_apart(row.row(), cycle, under, over, most)
 }
 
-// Whether two lines for each class show that past the number no date comes after it is due.
-pub(crate) fn none_late_past(row: &SettledRow<'_>, past: u64, cycle: Cycle) -> bool
+// A number past which no date comes after it is due, where two lines for each class show that.
+pub(crate) fn none_late_past(row: &SettledRow<'_>, past: u64, cycle: Cycle) -> Option<u64>
     requires past { GoesOnPast row.now past }
     requires cycle { IsCycleOf row.now cycle }
-    ensures { IsTrue result → NoneLatePast (settled_date row.now.settled) row.now.row past }
+    ensures none { IfSome result (NoneLatePast (settled_date row.now.settled) row.now.row) }
+    ensures few { IfSome result (λ last. last ≤ greatest_firing_number) }
 {
     if cycle.firings > MOST_CYCLE {
-        return false;
+        return None;
     }
     let divisor = common_divisor(cycle.firings, row.row().every as u64);
+    let mut places: u64 = 0;
     for rest in 0..divisor {
-        if !none_late_in(row, past, cycle, Class { divisor, rest }) {
-            return false;
-        }
+        let more = none_late_in(row, past, cycle, Class { divisor, rest })?;
+        places = places.max(more);
     }
-    true
+    Some(past + places)
 }

@@ -5,13 +5,13 @@
 //! dates of its firings, or that it is free; or the first row that comes late whatever the inputs
 //! are, with its least late number; or the first input whose series are too long.
 //! [`releases_text`], [`forever_refusal_text`] and [`endless_refusal_text`] are the texts of the
-//! answers, and different answers have different texts. The crate stands on `forever_laws` and `due_laws` for
-//! what endless due dates are and what holds of them, on `teg_settle` and `settled_laws` for
-//! settled forms of dates and of walk times, on `teg_lags` for inputs that lead on alike, on
-//! `series_laws`, `series_form`, `series_ops`, `periodic_laws` and `dioid_matrix` for residuals of
-//! series, on `endless_due` and `teg_due` for rows, on `teg_text` for texts, on `teg_model` for
-//! datings, on `teg_net` and `teg_check` for nets, and on `dioid` for dates. Its examples stand in
-//! `date_examples`, in `kept_delays.rt`.
+//! answers, and different answers have different texts. The crate stands on `forever_laws` and
+//! `due_laws` for what endless due dates are and what holds of them, on `teg_settle` and
+//! `settled_laws` for settled forms of dates and of walk times, on `teg_lags` for inputs that lead
+//! on alike, on `series_laws`, `series_form`, `series_ops`, `steady_series`, `periodic_laws` and
+//! `dioid_matrix` for residuals of series, on `endless_due` and `teg_due` for rows, on `teg_text`
+//! for texts, on `teg_model` for datings, on `teg_net` and `teg_check` for nets, and on `dioid` for
+//! dates. Its examples stand in `date_examples`, in `kept_delays.rt`.
 //!
 //! A refusal is told by its first cause: the first row that is late; then, of the first input that
 //! is not fine, walk times without a settled form of at most 20,000 numbers, or else the first row
@@ -27,9 +27,9 @@
 //! in a turn, none is late at all. Otherwise each number looked at falls behind by as much in each
 //! turn, and the least late number is the one that is late after the fewest turns (`IsSoonest`);
 //! only that one is known to be small (`LateIsSoon`), so turns are compared and not late numbers.
-//! Before that two lines for each class of numbers may hold the dates and the due dates apart past
-//! the numbers from which both repeat (`none_late_past`); then only the numbers up to there are
-//! looked at.
+//! Before that two lines for each class of numbers may hold the dates and the due dates apart from
+//! some number on (`none_late_past`): past those from which both repeat, or where due dates that
+//! rise faster have caught up; then only the numbers up to there are looked at.
 //!
 //! Where the form is longer, as for rates that nearly agree, rows alone are asked (`src/alone.rt`,
 //! `src/together.rt`): a stream makes the dates row by row, one for all rows of due dates.

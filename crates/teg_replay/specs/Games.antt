@@ -9,6 +9,7 @@ use Rattle.teg_net.specs.Inputs.{list_of_input}
 use Rattle.run_laws.specs.declared.fired.Fired.{Fired}
 use Rattle.run_laws.specs.Runs.{dates_of_transition, IsLegalRun}
 use Rattle.run_laws.specs.Earliest.{tokens_after}
+use Rattle.teg_replay.specs.Longest.{ListsLongestAt}
 
 -- a run, and how many transitions its columns of dates are kept for
 pub record Past : Type 0 where
@@ -20,9 +21,11 @@ pub record AreDateColumns (run : List Fired) (columns : List (List ℕ)) : Type 
   pub same : (t : ℕ) → t < length columns → slice_index_or columns t [] ≡ dates_of_transition run t
   pub known : All (λ f. f.transition.index < length columns) run
 
--- of each transition the places that lead into it, how many leave it, and where its input list stands
+-- of each transition the places that lead into it, those of them that are held longest, how many leave it, and where its input list
+-- stands
 pub record PlaceEnds : Type 0 where
   pub into : List (List PlaceId)
+  pub longest : List (List PlaceId)
   pub leaving : List ℕ
   pub lists : List (Option ℕ)
 
@@ -34,6 +37,8 @@ input_list_at lists (Some position) = slice_get lists position
 -- the ends of the net's places, and its input lists
 pub record AreEnds (net : NetLists) (ends : PlaceEnds) : Type 0 where
   pub into : ArePlacesOf net To ends.into
+  pub longest_width : length ends.longest ≡ length net.transitions
+  pub longest : (t : ℕ) → t < length net.transitions → ListsLongestAt net t (slice_index_or ends.longest t [])
   pub leaving_width : length ends.leaving ≡ length net.transitions
   pub leaving : (t : ℕ) → t < length net.transitions → slice_index_or ends.leaving t 0 ≡ count_by (λ p. p.from.index == t) net.places
   pub lists_width : length ends.lists ≡ length net.transitions

@@ -1,5 +1,6 @@
 pub mod RefusedFirings
 pub mod Firings
+pub mod Longest
 pub mod Games
 pub mod RunsAndLeastDates
 pub mod Replays

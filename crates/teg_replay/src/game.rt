@@ -53,7 +53,8 @@ fn initial_tokens(net: &Net) -> u64
 
 impl Game {
     /// No firing yet. `OutOfMemory` comes only where no memory is found. It takes time of order
-    /// n + p for n transitions and p places.
+    /// n m + p for n transitions and p places with at most m tokens, 1,000, and 8 bytes of memory for
+    /// each n m while it is made.
     pub fn new(alloc: Global, net: &Net) -> Result<Game, OutOfMemory>
         ensures empty { IfOk result (λ game. game.run ≡ []) }
         ensures stands { IfOk result (λ game. IsGameOf net.now game) }
@@ -119,7 +120,8 @@ impl Game {
     /// Otherwise the first of these that fails is told, and nothing changes, as where no memory is
     /// found. The transition is one of the net for which the game was made, the date at most 10^18,
     /// and fewer than 2^40 firings were accepted. It takes time in proportion to the places into
-    /// the transition.
+    /// the transition, past its first 1,000 firings of one place only for each upstream transition
+    /// and number of tokens.
     pub fn fire(
         &mut self,
         _alloc: Global,

@@ -30,7 +30,7 @@ pub(crate) fn judge(
     ensures fails { IfErr result (λ why. Fails net.now history.now.run fired why) }
 {
     let number = next_number(history, fired.transition);
-    let tokens = tokens_there(history, net, ends.entering(fired.transition), fired)?;
+    let tokens = tokens_there(history, ends, net, fired)?;
     in_order(history, fired)?;
     let release = released(ends, net, fired, number)?;
     Ok(

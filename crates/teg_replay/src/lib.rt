@@ -15,10 +15,13 @@
 //!
 //! A run is a list of firings, and what may follow it is said of the list alone (`run_laws`). A
 //! `Game` keeps such a list and beside it what makes a firing cheap: of each transition the dates
-//! of its firings, the places into it, how many places leave it, and where its input list stands;
-//! and the number of tokens in all places. Its contracts say of these only that they are those of
-//! the list and the net (`IsGameOf`). All memory that a firing needs is found before anything
-//! changes.
+//! of its firings, the places into it, those of them that are held longest, how many places leave
+//! it, and where its input list stands; and the number of tokens in all places. Its contracts say
+//! of these only that they are those of the list and the net (`IsGameOf`). Of places with one
+//! upstream transition and as many tokens, one that is held longest has its token last, once a
+//! firing brings it: so past its first 1,000 firings, as many as a place may have tokens, a
+//! transition asks these places alone, and all places only to tell the first whose token is not
+//! there. All memory that a firing needs is found before anything changes.
 //!
 //! ## Call it
 //!
@@ -42,6 +45,7 @@ mod ends;
 mod game;
 mod history;
 mod judge;
+mod longest;
 mod play;
 mod refusal;
 mod replayed;

@@ -42,7 +42,9 @@ fn refused(row: &LogRow, accepted: u64, why: FireRefusal) -> Result<Replayed, Ou
 /// There are fewer than 2^40 rows, each of a transition of the net and with a date of at most
 /// 10^18, in the user's unit of time. `OutOfMemory` comes only where no memory is found; the
 /// monitors have then seen the firings of some first rows. It takes time of the order of the log
-/// and, for each row, of the places into its transition and of the monitors.
+/// and, for each row, of the monitors and of the places into its transition, past the first 1,000
+/// firings of that of one place only for each upstream transition and number of tokens; and, once,
+/// a step for each transition and number of tokens up to 1,000.
 pub fn replay(
     alloc: Global,
     net: &Net,

@@ -1,19 +1,18 @@
 //! What a firing waits for: the tokens of the places into its transition, the firings before it,
 //! and a release.
-ghost use Rattle.std.specs.Prelude.{◌≡◌, ◌<◌, ◌≤◌, ◌+◌, ◌^◌, IfOk, IfErr, Some, length, ◌-◌};
+ghost use Rattle.std.specs.Prelude.{◌≡◌, ◌<◌, ◌≤◌, ◌+◌, ◌^◌, All, IfOk, IfErr, Some, length, ◌-◌};
 ghost use Rattle.teg_net.specs.Circuits.{place_at};
 ghost use Rattle.teg_net.specs.Inputs.{input_date};
-ghost use Rattle.teg_net.specs.PlaceLists.{ListsPlacesAt};
-ghost use Rattle.teg_net.specs.declared.places_of.PlaceEnd.TheVariants.{To};
 ghost use Rattle.run_laws.specs.Runs.{dates_of_transition, next_number, token_date, HasTokensBy, IsReleasedBy, IsThereBy, last_date, IsNotBefore};
 ghost use Rattle.run_laws.specs.Earliest.{last_listed_date};
 ghost use Rattle.teg_replay.specs.RefusedFirings.{Fails};
 ghost use Rattle.teg_replay.specs.Games.{AreEnds};
 ghost use Rattle.teg_replay.specs.declared.refusal.FireRefusal.TheVariants.{BeforeRelease};
-ghost use Rattle.teg_replay.specs.Waits.{IsLatestToken, IsLatestRelease, IsBackTo, IsUnreleased};
+ghost use Rattle.teg_replay.specs.Waits.{IsLatestOf, IsFirstLateOf, IsLatestToken, IsLatestRelease, IsBackTo, IsUnreleased};
 
 use crate::ends::EndLists;
 use crate::history::History;
+use crate::longest::MOST_TOKENS;
 use crate::refusal::FireRefusal;
 use run_laws::Fired;
 use teg_net::{Net, PlaceId, Role, TransitionId};
@@ -58,27 +57,25 @@ fn token_date(history: &History, net: &Net, id: PlaceId, number: u64) -> Option<
     }
 }
 
-// The date from which all places into the transition have their tokens for its next firing.
-// `Illegal` comes exactly where that of one of them is not there by the date of the firing.
-pub(crate) fn tokens_there(
+// The date from which these places into the transition have their tokens for its next firing, of
+// this number. `Illegal` comes exactly where that of one of them is not there by the date of the
+// firing, and tells the first such place.
+fn tokens_of(
     history: &History,
     net: &Net,
-    into: &[PlaceId],
+    ids: &[PlaceId],
     fired: Fired,
+    number: u64,
 ) -> Result<u64, FireRefusal>
     requires width { history.now.width ≡ length net.now.transitions }
-    requires transition { fired.transition.index < length net.now.transitions }
-    requires into { ListsPlacesAt net.now To fired.transition.index into.now }
-    requires few { length history.now.run < 2 ^ 40 }
-    ensures latest { IfOk result (λ date. IsLatestToken net.now history.now.run
-        fired.transition.index (next_number history.now.run fired.transition.index) date) }
-    ensures tokens { IfOk result (λ _. HasTokensBy net.now history.now.run fired.transition.index
-        (next_number history.now.run fired.transition.index) fired.date) }
-    ensures fails { IfErr result (λ why. Fails net.now history.now.run fired why) }
+    requires known { All (λ p. p.index < length net.now.places) ids.now }
+    requires right { All (λ p. (place_at net.now p).to.index ≡ fired.transition.index) ids.now }
+    requires first { 1 ≤ number }
+    ensures latest { IfOk result (IsLatestOf net.now history.now.run fired number ids.now) }
+    ensures late { IfErr result (IsFirstLateOf net.now history.now.run fired number ids.now) }
 {
-    let number = next_number(history, fired.transition);
     let mut latest: u64 = 0;
-    for id in into {
+    for id in ids {
         match token_date(history, net, *id, number) {
             Some(date) => {
                 if u128::from(fired.date) < date {
@@ -98,6 +95,37 @@ pub(crate) fn tokens_there(
         }
     }
     Ok(latest)
+}
+
+// The date from which all places into the transition have their tokens for its next firing.
+// `Illegal` comes exactly where that of one of them is not there by the date of the firing. Where
+// firings bring all tokens, the places that are held longest are asked first.
+pub(crate) fn tokens_there(
+    history: &History,
+    ends: &EndLists,
+    net: &Net,
+    fired: Fired,
+) -> Result<u64, FireRefusal>
+    requires width { history.now.width ≡ length net.now.transitions }
+    requires ends { AreEnds net.now ends.now }
+    requires transition { fired.transition.index < length net.now.transitions }
+    requires few { length history.now.run < 2 ^ 40 }
+    ensures latest { IfOk result (λ date. IsLatestToken net.now history.now.run
+        fired.transition.index (next_number history.now.run fired.transition.index) date) }
+    ensures tokens { IfOk result (λ _. HasTokensBy net.now history.now.run fired.transition.index
+        (next_number history.now.run fired.transition.index) fired.date) }
+    ensures fails { IfErr result (λ why. Fails net.now history.now.run fired why) }
+{
+    // The net keeps its rules.
+    net.rules();
+    let number = next_number(history, fired.transition);
+    if number > MOST_TOKENS {
+        let longest = ends.longest(fired.transition);
+        if let Ok(latest) = tokens_of(history, net, longest, fired, number) {
+            return Ok(latest);
+        }
+    }
+    tokens_of(history, net, ends.entering(fired.transition), fired, number)
 }
 
 // Nothing, where the firing is not before the last one.

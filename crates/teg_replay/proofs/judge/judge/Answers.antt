@@ -6,6 +6,3 @@ returns-clause-earliest c =
     rw (c.max-2.ensures, c.max.ensures, c.date_before.ensures)
     (earliest_is c.args.net.now c.args.history.now.run c.args.fired.transition.index c.in_ok-tokens.tokens c.in_ok-release.release c.requires.transition
     c.in_ok-tokens.ensures.latest (rw c.next_number-number.ensures.number at c.in_ok-release.ensures.latest))
-
-pub tokens_there-requires-clause-into : goal.tokens_there-requires-clause-into
-tokens_there-requires-clause-into c = rw c.entering.ensures (c.requires.ends.into.each c.args.fired.transition.index c.requires.transition)

@@ -1,40 +1,46 @@
-use Rattle.std.proofs.Common.{get_or, sym, ◌∙◌, arith}
-use Rattle.std.proofs.lemmas.List.{get_or_default}
-use Rattle.teg_net.specs.declared.entries.PlaceId.{PlaceId}
-use Rattle.teg_replay.proofs.Latest.{no_id, latest_more, latest_is, latest_by, late_at}
+use Rattle.std.proofs.Common.{arith}
+use Rattle.teg_replay.proofs.Latest.{latest_by}
+use Rattle.teg_replay.proofs.Waiting.{longest_there, all_latest, all_tokens, all_fails}
 use Rattle.teg_replay.proofs.waits.tokens_there.Goals as goal
 
-pub returns-then-from-date-clause-fails : goal.returns-then-from-date-clause-fails
-returns-then-from-date-clause-fails c =
-    late_at c.args.net.now c.args.history.now.run c.args.fired c.next_number-number.result c.args.into.now c.loop-id.id-index c.loop-id.latest _ c.requires.into c.loop-id.invariant c.loop-id-test.true
-    c.next_number-number.ensures.number (sym c.in-Some.is ∙ c.token_date.ensures) (λ h. omega (arith, h, c.if-from-date.true, c.from.ensures))
+pub tokens_of-requires-clause-known : goal.tokens_of-requires-clause-known
+tokens_of-requires-clause-known c = rw c.longest-longest.ensures (c.requires.ends.longest c.args.fired.transition.index c.requires.transition).known
 
-pub returns-in-None-clause-fails : goal.returns-in-None-clause-fails
-returns-in-None-clause-fails c =
-    late_at c.args.net.now c.args.history.now.run c.args.fired c.next_number-number.result c.args.into.now c.loop-id.id-index c.loop-id.latest _ c.requires.into c.loop-id.invariant c.loop-id-test.true
-    c.next_number-number.ensures.number (sym c.in-None.is ∙ c.token_date.ensures) (λ h. h)
+pub tokens_of-requires-clause-right : goal.tokens_of-requires-clause-right
+tokens_of-requires-clause-right c = rw c.longest-longest.ensures (c.requires.ends.longest c.args.fired.transition.index c.requires.transition).right
+
+pub returns-in-Ok-clause-latest : goal.returns-in-Ok-clause-latest
+returns-in-Ok-clause-latest c =
+    rw c.next_number-number.ensures.number at
+    (longest_there c.args.net.now c.args.history.now.run c.args.fired c.next_number-number.result c.longest-longest.result.now c.in-Ok.latest c.rules.ensures
+    (rw c.longest-longest.ensures (c.requires.ends.longest c.args.fired.transition.index c.requires.transition)) (omega (arith, c.if-number-gt-MOST_TOKENS.true)) c.in-Ok.ensures.latest)
+
+pub returns-in-Ok-clause-tokens : goal.returns-in-Ok-clause-tokens
+returns-in-Ok-clause-tokens c =
+    rw c.next_number-number.ensures.number at
+    (latest_by c.args.net.now c.args.history.now.run c.args.fired.transition.index c.next_number-number.result c.in-Ok.latest c.args.fired.date c.in-Ok.ensures.latest.by
+    (longest_there c.args.net.now c.args.history.now.run c.args.fired c.next_number-number.result c.longest-longest.result.now c.in-Ok.latest c.rules.ensures
+    (rw c.longest-longest.ensures (c.requires.ends.longest c.args.fired.transition.index c.requires.transition)) (omega (arith, c.if-number-gt-MOST_TOKENS.true)) c.in-Ok.ensures.latest).enough)
+
+pub tokens_of-requires-2-clause-known : goal.tokens_of-requires-2-clause-known
+tokens_of-requires-2-clause-known c = rw c.entering.ensures (c.requires.ends.into.each c.args.fired.transition.index c.requires.transition).known
+
+pub tokens_of-requires-2-clause-right : goal.tokens_of-requires-2-clause-right
+tokens_of-requires-2-clause-right c = rw c.entering.ensures (c.requires.ends.into.each c.args.fired.transition.index c.requires.transition).right
 
 pub returns-clause-latest : goal.returns-clause-latest
 returns-clause-latest c =
     rw c.next_number-number.ensures.number at
-    (latest_is c.args.net.now c.args.history.now.run c.args.fired c.next_number-number.result c.args.into.now c.loop-id.id-index
-    c.loop-id.latest c.requires.into c.loop-id.invariant (omega (arith, c.loop-id-test.false)))
+    (all_latest c.args.net.now c.args.history.now.run c.args.fired c.next_number-number.result c.entering.result.now c.tokens_of-2.result
+    (rw c.entering.ensures (c.requires.ends.into.each c.args.fired.transition.index c.requires.transition)) c.tokens_of-2.ensures.latest)
 
 pub returns-clause-tokens : goal.returns-clause-tokens
 returns-clause-tokens c =
     rw c.next_number-number.ensures.number at
-    (latest_by c.args.net.now c.args.history.now.run c.args.fired.transition.index c.next_number-number.result c.loop-id.latest c.args.fired.date c.loop-id.invariant.by
-    (latest_is c.args.net.now c.args.history.now.run c.args.fired c.next_number-number.result c.args.into.now c.loop-id.id-index
-    c.loop-id.latest c.requires.into c.loop-id.invariant (omega (arith, c.loop-id-test.false))).enough)
+    (all_tokens c.args.net.now c.args.history.now.run c.args.fired c.next_number-number.result c.entering.result.now c.tokens_of-2.result
+    (rw c.entering.ensures (c.requires.ends.into.each c.args.fired.transition.index c.requires.transition)) c.tokens_of-2.ensures.latest)
 
-pub loop-id-preserved : goal.loop-id-preserved
-loop-id-preserved c =
-    let net = c.args.net.now in
-    let ids = c.args.into.now in
-    let i = c.loop-id.id-index in
-    let l = c.loop-id-test.true in
-    let id : PlaceId = get_or ids i no_id in
-    let there = sym c.in-Some.is ∙ c.token_date.ensures in
-    rw c.max-latest.ensures
-    (latest_more net c.args.history.now.run c.args.fired c.next_number-number.result ids i c.loop-id.latest c.in-Some.date id c.requires.into c.loop-id.invariant l
-    (λ d. get_or_default ids i d no_id l) there (omega (arith, c.if-from-date.false, c.from.ensures)))
+pub returns-clause-fails : goal.returns-clause-fails
+returns-clause-fails c =
+    all_fails c.args.net.now c.args.history.now.run c.args.fired c.next_number-number.result c.entering.result.now c.tokens_of-2.result
+    (rw c.entering.ensures (c.requires.ends.into.each c.args.fired.transition.index c.requires.transition)) c.next_number-number.ensures.number c.tokens_of-2.ensures.late

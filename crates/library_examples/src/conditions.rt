@@ -49,12 +49,6 @@ fn is_tested(alloc: Global, held: &LiveNet) -> Result<bool, Fail> {
     )
 }
 
-#[test]
-fn tokens_and_ranks_are_tested(rt: HostRuntime) -> Result<(), Fail> {
-    assert!(rt; ask_held(rt.alloc(), LOOP, is_tested)?);
-    Ok(())
-}
-
 // Values, the step of their last one, and whether the list never falls.
 const LISTS: [(Date, Date, i128, bool); 5] = [
     (Date::At(0), Date::At(2), 1, true),
@@ -69,11 +63,14 @@ const LISTS: [(Date, Date, i128, bool); 5] = [
     ),
 ];
 
-#[test]
-fn lists_are_tested(rt: HostRuntime) {
+// Whether each row of `LISTS` is told so.
+fn are_lists() -> bool {
     for (first, second, step, is_right) in &LISTS {
-        assert!(rt; is_rising(&[*first, *second], 1, *step) == *is_right);
+        if is_rising(&[*first, *second], 1, *step) != *is_right {
+            return false;
+        }
     }
+    true
 }
 
 // An expression of so many nodes.
@@ -101,7 +98,9 @@ fn is_short(shift: u64) -> bool {
 }
 
 #[test]
-fn expressions_are_tested(rt: HostRuntime) -> Result<(), Fail> {
+fn conditions_are_tested(rt: HostRuntime) -> Result<(), Fail> {
+    assert!(rt; ask_held(rt.alloc(), LOOP, is_tested)?);
+    assert!(rt; are_lists());
     assert!(rt; is_short_of(rt.alloc(), MOST_EXPRESSION_NODES)?);
     assert!(rt; !is_short_of(rt.alloc(), MOST_EXPRESSION_NODES + 1)?);
     assert!(rt; is_short(MONOMIAL_BOUND - 1) && !is_short(MONOMIAL_BOUND));

@@ -1,0 +1,15 @@
+//! Residuals of steady series: of those that rise by the same step from each shift to the next, as
+//! due dates mostly do.
+//!
+//! A series that takes time before a steady one takes as much as one value everywhere: by how much
+//! its values are later than the steps up to their shifts, at most. So [`left`] is found by one
+//! look at each value of the list, where `Gain::left` of `series_ops` goes through many lists of
+//! that length. Where the second series is not steady, or is outrun by the first, `Gain::left`
+//! answers. The crate stands on `series_laws`, `series_form` and `series_ops` for series and their
+//! residuals, and on `dioid` for dates. It is tried by what is asked of `forever`, in
+//! `date_examples`.
+#![tactic(auto)]
+
+mod leads;
+
+pub use leads::left;

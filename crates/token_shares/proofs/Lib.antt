@@ -1,0 +1,9 @@
+pub mod Places
+pub mod Further
+pub mod BareLaws
+pub mod Closing
+pub mod Cutting
+pub mod Reaching
+pub mod Searching
+pub mod Trying
+pub mod Apart

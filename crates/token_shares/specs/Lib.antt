@@ -1,0 +1,3 @@
+pub mod TokenShares
+pub mod BareNets
+pub mod KeptCuts
