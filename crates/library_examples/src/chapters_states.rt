@@ -296,5 +296,5 @@ fn shares_are_told(alloc: Global, held: &LiveNet) -> Result<(), Fail> {
 
 #[test]
 fn cards_are_shared(rt: HostRuntime) -> Result<(), Fail> {
-    shares_are_told(rt.alloc(), &held(rt.alloc(), CARDS)?)
+    ask_held(rt.alloc(), CARDS, shares_are_told)
 }
