@@ -14,6 +14,9 @@ use Rattle.pace_check.specs.declared.sizes.ShownSize.{ShownSize}
 use Rattle.dating_check.specs.FirstLate.{IsShownFirstLate}
 use Rattle.dating_check.specs.ShownForms.{IsShownSettled}
 use Rattle.dating_check.specs.ShownTables.{IsShownTable}
+use Rattle.dating_check.specs.TableTexts.{IsFalseTable, IsRightIfTable}
+use Rattle.dating_check.specs.declared.table_faults.TableFault.{TableFault}
+use Rattle.dating_check.specs.declared.table_faults.TableFault.TheVariants.{OtherNumbers, Line, Late}
 use Rattle.dating_check.specs.declared.settled.ShownSettled.{ShownSettled}
 use Rattle.delay_check.specs.ShownDelays.{IsShownKept, IsShownRecovered}
 use Rattle.bound_check.specs.ShownBounds.{IsShownBound}
@@ -77,6 +80,24 @@ IsListFound net text Refuted = ⊥
 IsListFound net text (WrongLine line) = (row : ℕ) × (line ≡ row + 1) × IsRefutedList net text row × (IsShownAlone net Listed text → ⊥)
 IsListFound net text NotShown = IsLive net → (count : ℕ) (words : ℕ → ℕ → List ℕ) → IsListText net text count words → ⊥
 IsListFound net text NoChecker = ⊥
+
+-- the line by which this is told to be false in a table, counted from 0
+abbrev pub IsFaultLine : TableFault → ℕ → Type 0
+IsFaultLine OtherNumbers line = line ≡ 0
+IsFaultLine (Line transition number at) line = line ≡ at
+IsFaultLine Late line = ⊥
+
+-- what is found of a table of latest dates for these due dates: it is shown only where it is that of a plan; a line of it is wrong only
+-- where this is the first that does not tell the latest date of its firing, or the first of all and the table goes up to another number
+-- than the greatest that is due; it is refuted only where each line is right and there is no plan; and none of these is found only where
+-- the net is not live, the text is no table, or each line is right and there is a plan
+abbrev pub IsPlanFound : NetLists → List ℕ → Due → Finding → Type 0
+IsPlanFound net text due Shown = IsShownPlanFor net text due
+IsPlanFound net text due Refuted = IsFalseTable net due.rows.items text Late × (IsShownPlanFor net text due → ⊥)
+IsPlanFound net text due (WrongLine line) =
+    (fault : TableFault) × IsFaultLine fault line × IsFalseTable net due.rows.items text fault × (IsShownPlanFor net text due → ⊥)
+IsPlanFound net text due NotShown = IsRightIfTable net due.rows.items text
+IsPlanFound net text due NoChecker = ⊥
 
 -- what is found of an answer of this kind, on the net alone
 abbrev pub IsFoundAlone : NetLists → Alone → List ℕ → Finding → Type 0

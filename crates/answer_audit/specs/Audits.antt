@@ -6,7 +6,7 @@ use Rattle.std.specs.Str.Lines.{lines}
 use Rattle.csv_records.specs.Records.{most_file_bytes}
 use Rattle.teg_net.specs.Nets.{NetLists}
 use Rattle.teg_outside.specs.Shelves.{ShelfState}
-use Rattle.answer_audit.specs.AnswerFindings.{IsFound, IsFoundAlone, IsShownPlanFor, IsShownLateFor, IsShownDateOf, IsShownKeptFor, IsShownRecoveredFor}
+use Rattle.answer_audit.specs.AnswerFindings.{IsFound, IsFoundAlone, IsPlanFound, IsShownLateFor, IsShownDateOf, IsShownKeptFor, IsShownRecoveredFor}
 use Rattle.answer_audit.specs.AnswerWords.{kind_of_text}
 use Rattle.answer_audit.specs.AuditFiles.{OpensFileOf, SaysNetOf, SaysText, SaysDue, SaysTable, most_answer_bytes}
 use Rattle.answer_audit.specs.Claims.{claims_text}
@@ -20,16 +20,16 @@ use Rattle.answer_audit.specs.declared.question.Beside.TheVariants.{File, Timeta
 use Rattle.answer_audit.specs.declared.question.Question.{Question}
 
 -- what is found by what a file gives; nothing where it gives nothing
-abbrev pub FollowsFile : {A : Type 0} → NetLists → (A → Type 0) → Option A → Option Finding → Type 0
-FollowsFile net says None found = found ≡ None
-FollowsFile net says (Some file) None = ⊥
-FollowsFile net says (Some file) (Some finding) = IsFound net (says file) finding
+abbrev pub FollowsFile : {A : Type 0} → (A → Finding → Type 0) → Option A → Option Finding → Type 0
+FollowsFile finds None found = found ≡ None
+FollowsFile finds (Some file) None = ⊥
+FollowsFile finds (Some file) (Some finding) = finds file finding
 
 -- one file is read, and something is found by what it gives
-abbrev pub FindsByFile : {A : Type 0} → NetLists → (List ℕ → A → Type 0) → (A → Type 0) → (name : List ℕ) → (most : ℕ) →
+abbrev pub FindsByFile : {A : Type 0} → (List ℕ → A → Type 0) → (A → Finding → Type 0) → (name : List ℕ) → (most : ℕ) →
     ShelfState → ShelfState → Option Finding → Type 0
-FindsByFile {A = A} net reads says name most old new found =
-    (file : Option A) × OpensFileOf reads name most old new file × FollowsFile net says file found
+FindsByFile {A = A} reads finds name most old new found =
+    (file : Option A) × OpensFileOf reads name most old new file × FollowsFile finds file found
 
 -- no file is read, and no checker reads the answer
 abbrev pub FindsNoChecker : ShelfState → ShelfState → Option Finding → Type 0
@@ -42,29 +42,29 @@ FindsAlone net kind text old new (Some finding) = (new ≡ old) × IsFoundAlone 
 
 -- what is found of a table of latest dates, by the due file
 abbrev pub FindsPlan : NetLists → Beside → List ℕ → ShelfState → ShelfState → Option Finding → Type 0
-FindsPlan net (File name) text old new found = FindsByFile net (SaysDue net) (IsShownPlanFor net text) name most_file_bytes old new found
+FindsPlan net (File name) text old new found = FindsByFile (SaysDue net) (IsPlanFound net text) name most_file_bytes old new found
 FindsPlan net beside text old new found = FindsNoChecker old new found
 
 -- what is found of a row that comes late, by the due file
 abbrev pub FindsLate : NetLists → Beside → List ℕ → ShelfState → ShelfState → Option Finding → Type 0
-FindsLate net (File name) text old new found = FindsByFile net (SaysDue net) (IsShownLateFor net text) name most_file_bytes old new found
+FindsLate net (File name) text old new found = FindsByFile (SaysDue net) (λ due. IsFound net (IsShownLateFor net text due)) name most_file_bytes old new found
 FindsLate net beside text old new found = FindsNoChecker old new found
 
 -- what is found of one date, by a list of dates
 abbrev pub FindsDate : NetLists → Beside → List ℕ → ShelfState → ShelfState → Option Finding → Type 0
-FindsDate net (File name) text old new found = FindsByFile net SaysText (λ list. IsShownDateOf net text) name most_answer_bytes old new found
+FindsDate net (File name) text old new found = FindsByFile SaysText (λ list. IsFound net (IsShownDateOf net text)) name most_answer_bytes old new found
 FindsDate net beside text old new found = FindsNoChecker old new found
 
 -- what is found of delays that are kept, by the timetable
 abbrev pub FindsKept : NetLists → Beside → List ℕ → ShelfState → ShelfState → Option Finding → Type 0
 FindsKept net (Timetable period name) text old new found =
-    FindsByFile net (SaysTable net) (IsShownKeptFor net period text) name most_file_bytes old new found
+    FindsByFile (SaysTable net) (λ table. IsFound net (IsShownKeptFor net period text table)) name most_file_bytes old new found
 FindsKept net beside text old new found = FindsNoChecker old new found
 
 -- what is found of delays that die out, by the timetable
 abbrev pub FindsRecovered : NetLists → Beside → List ℕ → ShelfState → ShelfState → Option Finding → Type 0
 FindsRecovered net (Timetable period name) text old new found =
-    FindsByFile net (SaysTable net) (IsShownRecoveredFor net period text) name most_file_bytes old new found
+    FindsByFile (SaysTable net) (λ table. IsFound net (IsShownRecoveredFor net period text table)) name most_file_bytes old new found
 FindsRecovered net beside text old new found = FindsNoChecker old new found
 
 -- what is found of an answer of this kind

@@ -1,7 +1,7 @@
 //! What is found of an answer that was asked with a file: a function for each kind.
 ghost use Rattle.std.specs.Prelude.{IfOk};
 ghost use Rattle.csv_records.specs.Records.{most_file_bytes};
-ghost use Rattle.answer_audit.specs.AnswerFindings.{IsFound, IsShownDateOf, IsShownKeptFor, IsShownLateFor, IsShownPlanFor, IsShownRecoveredFor};
+ghost use Rattle.answer_audit.specs.AnswerFindings.{IsFound, IsPlanFound, IsShownDateOf, IsShownKeptFor, IsShownLateFor, IsShownRecoveredFor};
 ghost use Rattle.answer_audit.specs.AuditFiles.{SaysDue, SaysTable, SaysText, most_answer_bytes};
 ghost use Rattle.answer_audit.specs.Audits.{FindsByFile, FindsDate, FindsKept, FindsLate, FindsPlan, FindsRecovered};
 
@@ -9,7 +9,7 @@ use crate::files::{open_due, open_table, open_text};
 use crate::finding::Finding;
 use crate::question::Beside;
 use answer_check::shown_date;
-use dating_check::{refutes_table, shown_first_late, shown_table};
+use dating_check::{TableFault, shown_first_late, shown_table, table_fault};
 use delay_check::{shown_kept, shown_recovered};
 use delay_laws::Timetable;
 use std::alloc::Global;
@@ -17,16 +17,30 @@ use teg_due::Due;
 use teg_net::{Net, OutOfMemory};
 use teg_outside::Shelf;
 
+// Of `jit`, a table of latest dates that is not shown.
+fn wrong_plan_finding(
+    alloc: Global,
+    net: &Net,
+    due: &Due,
+    text: &str,
+) -> Result<Finding, OutOfMemory>
+    ensures { IfOk result (IsPlanFound net.now text.now due.now) }
+{
+    match table_fault(alloc, net, due, text)? {
+        Some(TableFault::OtherNumbers) => Ok(Finding::WrongLine(0)),
+        Some(TableFault::Line { line, .. }) => Ok(Finding::WrongLine(line)),
+        Some(TableFault::Late) => Ok(Finding::Refuted),
+        None => Ok(Finding::NotShown),
+    }
+}
+
 // Of `jit`, a table of latest dates.
 fn plan_finding(alloc: Global, net: &Net, due: &Due, text: &str) -> Result<Finding, OutOfMemory>
-    ensures { IfOk result (IsFound net.now (IsShownPlanFor net.now text.now due.now)) }
+    ensures { IfOk result (IsPlanFound net.now text.now due.now) }
 {
-    if shown_table(alloc, net, due, text)?.is_some() {
-        Ok(Finding::Shown)
-    } else if refutes_table(alloc, net, due, text)? {
-        Ok(Finding::Refuted)
-    } else {
-        Ok(Finding::NotShown)
+    match shown_table(alloc, net, due, text)? {
+        Some(_) => Ok(Finding::Shown),
+        None => wrong_plan_finding(alloc, net, due, text),
     }
 }
 
@@ -38,7 +52,7 @@ fn plan_by_file<S: Shelf>(
     text: &str,
     shelf: &mut S,
 ) -> Result<Option<Finding>, OutOfMemory>
-    ensures { IfOk result (FindsByFile net.now (SaysDue net.now) (IsShownPlanFor net.now text.now)
+    ensures { IfOk result (FindsByFile (SaysDue net.now) (IsPlanFound net.now text.now)
         name.now most_file_bytes (S.state shelf.old) (S.state shelf.new)) }
 {
     let Some(due) = open_due(alloc, net, name, shelf)? else {
@@ -83,7 +97,8 @@ fn late_by_file<S: Shelf>(
     text: &str,
     shelf: &mut S,
 ) -> Result<Option<Finding>, OutOfMemory>
-    ensures { IfOk result (FindsByFile net.now (SaysDue net.now) (IsShownLateFor net.now text.now)
+    ensures { IfOk result (FindsByFile (SaysDue net.now)
+        (λ due. IsFound net.now (IsShownLateFor net.now text.now due))
         name.now most_file_bytes (S.state shelf.old) (S.state shelf.new)) }
 {
     let Some(due) = open_due(alloc, net, name, shelf)? else {
@@ -128,7 +143,7 @@ fn date_by_file<S: Shelf>(
     text: &str,
     shelf: &mut S,
 ) -> Result<Option<Finding>, OutOfMemory>
-    ensures { IfOk result (FindsByFile net.now SaysText (λ _. IsShownDateOf net.now text.now)
+    ensures { IfOk result (FindsByFile SaysText (λ _. IsFound net.now (IsShownDateOf net.now text.now))
         name.now most_answer_bytes (S.state shelf.old) (S.state shelf.new)) }
 {
     let Some(list) = open_text(alloc, name, shelf)? else {
@@ -180,8 +195,8 @@ fn kept_by_file<S: Shelf>(
     text: &str,
     shelf: &mut S,
 ) -> Result<Option<Finding>, OutOfMemory>
-    ensures { IfOk result (FindsByFile net.now (SaysTable net.now)
-        (IsShownKeptFor net.now period text.now)
+    ensures { IfOk result (FindsByFile (SaysTable net.now)
+        (λ table. IsFound net.now (IsShownKeptFor net.now period text.now table))
         name.now most_file_bytes (S.state shelf.old) (S.state shelf.new)) }
 {
     let Some(table) = open_table(alloc, net, name, shelf)? else {
@@ -235,8 +250,8 @@ fn recovered_by_file<S: Shelf>(
     text: &str,
     shelf: &mut S,
 ) -> Result<Option<Finding>, OutOfMemory>
-    ensures { IfOk result (FindsByFile net.now (SaysTable net.now)
-        (IsShownRecoveredFor net.now period text.now)
+    ensures { IfOk result (FindsByFile (SaysTable net.now)
+        (λ table. IsFound net.now (IsShownRecoveredFor net.now period text.now table))
         name.now most_file_bytes (S.state shelf.old) (S.state shelf.new)) }
 {
     let Some(table) = open_table(alloc, net, name, shelf)? else {

@@ -122,15 +122,19 @@ fn finish<W: Sink>(out: &mut W, ending: Result<Ending, OutOfMemory>) -> AuditSta
 /// which an answer was asked with only where its kind wants it. Of an answer its first line is
 /// written, of a table of latest dates each line that tells a date, of delays that are kept that line
 /// and the circuit, and of delays that die out the line that says so, each behind what is found of
-/// it, and of a list that is refuted the first row that is wrong; of one that is not read with its files, that this is so. The gravest of all is how the call
-/// ends. The text is whole before its first byte is written, so nothing is written where no memory
-/// is found.
+/// it. Of a list or a table with a wrong line its first line is written and the first that is wrong,
+/// of a table that does not go up to the greatest number that is due the first line alone. Of an
+/// answer that is not read with its files it is written that this is so. The gravest of all is how
+/// the call ends. The text is whole before its first byte is written, so nothing is written where no
+/// memory is found.
 ///
 /// What it promises is `AuditsWords` (`specs/AuditCalls.antt`): `shown` is written of an answer only
 /// where its text is what that kind of answer says of the net that its file says (`IsShownAlone` and
 /// its like in `specs/AnswerFindings.antt`), and `refuted` only where the net is live and it is not
-/// (`IsFound`). Of a list it says more (`IsListFound`): the row that is told is the first that is
-/// wrong, and in a live net neither is written only of a text that is no list.
+/// (`IsFound`). Of a list and of a table it says more (`IsListFound`, `IsPlanFound`): the line that is
+/// told is the first that is wrong, and in a live net neither is written of a list only where the text
+/// is none, of a table only where it is none, where the rows are no due list, or where its dates are
+/// all right and there is a plan.
 pub fn audit<S: Shelf, W: Sink>(
     alloc: Global,
     words: &[String],

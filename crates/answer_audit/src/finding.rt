@@ -8,11 +8,12 @@ pub enum Finding {
     /// It is so.
     Shown,
     /// It is not so: the net is live, and the answer tells a circuit without tokens, other counts,
-    /// no circuit where there is one, another cause why there is no bound, or a table of other
-    /// dates.
+    /// no circuit where there is one, another cause why there is no bound, or the latest dates of
+    /// due dates that no inputs meet.
     Refuted,
-    /// It is not so: the net is live, and of a list the line of this number, counted from 0, is the
-    /// first that tells other dates.
+    /// It is not so: the net is live, and of a list or of a table of latest dates the line of this
+    /// number, counted from 0, is the first that tells other dates; of a table it is 0 where the
+    /// table does not go up to the greatest number that is due.
     WrongLine(u64),
     /// Its checker does not say yes.
     NotShown,

@@ -5,10 +5,11 @@
 //! known by its first words and by what it was asked with (`kind_of_text` in
 //! `specs/AnswerWords.antt`); it is told as shown only where its text is what that kind of answer
 //! says of the net (`IsShownAlone` and its like in `specs/AnswerFindings.antt`, which are those of
-//! the checkers), as refuted only where the net is live and it is not, and of a list by its first
-//! wrong row (`IsListFound`). Each kind has a function of its own, which asks the checker: those on
-//! the net alone in `alone.rt`, those with a file in `by_file.rt`. That a right answer is shown is
-//! said of lists alone: another checker may also not say yes.
+//! the checkers), as refuted only where the net is live and it is not, and of a list or a table of
+//! latest dates by its first wrong line (`IsListFound`, `IsPlanFound`). Each kind has a function of
+//! its own, which asks the checker: those on the net alone in `alone.rt`, those with a file in
+//! `by_file.rt`. That a right answer is shown is said of lists alone: another checker may also not
+//! say yes.
 //!
 //! It stands on `witness_check`, `pace_check`, `dating_check`, `delay_check`, `bound_check` and
 //! `answer_check` for what answers show, on `teg_reader`, `teg_due` and `timetable_files` for files,

@@ -8,4 +8,4 @@ mod Lowering
 mod MadeRows
 mod TableFaults
 mod TableLines
-pub mod TablesApart
+mod TableWords

@@ -28,7 +28,7 @@ use Rattle.dating_check.specs.ShownTables.{IsShownTable, IsTableTold, firing_lin
 use Rattle.dating_check.specs.TableReading.{FirstOther, FirstOtherOf, TellsDate, line_words, words_behind}
 use Rattle.dating_check.specs.TableTexts.{AreRightLines, IsFaultOf, IsFirstWrongLine, IsFalseTable, IsRightIfTable, IsRightLine, IsRightTable, IsTableText, latest_word, line_of_words, table_of_words}
 use Rattle.dating_check.proofs.TableLines.{same_tables, table_are_lines, table_is_text}
-use Rattle.dating_check.proofs.TablesApart.{date_is_words}
+use Rattle.dating_check.proofs.TableWords.{date_is_words}
 
 -- a firing has one latest date
 one_latest : (net : NetLists) (due : ℕ → ℕ → Option ℕ) (t k : ℕ) (d e : Date) → IsLatestDate net due t k d → IsLatestDate net due t k e → d ≡ e

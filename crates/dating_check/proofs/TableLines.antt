@@ -21,7 +21,7 @@ use Rattle.word_lines.proofs.Lines.{passes_at, range_passes, same_lines}
 use Rattle.dating_check.specs.ShownTables.{role_told}
 use Rattle.dating_check.specs.TableReading.{AreTableLines, IsFiringLine, line_words, words_behind}
 use Rattle.dating_check.specs.TableTexts.{IsTableText, line_of_words, table_head, table_of_words}
-use Rattle.dating_check.proofs.TablesApart.{grid_at, role_is_word}
+use Rattle.dating_check.proofs.TableWords.{grid_at, role_is_word}
 
 -- ---- the lines have words without blanks
 

@@ -99,14 +99,3 @@ pub record IsShownTable (net : NetLists) (rows : List DueRow) (text : List ℕ) 
   pub live : IsLive net
   pub greatest : IsGreatestNumber rows numbers
   pub table : (dates : List Date) × (ways : List (Option Step)) × IsTableTold net rows text numbers dates ways
-
--- the whole text is a table of these dates and steps, and the dates are not those of a plan for what the rows list
-abbrev pub TellsNoPlan : NetLists → List DueRow → List ℕ → ℕ → List Date → List (Option Step) → Type 0
-TellsNoPlan net rows text numbers dates ways = (text ≡ written (table_told_lines net (length net.transitions) numbers dates ways))
-    × ((due : ℕ → ℕ → Option ℕ) → ListsDues rows due → ArePlanRows net due numbers dates → ⊥)
-
--- the net is live, and the text is a table of dates that are not those of a plan for what the rows list; so it is no text that is shown
-pub record IsRefutedTable (net : NetLists) (rows : List DueRow) (text : List ℕ) : Type 0 where
-  pub live : IsLive net
-  pub table : (numbers : ℕ) × (dates : List Date) × (ways : List (Option Step)) × TellsNoPlan net rows text numbers dates ways
-  pub not_shown : ((numbers : ℕ) × IsShownTable net rows text numbers) → ⊥

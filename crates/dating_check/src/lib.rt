@@ -4,7 +4,6 @@
 //! |---|---|---|
 //! | `dates` | its dates and steps | [`shown_settled`] |
 //! | `jit`: all its lines | the dates and steps of the lines | [`shown_table`] |
-//! | `jit`: false | the same | [`refutes_table`] |
 //! | `jit`: what is false | all lines; latest dates are made anew | [`table_fault`] |
 //! | `jit`: a line | the steps of the lines that it leads to | [`shown_latest`] |
 //! | `jit`: late | the walk | [`shown_late`] |
@@ -32,7 +31,6 @@ mod late;
 mod latest;
 mod least_rows;
 mod made_rows;
-mod refuted_table;
 mod rows;
 mod settled;
 mod settled_reading;
@@ -48,7 +46,6 @@ pub use first_late::shown_first_late;
 pub use late::shown_late;
 pub use latest::{ShownLatest, shown_latest};
 pub use least_rows::least_dates;
-pub use refuted_table::refutes_table;
 pub use settled::{ShownSettled, shown_settled};
 pub use table::shown_table;
 pub use table_faults::{TableFault, table_fault};

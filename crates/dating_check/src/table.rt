@@ -35,14 +35,14 @@ fn is_way_in(net: &Net, way: Option<Step>) -> bool
 }
 
 // Whether the places that the steps name are those of the net.
-pub(crate) fn are_ways_in(net: &Net, ways: &[Option<Step>]) -> bool
+fn are_ways_in(net: &Net, ways: &[Option<Step>]) -> bool
     ensures { IsTrue result → All (IsWayIn net.now) ways.now }
 {
     ways.iter().all(|way| is_way_in(net, *way))
 }
 
 // Whether the table has a date and a step for each number and transition.
-pub(crate) fn is_whole(net: &Net, numbers: u32, dates: &[Date], ways: &[Option<Step>]) -> bool
+fn is_whole(net: &Net, numbers: u32, dates: &[Date], ways: &[Option<Step>]) -> bool
     ensures dates { IsTrue result → numbers * length net.now.transitions ≤ length dates.now }
     ensures ways { IsTrue result → numbers * length net.now.transitions ≤ length ways.now }
 {
@@ -139,7 +139,7 @@ fn push_firings(
 }
 
 // The lines of the table.
-pub(crate) fn lines_of(alloc: Global, net: &Net, rows: TableRows<'_>) -> Result<String, AllocError>
+fn lines_of(alloc: Global, net: &Net, rows: TableRows<'_>) -> Result<String, AllocError>
     requires width { rows.width ≡ length net.now.transitions }
     requires dates { rows.numbers * rows.width ≤ length rows.dates.now }
     requires ways { rows.numbers * rows.width ≤ length rows.ways.now }

@@ -14,7 +14,7 @@ use word_lines::{lines_of, number_of, text_at, words_of};
 
 // Up to which number a table goes, and the lines of its text.
 #[derive(Drop)]
-pub(crate) struct TableLines<'t> {
+pub(crate) struct TableRead<'t> {
     pub(crate) numbers: u32,
     pub(crate) lines: Vec<&'t str>,
 }
@@ -124,7 +124,7 @@ pub(crate) fn table_lines<'t>(
     alloc: Global,
     net: &Net,
     text: &'t str,
-) -> Result<Option<TableLines<'t>>, AllocError>
+) -> Result<Option<TableRead<'t>>, AllocError>
     ensures { IfOk result (λ read. ReadsTable net.now text.now
         (option_map (λ table. (table.numbers, map (λ x. x.now) table.lines.items)) read)) }
 {
@@ -143,7 +143,7 @@ pub(crate) fn table_lines<'t>(
     if !are_table_lines(alloc, net, lines, numbers)? {
         return Ok(None);
     }
-    Ok(Some(TableLines {
+    Ok(Some(TableRead {
         numbers,
         lines: read,
     }))

@@ -23,7 +23,7 @@ path material 1 by feed saw 1 by to_drill drill 1 by drill_free drill 2 by to_sh
 ";
 
 // The files of the shelf, by name.
-const FILES: [(&str, &[u8]); 32] = [
+const FILES: [(&str, &[u8]); 33] = [
     (
         "loop",
         b"transition = [{ name = \"a\" }, { name = \"b\" }]
@@ -93,6 +93,7 @@ place = [
     ),
     ("size", b"size ba 3/1 extra 1\ncircuit ab ba\n"),
     ("due", b"b,1,10\n"),
+    ("more due", b"b,1,10\nb,2,20\n"),
     (
         "plan",
         b"latest inputs for 1 firings\nlatest a 1 7 by ab\nlatest b 1 10 due\n",
@@ -141,7 +142,7 @@ place = [
 // The words of a call, how it ends, and what it writes.
 type Call<'a> = (&'a [&'a str], AuditStatus, &'a str);
 
-const CALLS: [Call<'static>; 43] = [
+const CALLS: [Call<'static>; 44] = [
     (&["loop", "live"], AuditStatus::Shown, "shown live\n"),
     (
         &["loop", "other counts"],
@@ -233,7 +234,12 @@ const CALLS: [Call<'static>; 43] = [
     (
         &["loop", "other plan", "due"],
         AuditStatus::Refuted,
-        "refuted latest inputs for 1 firings\nrefuted latest a 1 6 by ab\nrefuted latest b 1 10 due\n",
+        "refuted latest inputs for 1 firings\nrefuted latest a 1 6 by ab\n",
+    ),
+    (
+        &["loop", "plan", "more due"],
+        AuditStatus::Refuted,
+        "refuted latest inputs for 1 firings\n",
     ),
     (
         &["loop", "other step", "due"],

@@ -1,5 +1,5 @@
 //! The table of latest dates.
-use dating_check::{TableFault, refutes_table, shown_table, table_fault};
+use dating_check::{TableFault, shown_table, table_fault};
 use example_nets::{SHOP, ask_net, due_rows};
 use std::alloc::Global;
 use std::test::Fail;
@@ -22,8 +22,8 @@ latest ship 2 40 due
 latest ship 3 free
 ";
 
-// Due dates, a text, the number that it shows, whether it is refuted, and what is false in it.
-type Table<'a> = (&'a str, &'a str, Option<u32>, bool, Option<TableFault>);
+// Due dates, a text, the number that it shows, and what is false in it.
+type Table<'a> = (&'a str, &'a str, Option<u32>, Option<TableFault>);
 
 // That the line of the first firing of material is false, which is the first line.
 const MATERIAL: TableFault = TableFault::Line {
@@ -46,16 +46,16 @@ const THIRD_SAW: TableFault = TableFault::Line {
     line: 6,
 };
 
-const TABLES: [Table<'static>; 12] = [
-    ("ship,2,40\ndrill,3,36\n", PLAN, Some(3), false, None),
-    ("ship,2,40\ndrill,3,37\n", PLAN, None, true, Some(MATERIAL)),
+const TABLES: [Table<'static>; 13] = [
+    ("ship,2,40\ndrill,3,36\n", PLAN, Some(3), None),
+    ("ship,2,40\ndrill,3,37\n", PLAN, None, Some(MATERIAL)),
     (
         "ship,2,40\ndrill,3,36\nship,4,90\n",
         PLAN,
         None,
-        true,
         Some(TableFault::OtherNumbers),
     ),
+    ("", PLAN, None, Some(TableFault::OtherNumbers)),
     (
         "ship,2,40\ndrill,3,36\n",
         "latest inputs for 3 firings
@@ -73,7 +73,6 @@ latest ship 2 40 due
 latest ship 3 free
 ",
         None,
-        true,
         Some(THIRD_SAW),
     ),
     // what no inputs keep shows nothing, and no table with another step, date or role
@@ -86,7 +85,6 @@ latest drill 1 7 by to_ship
 latest ship 1 15 due
 ",
         Some(1),
-        false,
         None,
     ),
     (
@@ -98,7 +96,6 @@ latest drill 1 6 by to_ship
 latest ship 1 14 due
 ",
         None,
-        true,
         Some(TableFault::Late),
     ),
     (
@@ -110,7 +107,6 @@ latest drill 1 7 by to_ship
 latest ship 1 15 due
 ",
         None,
-        true,
         Some(SAW),
     ),
     (
@@ -122,7 +118,6 @@ latest drill 1 soon
 latest ship 1 15 due
 ",
         None,
-        false,
         Some(SAW),
     ),
     (
@@ -134,7 +129,6 @@ latest drill 1 7 by to_ship
 latest ship 1 15 due
 ",
         None,
-        true,
         Some(MATERIAL),
     ),
     (
@@ -146,7 +140,6 @@ latest drill 1 7 by to_ship
 latest ship 1 15 due
 ",
         None,
-        false,
         None,
     ),
     (
@@ -158,7 +151,6 @@ latest drill 1 7 next
 latest ship 1 15 due
 ",
         None,
-        false,
         None,
     ),
     (
@@ -170,17 +162,15 @@ latest drill 1 7 by to_ship
 latest ship 1 15 due
 ",
         None,
-        false,
         None,
     ),
 ];
 
 // Whether the text of a row shows so of the shop with these due dates.
 fn is_so(alloc: Global, shop: &Net, due: &Due, row: &Table<'_>) -> Result<bool, OutOfMemory> {
-    let (_, text, number, refuted, fault) = *row;
+    let (_, text, number, fault) = *row;
     Ok(
         shown_table(alloc, shop, due, text)? == number
-            && refutes_table(alloc, shop, due, text)? == refuted
             && table_fault(alloc, shop, due, text)? == fault,
     )
 }

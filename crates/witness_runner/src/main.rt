@@ -4,10 +4,11 @@
 //! that `teg check`, `list`, `cycle`, `dates`, `date`, `slack`, `size`, `bound`, `jit` or `timetable`
 //! printed of it, for `jit` the due file, for `date` what `teg list` printed of at least as many
 //! firings, and for `timetable` its period and its file. It prints the first line of the answer, of a
-//! bound each line, of a table of latest dates each line that tells a date, of delays that are kept that line and the circuit, and
-//! of delays that die out the line that says so, each behind what is found of it: `shown`,
-//! `refuted`, `not shown` or `no checker`. Behind the first line of a list that is refuted it prints
-//! the first row that is wrong. Further questions may follow, each behind `--`; of one
+//! bound each line, of a table of latest dates each line that tells a date, of delays that are kept
+//! that line and the circuit, and of delays that die out the line that says so, each behind what is
+//! found of it: `shown`, `refuted`, `not shown` or `no checker`. Of a list or a table with a wrong line
+//! it prints the first line and the first that is wrong, of a table that does not go up to the greatest
+//! number that is due the first line alone. Further questions may follow, each behind `--`; of one
 //! whose file is not read, or says no net, text or rows, it prints `not read` and the name of the
 //! answer. `-` is standard input.
 //!
