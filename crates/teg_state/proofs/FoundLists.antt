@@ -40,6 +40,7 @@ list_tells net t l ok i e =
     let rules : IsInputOf net l = found_rules net net.inputs t l ok.each_input e in
     let own : IsInputDates l (input_date net t) = subst (λ o. IsInputDates l (date_by_list o)) e (IsInputDates-list_date l rules.again) in
     record {
+      listed = subst (λ j. list_of_input net j ≡ Some l) (sym (found_is net.inputs t l e)) (sym e);
       is_input = rules.is_input;
       rule = rules.again;
       dates = subst (λ j. IsInputDates l (input_date net j)) (sym (found_is net.inputs t l e)) own;

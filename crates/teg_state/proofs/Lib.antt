@@ -2,3 +2,4 @@ pub mod RunSteps
 pub mod LeftPlaces
 pub mod JoinedLists
 pub mod FoundLists
+pub mod FarLists

@@ -1,8 +1,9 @@
 -- The dates of inputs from their next firings on, none before now, as lists.
-use Rattle.std.specs.Prelude.{ℕ, ◌+◌, ◌<◌, ◌≤◌, ◌≡◌, ◌⊎◌, List, Option, Some, None, option_map, max, slice_index, length, All, Any, ◌-◌}
+use Rattle.std.specs.Prelude.{ℕ, ◌+◌, ◌<◌, ◌≤◌, ◌≡◌, ◌⊎◌, List, Option, Some, None, IfSome, option_map, max, slice_index, length, All, Any, ◌-◌}
 use Rattle.teg_net.specs.declared.entries.Again.{Again}
 use Rattle.teg_net.specs.declared.entries.InputList.{InputList}
-use Rattle.teg_net.specs.Inputs.{IsInputDates, input_date}
+use Rattle.teg_net.specs.Inputs.{IsInputDates, input_date, list_of_input}
+use Rattle.teg_net.specs.Limits.{greatest_input_date, most_input_dates}
 use Rattle.teg_net.specs.Nets.{NetLists, IsInput, EndsOrGoesOn}
 use Rattle.run_laws.specs.declared.fired.Fired.{Fired}
 use Rattle.state_laws.specs.NetsLeft.{count_in}
@@ -21,6 +22,7 @@ list_with l dates = record { transition = l.transition; dates = dates; again = l
 
 -- a list of an input of the net, which tells its dates
 pub record IsListOf (net : NetLists) (l : InputList) : Type 0 where
+  pub listed : list_of_input net l.transition.index ≡ Some l
   pub is_input : IsInput net l.transition.index
   pub rule : EndsOrGoesOn l.dates l.again
   pub dates : IsInputDates l (input_date net l.transition.index)
@@ -34,6 +36,25 @@ IsJoined (Some a) long next count clear = (long ≤ next) × (a.every ≤ count)
 -- a date that is there, and not before now
 abbrev pub IsClear : ℕ → Option ℕ → Type 0
 IsClear now date = (d : ℕ) × (date ≡ Some d) × (now ≤ d)
+
+-- the last dates of the first n from now on, so many, are there and not before now
+abbrev pub AreClear : NetLists → List Fired → ℕ → ℕ → ℕ → ℕ → Type 0
+AreClear net run now t n many = (k : ℕ) → k ≤ n → n < k + many → IsClear now (input_date net t (count_in run t + k))
+
+-- the first n dates from now on tell all that follow as the list goes on: its own dates are past, and those that repeat are not before now,
+-- or do not move
+abbrev pub TellAll : NetLists → List Fired → ℕ → InputList → Option Again → ℕ → Type 0
+TellAll net run now l None n = length l.dates ≤ count_in run l.transition.index + n
+TellAll net run now l (Some a) n =
+    (length l.dates ≤ count_in run l.transition.index + n) × (a.every ≤ n) × ((a.gap ≡ 0) ⊎ AreClear net run now l.transition.index n a.every)
+
+-- one of the first n dates from now on is no date up to the greatest of a list
+abbrev pub IsOneFar : NetLists → List Fired → ℕ → ℕ → Type 0
+IsOneFar net run t n = (k : ℕ) × (1 ≤ k) × (k ≤ n) × IfSome (input_date net t (count_in run t + k)) (λ d. greatest_input_date < d)
+
+-- the dates from now on are no list within the limits: wherever the first ones tell all that follow, one of them is past the greatest date
+abbrev pub IsFarList : NetLists → List Fired → ℕ → InputList → Type 0
+IsFarList net run now l = (n : ℕ) → n ≤ most_input_dates → TellAll net run now l l.again n → IsOneFar net run l.transition.index n
 
 -- the dates of the first firings to come, of which the last ones are not before now
 pub record AreBegun (net : NetLists) (run : List Fired) (now t : ℕ) (dates : List ℕ) (clear : ℕ) : Type 0 where

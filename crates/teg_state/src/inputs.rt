@@ -1,6 +1,7 @@
 //! The input lists that a run leaves.
-ghost use Rattle.std.specs.Prelude.{◌≡◌, ◌<◌, ◌≤◌, ◌^◌, IfOk, IfErr, option_copied, true, length};
-ghost use Rattle.teg_net.specs.Inputs.{IsInputDates, list_of_input};
+ghost use Rattle.std.specs.Prelude.{◌≡◌, ◌<◌, ◌≤◌, ◌^◌, Decides, IfErr, IfNone, IfOk, IfSome, Some, length, option_copied};
+ghost use Rattle.teg_net.specs.Inputs.{IsInputDates, input_date, list_of_input};
+ghost use Rattle.teg_net.specs.Limits.{greatest_firing_number, greatest_input_date};
 ghost use Rattle.teg_net.specs.Nets.{IsInput};
 ghost use Rattle.teg_state.specs.WhyNotLeft.{IsWhyNotLeft};
 ghost use Rattle.teg_state.specs.LeftLists.{AreListsLeft, IsJoined, IsListOf, left_dates, list_with};
@@ -24,7 +25,7 @@ fn list_of(net: &Net, transition: TransitionId) -> Option<&InputList>
 
 // Whether so many dates, of which the last ones so many are not before now, tell all that follow.
 fn is_joined(again: Option<Again>, long: u64, next: u64, count: u64, clear: u64) -> bool
-    ensures { result ≡ true → IsJoined again long next count clear }
+    ensures { Decides result (IsJoined again long next count clear) }
 {
     if next < long {
         return false;
@@ -35,6 +36,23 @@ fn is_joined(again: Option<Again>, long: u64, next: u64, count: u64, clear: u64)
             let every = u64::from(again.every);
             every <= count && (again.gap == 0 || every <= clear)
         }
+    }
+}
+
+// The date of the firing of an input, where it has one that a list may hold.
+fn near_date(net: &Net, transition: TransitionId, number: u64) -> Option<u64>
+    requires input { IsInput net.now transition.index }
+    requires first { 1 ≤ number }
+    requires last { number ≤ greatest_firing_number }
+    ensures some { IfSome result (λ date. Some date ≡ input_date net.now transition.index number) }
+    ensures none { IfNone result (IfSome (input_date net.now transition.index number)
+        (λ date. greatest_input_date < date)) }
+{
+    let date = net.input_date(transition, number)?;
+    if u128::from(GREATEST_INPUT_DATE) < date {
+        None
+    } else {
+        Some(date as u64)
     }
 }
 
@@ -61,14 +79,11 @@ fn dates_left(
         if is_joined(list.again, long, fired + count, count, clear) {
             return Ok(dates);
         }
-        let date = match net.input_date(list.transition, fired + count + 1) {
-            Some(date) => date,
-            None => break,
+        let Some(date) = near_date(net, list.transition, fired + count + 1) else {
+            return Err(NotLeft::FarInput {
+                transition: list.transition,
+            });
         };
-        if u128::from(GREATEST_INPUT_DATE) < date {
-            break;
-        }
-        let date = date as u64;
         dates.push(now.max(date))?;
         clear = if now <= date { clear + 1 } else { 0 };
     }
