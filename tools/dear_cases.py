@@ -503,6 +503,10 @@ def settled_cases():
     for tokens, bound in ([101, 103], 6_207_001), ([991, 997], 7_995_001):
         yield (f"bound: own places of {tokens[0]} and {tokens[1]} tokens", ["bound", "net"], {"net": joined_own_places(tokens).text()},
                DONE, f"bound {bound}\nsettled after 0 period {tokens[0] * tokens[1]}\n")
+    for tokens in [5, 7, 8, 9, 11, 13], [101, 103, 107], [500, 499, 491], [997, 991, 983, 977]:
+        several = joined_own_places(tokens)
+        yield (f"bound: {len(tokens)} own places of {min(tokens)} to {max(tokens)} tokens", ["bound", "net"], {"net": several.text()},
+               DONE, bound_text(several, 1, 1, 0, math.lcm(*tokens)))
     for slow in 3_600, 999_999_999:
         room, ahead = 1_000, 5
         late = two_rates(slow, room, ahead)

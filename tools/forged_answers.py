@@ -4,7 +4,7 @@
     tools/forged_answers.py [--teg PATH] [--runner PATH]
 
 PATH is the built program, or that of the checker; where none is named it is the one that `rt ci` leaves. Sixteen nets, those of
-examples/, drawn ones and one without a circuit, are asked some hundred and seventy questions of the commands that the checker
+examples/, drawn ones and one without a circuit, are asked some hundred and eighty questions of the commands that the checker
 reads. Of each answer a number, a name, a word or a line is changed, left out, doubled or moved, one at a time, and each text is
 handed to the checker.
 
@@ -90,6 +90,7 @@ def questions(net, folder):
     base = f"{folder}/{os.path.basename(net)}"
     yield ["check", net], []
     yield ["cycle", net], []
+    yield ["cycle", net, "--rounds"], []
     yield ["dates", net], []
     yield ["list", net, "3"], []
     yield ["slack", net], []
@@ -101,6 +102,8 @@ def questions(net, folder):
         yield ["jit", net, due], [due]
         late = written(f"{base}.late.csv", [f"{asked[-1]},{number},{number}" for number in (2, 3)])
         yield ["jit", net, late], [late]
+        orders = written(f"{base}.orders.csv", [f"{name},2,4000,9000,11000" for name in asked[-2:]])
+        yield ["forever", net, orders], [orders]
     table = f"{TOP}/examples/railway_late.csv"
     if net.endswith("/railway.toml"):
         for period in ("24", "30", "32"):

@@ -36,15 +36,16 @@ from common import TOP, Status
 
 
 # What asks for an answer that a checker reads, and how such answers begin.
-ASKS = re.compile(r"\./(?:teg|try) (?:check|list|cycle|dates|slack|size|bound|jit|timetable)(?: [\w./]+)+")
+ASKS = re.compile(r"\./(?:teg|try) (?:check|list|cycle|dates|slack|size|bound|jit|forever|timetable)(?: [\w./]+)+(?: --rounds)?")
 TABLE = "latest inputs for "
+FOREVER = "latest inputs forever\n"
 SETTLED = "settled after "
 LISTED = "dates of "
 NO_CIRCUIT = "no circuit\n"
 SLACK = "\nplace "
 BOUND = "bound "
 KEPT = re.compile(r"settled after .*\nkept\n")
-CLAIMS = ("live\n", "refused: token-free circuit ", "cycle time ", NO_CIRCUIT, "size ", BOUND, "no bound: ", "late ", SETTLED, LISTED, TABLE)
+CLAIMS = ("live\n", "refused: token-free circuit ", "cycle time ", NO_CIRCUIT, "size ", BOUND, "no bound: ", "late ", SETTLED, LISTED, TABLE, FOREVER)
 
 
 def blocks_of(text):
@@ -77,16 +78,17 @@ def indented(text):
 
 
 def raised(line):
-    """The line with its last number made greater by one, and with its last date before a step."""
-    for number in (r"(.* )(\d+)", r"(.* )(\d+)(?= step )"):
+    """The line with its last number made greater by one, and with the number before a step and the date before a period and a step."""
+    for number in (r"(.* )(\d+)", r"(.* )(\d+)(?= step )", r"(.* )(\d+)(?= period \d+ step )"):
         if re.match(number, line):
             yield re.sub(number, lambda found: f"{found[1]}{int(found[2]) + 1}", line, count=1)
 
 
 def changed(text):
     """The answer with a number made greater by one, the last of a line: of the table of latest dates in each line that tells
-    a date, of settled dates, delays that die out, lists, slacks and bounds in each line, and else in the first line that has one. The
-    circuit of delays that are kept, and one that stands alone, loses its last place; that there is no circuit is told twice."""
+    a date, of settled dates, releases without end, delays that die out, lists, slacks and bounds in each line, and else in the
+    first line that has one. The circuit of delays that are kept, and one that stands alone, loses its last place; that there is
+    no circuit is told twice."""
     lines = text.splitlines(keepends=True)
     numbered = [at for at, line in enumerate(lines) if re.search(r" \d+\b", line)]
     if KEPT.match(text):
@@ -99,7 +101,7 @@ def changed(text):
         numbered = [at for at in numbered[1:] if not lines[at].endswith(" free\n")]
     elif not numbered:
         yield re.sub(r" \S+\n", "\n", text, count=1)
-    elif not text.startswith((SETTLED, LISTED, BOUND)) and SLACK not in text:
+    elif not text.startswith((SETTLED, LISTED, BOUND, FOREVER)) and SLACK not in text:
         numbered = numbered[:1]
     for at in numbered:
         for other in raised(lines[at]):
@@ -111,9 +113,9 @@ def odd_witnesses(command, folder):
     for asked in ASKS.findall(command):
         words = asked.split()
         text = run(words, folder)[1]
-        if not text.startswith(CLAIMS):
+        if not text.startswith(FOREVER if words[1] == "forever" else CLAIMS):
             continue
-        further = {"jit": words[3:], "timetable": words[3:5]}
+        further = {"jit": words[3:], "forever": words[3:], "timetable": words[3:5]}
         files = [words[2], "answer.txt", *further.get(words[1], [])]
         odd = 0
         for other, is_shown in [(text, True), *((it, False) for it in changed(text))]:

@@ -11,6 +11,7 @@ use Rattle.witness_check.specs.Liveness.{TellsDeadlock, TellsLive}
 use Rattle.pace_check.specs.ShownCycles.{IsShownPace}
 use Rattle.pace_check.specs.ShownSizes.{IsShownSize}
 use Rattle.pace_check.specs.declared.sizes.ShownSize.{ShownSize}
+use Rattle.round_check.specs.ShownRounds.{IsShownRounds}
 use Rattle.dating_check.specs.FirstLate.{IsShownFirstLate}
 use Rattle.dating_check.specs.ShownForms.{IsShownSettled}
 use Rattle.dating_check.specs.ShownTables.{IsShownTable}
@@ -19,6 +20,7 @@ use Rattle.dating_check.specs.declared.table_faults.TableFault.{TableFault}
 use Rattle.dating_check.specs.declared.table_faults.TableFault.TheVariants.{OtherNumbers, Line, Late}
 use Rattle.dating_check.specs.declared.settled.ShownSettled.{ShownSettled}
 use Rattle.delay_check.specs.ShownDelays.{IsShownKept, IsShownRecovered}
+use Rattle.forever_check.specs.ShownReleases.{IsShownForever}
 use Rattle.bound_check.specs.ShownBounds.{IsShownBound}
 use Rattle.bound_check.specs.declared.bound.ShownBound.{ShownBound}
 use Rattle.answer_check.specs.NoCircuits.{IsShownNoCircuit}
@@ -26,10 +28,11 @@ use Rattle.answer_check.specs.ShownDates.{IsShownDate}
 use Rattle.answer_check.specs.ShownLists.{IsListText, IsRefutedList, IsShownList}
 use Rattle.answer_check.specs.ShownSlacks.{IsShownSlack}
 use Rattle.answer_check.specs.declared.date.ShownDate.{ShownDate}
+use Rattle.answer_audit.specs.declared.files.EndlessDue.{EndlessDue}
 use Rattle.answer_audit.specs.declared.finding.Finding.{Finding}
 use Rattle.answer_audit.specs.declared.finding.Finding.TheVariants.{Shown, Refuted, WrongLine, NotShown, NoChecker}
 use Rattle.answer_audit.specs.declared.kinds.Alone.{Alone}
-use Rattle.answer_audit.specs.declared.kinds.Alone.TheVariants.{Live, Deadlock, Listed, NoCircuit, Slack, Cycle, Settled, Size, Bound}
+use Rattle.answer_audit.specs.declared.kinds.Alone.TheVariants.{Live, Deadlock, Listed, NoCircuit, Slack, Cycle, Rounds, Settled, Size, Bound}
 
 -- the text is an answer of this kind that is shown on the net alone
 abbrev pub IsShownAlone : NetLists → Alone → List ℕ → Type 0
@@ -39,6 +42,7 @@ IsShownAlone net Listed text = (count : ℕ) × IsShownList net text count
 IsShownAlone net NoCircuit text = IsShownNoCircuit net text
 IsShownAlone net Slack text = (ratio : Fraction) × IsShownSlack net text ratio
 IsShownAlone net Cycle text = (ratio : Fraction) × IsShownPace net text ratio
+IsShownAlone net Rounds text = (ratio : Fraction) × IsShownRounds net text ratio
 IsShownAlone net Settled text = (shown : ShownSettled) × IsShownSettled net text shown
 IsShownAlone net Size text = (shown : ShownSize) × IsLive net × IsShownSize net text shown
 IsShownAlone net Bound text = (shown : ShownBound) × IsShownBound net text shown
@@ -46,6 +50,10 @@ IsShownAlone net Bound text = (shown : ShownBound) × IsShownBound net text show
 -- the text is the table of latest dates for these due dates
 abbrev pub IsShownPlanFor : NetLists → List ℕ → Due → Type 0
 IsShownPlanFor net text due = (numbers : ℕ) × IsShownTable net due.rows.items text numbers
+
+-- the text tells the latest inputs for these due dates without end
+abbrev pub IsShownReleasesFor : NetLists → List ℕ → EndlessDue → Type 0
+IsShownReleasesFor net text due = IsShownForever net due.rows.items text
 
 -- the text tells the first of these due dates that comes late
 abbrev pub IsShownLateFor : NetLists → List ℕ → Due → Type 0

@@ -1,11 +1,11 @@
 -- What an answer is, by its first words and by what it was asked with.
-use Rattle.std.specs.Prelude.{ℕ, Bool, ◌==◌, ◌&&◌, List, [], Option, Some, None, bytes_eq, codes, slice_get, slice_index_or, if◌then◌else◌}
+use Rattle.std.specs.Prelude.{ℕ, Bool, ◌==◌, ◌&&◌, ◌-◌, List, [], Option, Some, None, bytes_eq, codes, length, slice_get, slice_index_or, if◌then◌else◌}
 use Rattle.std.specs.List.{slice_split}
 use Rattle.std.specs.Str.Lines.{lines}
 use Rattle.answer_audit.specs.declared.kinds.Alone.{Alone}
-use Rattle.answer_audit.specs.declared.kinds.Alone.TheVariants.{Live, Deadlock, Listed, NoCircuit, Slack, Cycle, Settled, Size, Bound}
+use Rattle.answer_audit.specs.declared.kinds.Alone.TheVariants.{Live, Deadlock, Listed, NoCircuit, Slack, Cycle, Rounds, Settled, Size, Bound}
 use Rattle.answer_audit.specs.declared.kinds.Kind.{Kind}
-use Rattle.answer_audit.specs.declared.kinds.Kind.TheVariants.{OfNet, Plan, LateRow, OneDate, Kept, Recovered}
+use Rattle.answer_audit.specs.declared.kinds.Kind.TheVariants.{OfNet, Plan, Releases, LateRow, OneDate, Kept, Recovered}
 use Rattle.answer_audit.specs.declared.question.Beside.{Beside}
 use Rattle.answer_audit.specs.declared.question.Beside.TheVariants.{Nothing, File, Timetable}
 
@@ -29,17 +29,21 @@ none_told second =
     else (if bytes_eq second (codes "bound:") then Some Bound
     else None)
 
--- an answer that begins with `cycle`, by the first word of its second line
-abbrev pub pace_told : List ℕ → Alone
-pace_told below = if bytes_eq below (codes "place") then Slack else Cycle
+-- cycle times, by the first word of the last line: with the rounds or without
+abbrev pub times_told : List ℕ → Alone
+times_told last = if bytes_eq last (codes "choice") then Rounds else Cycle
 
--- an answer that was asked with the net alone, by its first two words and the first word of its second line
-abbrev pub told_alone : (first second below : List ℕ) → Option Alone
-told_alone first second below =
+-- an answer that begins with `cycle`, by the first words of its second line and of its last one
+abbrev pub pace_told : (below last : List ℕ) → Alone
+pace_told below last = if bytes_eq below (codes "place") then Slack else times_told last
+
+-- an answer that was asked with the net alone, by its first two words and the first words of its second line and of its last one
+abbrev pub told_alone : (first second below last : List ℕ) → Option Alone
+told_alone first second below last =
     if bytes_eq first (codes "live") then Some Live
     else (if bytes_eq first (codes "dates") then Some Listed
     else (if bytes_eq first (codes "no") then none_told second
-    else (if bytes_eq first (codes "cycle") then Some (pace_told below)
+    else (if bytes_eq first (codes "cycle") then Some (pace_told below last)
     else (if bytes_eq first (codes "settled") then Some Settled
     else (if bytes_eq first (codes "size") then Some Size
     else (if bytes_eq first (codes "bound") then Some Bound
@@ -50,11 +54,24 @@ abbrev pub of_net : Option Alone → Option Kind
 of_net None = None
 of_net (Some kind) = Some (OfNet kind)
 
--- an answer that was asked with a file: a table of latest dates, a late row, or one date
-abbrev pub told_with_file : (first : List ℕ) → Option Kind
-told_with_file first =
-    if bytes_eq first (codes "latest") then Some Plan
-    else (if bytes_eq first (codes "late") then Some LateRow
+-- an answer of latest dates, by its first line: releases without end, or a table
+abbrev pub plan_told : List ℕ → Kind
+plan_told line = if bytes_eq line (codes "latest inputs forever") then Releases else Plan
+
+-- an answer of a late firing, by the first word of its second line: one with a path, or with a date from which it leads; one without, as
+-- `forever` tells it, no checker reads
+abbrev pub late_told : List ℕ → Option Kind
+late_told below =
+    if bytes_eq below (codes "path") then Some LateRow
+    else (if bytes_eq below (codes "from") then Some LateRow
+    else None)
+
+-- an answer that was asked with a file, by its first line, the first word of it and that of the second: latest dates, a late row, or one
+-- date
+abbrev pub told_with_file : (line first below : List ℕ) → Option Kind
+told_with_file line first below =
+    if bytes_eq first (codes "latest") then Some (plan_told line)
+    else (if bytes_eq first (codes "late") then late_told below
     else (if bytes_eq first (codes "date") then Some OneDate
     else None))
 
@@ -71,20 +88,21 @@ abbrev pub told_with_table : (first below : List ℕ) → Option Kind
 told_with_table first below = if bytes_eq first (codes "settled") then delays_told below else None
 
 -- an answer that tells no circuit without tokens, by what it was asked with
-abbrev pub told_beside : Beside → (first second below : List ℕ) → Option Kind
-told_beside Nothing first second below = of_net (told_alone first second below)
-told_beside (File name) first second below = told_with_file first
-told_beside (Timetable period name) first second below = told_with_table first below
+abbrev pub told_beside : Beside → (line first second below last : List ℕ) → Option Kind
+told_beside Nothing line first second below last = of_net (told_alone first second below last)
+told_beside (File name) line first second below last = told_with_file line first below
+told_beside (Timetable period name) line first second below last = told_with_table first below
 
 -- what an answer is; none where no checker reads it
-abbrev pub kind_told : Beside → (first second below : List ℕ) → Option Kind
-kind_told beside first second below =
-    if is_deadlock_told first second then Some (OfNet Deadlock) else told_beside beside first second below
+abbrev pub kind_told : Beside → (line first second below last : List ℕ) → Option Kind
+kind_told beside line first second below last =
+    if is_deadlock_told first second then Some (OfNet Deadlock) else told_beside beside line first second below last
 
 -- what an answer of these lines is
 abbrev pub kind_of_lines : Beside → List (List ℕ) → Option Kind
 kind_of_lines beside ls =
-    kind_told beside (word_in (slice_index_or ls 0 []) 0) (word_in (slice_index_or ls 0 []) 1) (word_in (slice_index_or ls 1 []) 0)
+    kind_told beside (slice_index_or ls 0 []) (word_in (slice_index_or ls 0 []) 0) (word_in (slice_index_or ls 0 []) 1) (word_in (slice_index_or ls 1 []) 0)
+    (word_in (slice_index_or ls (length ls - 1) []) 0)
 
 -- what an answer of this text is
 abbrev pub kind_of_text : Beside → List ℕ → Option Kind

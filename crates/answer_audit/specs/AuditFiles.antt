@@ -3,6 +3,7 @@ use Rattle.std.specs.Prelude.{ℕ, ◌≡◌, ◌≢◌, List, Option, Some, Non
 use Rattle.std.specs.Global.{Global}
 use Rattle.std.specs.Str.{IsUtf8}
 use Rattle.delay_laws.specs.declared.table.Timetable.{Timetable}
+use Rattle.endless_due.specs.EndlessFiles.{endless_of}
 use Rattle.teg_due.specs.DueFileRows.{due_of}
 use Rattle.teg_due.specs.declared.rows.Due.{Due}
 use Rattle.teg_net.specs.Nets.{NetLists}
@@ -11,6 +12,7 @@ use Rattle.teg_outside.specs.declared.shelf.ShelfFault.{ShelfFault}
 use Rattle.teg_outside.specs.declared.shelf.ShelfFault.TheVariants.{OutOfMemory}
 use Rattle.teg_reader.specs.Documents.{document}
 use Rattle.timetable_files.specs.TimetableFiles.{timetable_of, lists_of_table}
+use Rattle.answer_audit.specs.declared.files.EndlessDue.{EndlessDue}
 
 -- the most bytes that an answer may have
 abbrev pub most_answer_bytes : ℕ
@@ -31,6 +33,10 @@ SaysText bytes text = IsUtf8 bytes × (string_bytes text ≡ bytes)
 -- the bytes of a due file say these rows of the net
 abbrev pub SaysDue : NetLists → List ℕ → Due → Type 0
 SaysDue net bytes due = due_of net bytes ≡ Ok due.rows.items
+
+-- the bytes of a due file without end say these rows of the net
+abbrev pub SaysEndlessDue : NetLists → List ℕ → EndlessDue → Type 0
+SaysEndlessDue net bytes due = endless_of net bytes ≡ Ok due.rows.items
 
 -- the bytes of a timetable's file say this timetable of the net
 abbrev pub SaysTable : NetLists → List ℕ → Timetable → Type 0

@@ -6,15 +6,15 @@ use Rattle.std.specs.Str.Lines.{lines}
 use Rattle.csv_records.specs.Records.{most_file_bytes}
 use Rattle.teg_net.specs.Nets.{NetLists}
 use Rattle.teg_outside.specs.Shelves.{ShelfState}
-use Rattle.answer_audit.specs.AnswerFindings.{IsFound, IsFoundAlone, IsPlanFound, IsShownLateFor, IsShownDateOf, IsShownKeptFor, IsShownRecoveredFor}
+use Rattle.answer_audit.specs.AnswerFindings.{IsFound, IsFoundAlone, IsPlanFound, IsShownLateFor, IsShownReleasesFor, IsShownDateOf, IsShownKeptFor, IsShownRecoveredFor}
 use Rattle.answer_audit.specs.AnswerWords.{kind_of_text}
-use Rattle.answer_audit.specs.AuditFiles.{OpensFileOf, SaysNetOf, SaysText, SaysDue, SaysTable, most_answer_bytes}
+use Rattle.answer_audit.specs.AuditFiles.{OpensFileOf, SaysNetOf, SaysText, SaysDue, SaysEndlessDue, SaysTable, most_answer_bytes}
 use Rattle.answer_audit.specs.Claims.{claims_text}
 use Rattle.answer_audit.specs.declared.finding.Finding.{Finding}
 use Rattle.answer_audit.specs.declared.finding.Finding.TheVariants.{NoChecker}
 use Rattle.answer_audit.specs.declared.kinds.Alone.{Alone}
 use Rattle.answer_audit.specs.declared.kinds.Kind.{Kind}
-use Rattle.answer_audit.specs.declared.kinds.Kind.TheVariants.{OfNet, Plan, LateRow, OneDate, Kept, Recovered}
+use Rattle.answer_audit.specs.declared.kinds.Kind.TheVariants.{OfNet, Plan, Releases, LateRow, OneDate, Kept, Recovered}
 use Rattle.answer_audit.specs.declared.question.Beside.{Beside}
 use Rattle.answer_audit.specs.declared.question.Beside.TheVariants.{File, Timetable}
 use Rattle.answer_audit.specs.declared.question.Question.{Question}
@@ -45,6 +45,12 @@ abbrev pub FindsPlan : NetLists → Beside → List ℕ → ShelfState → Shelf
 FindsPlan net (File name) text old new found = FindsByFile (SaysDue net) (IsPlanFound net text) name most_file_bytes old new found
 FindsPlan net beside text old new found = FindsNoChecker old new found
 
+-- what is found of releases without end, by the due file
+abbrev pub FindsReleases : NetLists → Beside → List ℕ → ShelfState → ShelfState → Option Finding → Type 0
+FindsReleases net (File name) text old new found =
+    FindsByFile (SaysEndlessDue net) (λ due. IsFound net (IsShownReleasesFor net text due)) name most_file_bytes old new found
+FindsReleases net beside text old new found = FindsNoChecker old new found
+
 -- what is found of a row that comes late, by the due file
 abbrev pub FindsLate : NetLists → Beside → List ℕ → ShelfState → ShelfState → Option Finding → Type 0
 FindsLate net (File name) text old new found = FindsByFile (SaysDue net) (λ due. IsFound net (IsShownLateFor net text due)) name most_file_bytes old new found
@@ -72,6 +78,7 @@ abbrev pub FindsOf : NetLists → Beside → Option Kind → List ℕ → ShelfS
 FindsOf net beside None text old new found = FindsNoChecker old new found
 FindsOf net beside (Some (OfNet kind)) text old new found = FindsAlone net kind text old new found
 FindsOf net beside (Some Plan) text old new found = FindsPlan net beside text old new found
+FindsOf net beside (Some Releases) text old new found = FindsReleases net beside text old new found
 FindsOf net beside (Some LateRow) text old new found = FindsLate net beside text old new found
 FindsOf net beside (Some OneDate) text old new found = FindsDate net beside text old new found
 FindsOf net beside (Some Kept) text old new found = FindsKept net beside text old new found

@@ -7,16 +7,18 @@ use Rattle.answer_audit.specs.declared.finding.Finding.{Finding}
 use Rattle.answer_audit.specs.declared.finding.Finding.TheVariants.{WrongLine}
 use Rattle.answer_audit.specs.declared.kinds.Alone.TheVariants.{Bound}
 use Rattle.answer_audit.specs.declared.kinds.Kind.{Kind}
-use Rattle.answer_audit.specs.declared.kinds.Kind.TheVariants.{OfNet, Plan, Kept, Recovered}
+use Rattle.answer_audit.specs.declared.kinds.Kind.TheVariants.{OfNet, Plan, Releases, Kept, Recovered}
 
 -- whether the line of a table tells no date
 abbrev pub is_free_line : List ℕ → Bool
 is_free_line line = bytes_eq (word_in line 3) (codes "free")
 
 -- whether the line of this number, counted from 0, claims something: of a table each that tells a date, of delays that are kept that
--- line and the circuit, of delays that die out the line that says so, of a bound each line, of each other answer the first
+-- line and the circuit, of delays that die out the line that says so, of releases without end and of a bound each line, of each other
+-- answer the first
 abbrev pub is_claim : Option Kind → ℕ → List ℕ → Bool
 is_claim (Some Plan) i line = not (is_free_line line)
+is_claim (Some Releases) i line = true
 is_claim (Some Kept) i line = nat_le 1 i && nat_le i 2
 is_claim (Some Recovered) i line = i == 1
 is_claim (Some (OfNet Bound)) i line = true

@@ -12,6 +12,7 @@ use answer_check::{refutes_list, shown_list, shown_no_circuit, shown_slack};
 use bound_check::{refutes_bound, shown_bound};
 use dating_check::shown_settled;
 use pace_check::{shown_pace, shown_size};
+use round_check::shown_rounds;
 use std::alloc::{AllocError, Global};
 use teg_net::{Net, OutOfMemory};
 use witness_check::{is_seen_live, shows_deadlock};
@@ -111,6 +112,16 @@ fn cycle_finding(alloc: Global, net: &Net, text: &str) -> Result<Finding, OutOfM
     }
 }
 
+// Of `cycle` with the rounds.
+fn rounds_finding(alloc: Global, net: &Net, text: &str) -> Result<Finding, OutOfMemory>
+    ensures { IfOk result (IsFound net.now (IsShownAlone net.now Alone.Rounds text.now)) }
+{
+    match shown_rounds(alloc, net, text)? {
+        Some(_) => Ok(Finding::Shown),
+        None => Ok(Finding::NotShown),
+    }
+}
+
 // Of `dates`.
 fn settled_finding(alloc: Global, net: &Net, text: &str) -> Result<Finding, OutOfMemory>
     ensures { IfOk result (IsFound net.now (IsShownAlone net.now Alone.Settled text.now)) }
@@ -162,6 +173,7 @@ fn live_net_finding(
         Alone::NoCircuit => no_circuit_finding(alloc, net, text),
         Alone::Slack => slack_finding(alloc, net, text),
         Alone::Cycle => cycle_finding(alloc, net, text),
+        Alone::Rounds => rounds_finding(alloc, net, text),
         Alone::Settled => settled_finding(alloc, net, text),
         Alone::Size => size_finding(alloc, net, text),
         Alone::Bound => bound_finding(alloc, net, text),

@@ -4,7 +4,7 @@ ghost use Rattle.answer_audit.specs.Audits.{Audits, AuditsNet, AuditsText, Finds
 ghost use Rattle.answer_audit.specs.AuditMeanings.{told_meant};
 
 use crate::alone::alone_finding;
-use crate::by_file::{find_date, find_kept, find_late, find_plan, find_recovered};
+use crate::by_file::{find_date, find_kept, find_late, find_plan, find_recovered, find_releases};
 use crate::claims::claims_of;
 use crate::files::{open_net, open_text};
 use crate::finding::Finding;
@@ -40,6 +40,7 @@ fn find<S: Shelf>(
             Ok(Some(finding))
         }
         Some(Kind::Plan) => find_plan(alloc, net, beside, text, shelf),
+        Some(Kind::Releases) => find_releases(alloc, net, beside, text, shelf),
         Some(Kind::LateRow) => find_late(alloc, net, beside, text, shelf),
         Some(Kind::OneDate) => find_date(alloc, net, beside, text, shelf),
         Some(Kind::Kept) => find_kept(alloc, net, beside, text, shelf),

@@ -23,7 +23,7 @@ fn is_claim(kind: Option<Kind>, index: usize, line: &str) -> bool
         Some(Kind::Plan) => !is_free(line),
         Some(Kind::Kept) => 1 <= index && index <= 2,
         Some(Kind::Recovered) => index == 1,
-        Some(Kind::OfNet(Alone::Bound)) => true,
+        Some(Kind::Releases | Kind::OfNet(Alone::Bound)) => true,
         _ => index == 0,
     }
 }

@@ -3,9 +3,10 @@ ghost use Rattle.std.specs.Prelude.{◌≡◌, ◌≤◌, IfOk, Ok, length};
 ghost use Rattle.csv_records.specs.Records.{most_file_bytes};
 ghost use Rattle.teg_outside.specs.Shelves.{Reads, replied};
 ghost use Rattle.teg_reader.specs.PassWalks.{is_memory};
-ghost use Rattle.answer_audit.specs.AuditFiles.{GivesFile, OpensFileOf, SaysDue, SaysNetOf, SaysTable, SaysText, file_named, most_answer_bytes};
+ghost use Rattle.answer_audit.specs.AuditFiles.{GivesFile, OpensFileOf, SaysDue, SaysEndlessDue, SaysNetOf, SaysTable, SaysText, file_named, most_answer_bytes};
 
 use delay_laws::Timetable;
+use endless_due::{EndlessRefusal, EndlessRow, read_endless};
 use std::alloc::Global;
 use teg_due::{Due, DueRefusal, read_due};
 use teg_net::{Net, OutOfMemory};
@@ -168,6 +169,55 @@ pub(crate) fn open_due<S: Shelf>(
 {
     let reply = fetch(alloc, name, MOST_BYTES, shelf);
     let due = due_given(alloc, net, reply)?;
+    Ok(due)
+}
+
+/// The rows of a due file without end.
+#[derive(Drop)]
+pub struct EndlessDue {
+    pub rows: Vec<EndlessRow>,
+}
+
+// The rows that the bytes of a due file without end say, if they say some.
+fn endless_said(alloc: Global, net: &Net, bytes: &[u8]) -> Result<Option<EndlessDue>, OutOfMemory>
+    requires { length bytes.now ≤ most_file_bytes }
+    ensures { IfOk result (GivesFile (SaysEndlessDue net.now) (Ok bytes.now)) }
+{
+    match read_endless(alloc, net, bytes) {
+        Ok(rows) => Ok(Some(EndlessDue { rows })),
+        Err(EndlessRefusal::OutOfMemory) => Err(OutOfMemory),
+        Err(_) => Ok(None),
+    }
+}
+
+// The rows that a reply gives, if it gives some.
+fn endless_given(
+    alloc: Global,
+    net: &Net,
+    reply: Result<Vec<u8>, ShelfFault>,
+) -> Result<Option<EndlessDue>, OutOfMemory>
+    requires { IfOk reply (λ bytes. length bytes.items ≤ most_file_bytes) }
+    ensures { IfOk result (GivesFile (SaysEndlessDue net.now) (replied reply)) }
+{
+    match reply {
+        Ok(bytes) => endless_said(alloc, net, &bytes),
+        Err(ShelfFault::OutOfMemory) => Err(OutOfMemory),
+        Err(ShelfFault::Failed | ShelfFault::TooLarge) => Ok(None),
+    }
+}
+
+// The rows of the due file without end of this name.
+pub(crate) fn open_endless<S: Shelf>(
+    alloc: Global,
+    net: &Net,
+    name: &str,
+    shelf: &mut S,
+) -> Result<Option<EndlessDue>, OutOfMemory>
+    ensures { IfOk result (OpensFileOf (SaysEndlessDue net.now) name.now most_file_bytes
+        (S.state shelf.old) (S.state shelf.new)) }
+{
+    let reply = fetch(alloc, name, MOST_BYTES, shelf);
+    let due = endless_given(alloc, net, reply)?;
     Ok(due)
 }
 

@@ -1,6 +1,6 @@
 //! What an answer is, by its first words and by what it was asked with.
-ghost use Rattle.std.specs.Prelude.{◌≡◌, map};
-ghost use Rattle.answer_audit.specs.AnswerWords.{delays_told, is_deadlock_told, kind_of_lines, kind_told, none_told, of_net, pace_told, told_alone, told_beside, told_with_file, told_with_table};
+ghost use Rattle.std.specs.Prelude.{◌≡◌, ◌-◌, [], length, map, slice_index_or};
+ghost use Rattle.answer_audit.specs.AnswerWords.{delays_told, is_deadlock_told, kind_of_lines, kind_told, late_told, none_told, of_net, pace_told, plan_told, told_alone, told_beside, told_with_file, told_with_table, times_told};
 
 use crate::question::Beside;
 use crate::words::word_at;
@@ -21,6 +21,8 @@ pub enum Alone {
     Slack,
     /// `cycle`.
     Cycle,
+    /// `cycle` with the rounds.
+    Rounds,
     /// `dates`.
     Settled,
     /// `size`.
@@ -36,6 +38,8 @@ pub enum Kind {
     OfNet(Alone),
     /// `jit`: latest dates.
     Plan,
+    /// `forever`: latest dates without end.
+    Releases,
     /// `jit`: a row that comes late.
     LateRow,
     /// `date`.
@@ -64,25 +68,35 @@ fn none_told(second: &str) -> Option<Alone>
     }
 }
 
-// An answer that begins with `cycle`.
-fn pace_told(below: &str) -> Alone
-    ensures { result ≡ pace_told below.now }
+// Cycle times, with the rounds or without.
+fn times_told(last: &str) -> Alone
+    ensures { result ≡ times_told last.now }
 {
-    match below {
-        "place" => Alone::Slack,
+    match last {
+        "choice" => Alone::Rounds,
         _ => Alone::Cycle,
     }
 }
 
+// An answer that begins with `cycle`.
+fn pace_told(below: &str, last: &str) -> Alone
+    ensures { result ≡ pace_told below.now last.now }
+{
+    match below {
+        "place" => Alone::Slack,
+        _ => times_told(last),
+    }
+}
+
 // An answer that was asked with the net alone.
-fn told_alone(first: &str, second: &str, below: &str) -> Option<Alone>
-    ensures { result ≡ told_alone first.now second.now below.now }
+fn told_alone(first: &str, second: &str, below: &str, last: &str) -> Option<Alone>
+    ensures { result ≡ told_alone first.now second.now below.now last.now }
 {
     match first {
         "live" => Some(Alone::Live),
         "dates" => Some(Alone::Listed),
         "no" => none_told(second),
-        "cycle" => Some(pace_told(below)),
+        "cycle" => Some(pace_told(below, last)),
         "settled" => Some(Alone::Settled),
         "size" => Some(Alone::Size),
         "bound" => Some(Alone::Bound),
@@ -100,13 +114,35 @@ fn of_net(kind: Option<Alone>) -> Option<Kind>
     }
 }
 
+// An answer of latest dates, by its first line.
+fn plan_told(line: &str) -> Kind
+    ensures { result ≡ plan_told line.now }
+{
+    match line {
+        "latest inputs forever" => Kind::Releases,
+        _ => Kind::Plan,
+    }
+}
+
+// An answer of a late firing, by the first word of its second line; no checker reads one without a
+// path, as `forever` tells it.
+fn late_told(below: &str) -> Option<Kind>
+    ensures { result ≡ late_told below.now }
+{
+    match below {
+        "path" => Some(Kind::LateRow),
+        "from" => Some(Kind::LateRow),
+        _ => None,
+    }
+}
+
 // An answer that was asked with a file.
-fn told_with_file(first: &str) -> Option<Kind>
-    ensures { result ≡ told_with_file first.now }
+fn told_with_file(line: &str, first: &str, below: &str) -> Option<Kind>
+    ensures { result ≡ told_with_file line.now first.now below.now }
 {
     match first {
-        "latest" => Some(Kind::Plan),
-        "late" => Some(Kind::LateRow),
+        "latest" => Some(plan_told(line)),
+        "late" => late_told(below),
         "date" => Some(Kind::OneDate),
         _ => None,
     }
@@ -134,25 +170,46 @@ fn told_with_table(first: &str, below: &str) -> Option<Kind>
 }
 
 // An answer that tells no circuit without tokens.
-fn told_beside(beside: &Beside, first: &str, second: &str, below: &str) -> Option<Kind>
-    ensures { result ≡ told_beside beside.now first.now second.now below.now }
+fn told_beside(
+    beside: &Beside,
+    line: &str,
+    first: &str,
+    second: &str,
+    below: &str,
+    last: &str,
+) -> Option<Kind>
+    ensures { result ≡ told_beside beside.now line.now first.now second.now below.now last.now }
 {
     match beside {
-        Beside::Nothing => of_net(told_alone(first, second, below)),
-        Beside::File { .. } => told_with_file(first),
+        Beside::Nothing => of_net(told_alone(first, second, below, last)),
+        Beside::File { .. } => told_with_file(line, first, below),
         Beside::Timetable { .. } => told_with_table(first, below),
     }
 }
 
 // What an answer is; none where no checker reads it.
-fn kind_told(beside: &Beside, first: &str, second: &str, below: &str) -> Option<Kind>
-    ensures { result ≡ kind_told beside.now first.now second.now below.now }
+fn kind_told(
+    beside: &Beside,
+    line: &str,
+    first: &str,
+    second: &str,
+    below: &str,
+    last: &str,
+) -> Option<Kind>
+    ensures { result ≡ kind_told beside.now line.now first.now second.now below.now last.now }
 {
     if is_deadlock(first, second) {
         Some(Kind::OfNet(Alone::Deadlock))
     } else {
-        told_beside(beside, first, second, below)
+        told_beside(beside, line, first, second, below, last)
     }
+}
+
+// The last line; an empty one where there is none.
+fn last_line<'t>(lines: &[&'t str]) -> &'t str
+    ensures { result.now ≡ slice_index_or (map (λ x. x.now) lines.now) (length lines.now - 1) [] }
+{
+    text_at(lines, lines.len().saturating_sub(1))
 }
 
 // What an answer of these lines is.
@@ -163,8 +220,10 @@ pub(crate) fn kind_of(beside: &Beside, lines: &[&str]) -> Option<Kind>
     let below = text_at(lines, 1);
     kind_told(
         beside,
+        first,
         word_at(first, 0),
         word_at(first, 1),
         word_at(below, 0),
+        word_at(last_line(lines), 0),
     )
 }

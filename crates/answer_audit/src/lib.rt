@@ -11,10 +11,13 @@
 //! `by_file.rt`. That a right answer is shown is said of lists alone: another checker may also not
 //! say yes.
 //!
-//! It stands on `witness_check`, `pace_check`, `dating_check`, `delay_check`, `bound_check` and
-//! `answer_check` for what answers show, on `teg_reader`, `teg_due` and `timetable_files` for files,
-//! on `csv_records` for numbers, on `word_lines` for lines, on `teg_outside` for the shelf and the
-//! sink, and on `teg_net` for nets. Its examples stand in `witness_examples`.
+//! It stands on `witness_check`, `pace_check`, `round_check`, `dating_check`, `delay_check`,
+//! `forever_check`,
+//! `bound_check` and `answer_check` for what answers show, on `teg_reader`, `teg_due`, `endless_due`
+//! and
+//! `timetable_files` for files, on `csv_records` for numbers, on `word_lines` for lines, on
+//! `teg_outside` for the shelf and the sink, and on `teg_net` for nets. Its examples stand in
+//! `witness_examples`.
 #![tactic(auto)]
 
 mod alone;

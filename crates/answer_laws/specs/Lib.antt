@@ -1,2 +1,3 @@
 pub mod SaidAnswers
 pub mod SaidBounds
+pub mod SaidRounds

@@ -1,5 +1,6 @@
 //! The laws of printed answers that are shown.
 ghost use Rattle.answer_laws.specs.SaidBounds.{ShownBoundsAreSaid};
+ghost use Rattle.answer_laws.specs.SaidRounds.{ShownRoundsAreSaid};
 ghost use Rattle.answer_laws.specs.SaidAnswers.{ShownDatesAreSaid, ShownListsAreSaid, ShownNoCircuitIsSaid, ShownSlacksAreSaid};
 
 /// A text is shown to be a list of the dates of so many firings just where the net is live and
@@ -30,4 +31,11 @@ pub fn shown_slacks_are_said()
 /// `teg bound` says it (chapter 3).
 pub fn shown_bounds_are_said()
     ensures { ShownBoundsAreSaid }
+{}
+
+/// A text is shown to be that of cycle times with their rounds just where the net is live and has a
+/// circuit, and `teg cycle --rounds` says it (chapter 3; Howard's algorithm, of which the book has
+/// none).
+pub fn shown_rounds_are_said()
+    ensures { ShownRoundsAreSaid }
 {}

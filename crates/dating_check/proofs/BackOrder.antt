@@ -1,5 +1,5 @@
 -- The places in an order that goes back.
-use Rattle.std.proofs.Common.{ℕ, true, false, ◌+◌, ◌<◌, ◌≤◌, ◌≡◌, List, [], ◌∷◌, ◌++◌, length, get_or, refl, ap, sym, ◌∙◌, arith, inr, ⊎_elim}
+use Rattle.std.proofs.Common.{ℕ, true, false, ◌+◌, ◌<◌, ◌≤◌, ◌≡◌, List, [], ◌∷◌, ◌++◌, length, get_or, refl, ap, ◌∙◌, arith, inr, ⊎_elim}
 use Rattle.std.specs.Prelude.{All, Contains, Option, Some, None, IfNone, IsSome}
 use Rattle.std.proofs.lemmas.Bool.{cases_lt, false≢true}
 use Rattle.std.proofs.lemmas.List.{get_or_default, length-append}

@@ -1,5 +1,5 @@
 -- Rows with what is due alone, and rows of which all numbers are made.
-use Rattle.std.proofs.Common.{ℕ, pos, [], ◌∷◌, replicate, ◌+◌, ◌-◌, ◌*◌, ◌<◌, ◌≤◌, ◌≡◌, ◌≢◌, List, Option, Some, length, get_or, set, All, refl, sym, ap, subst, ◌∙◌, arith, ⊎_elim}
+use Rattle.std.proofs.Common.{ℕ, pos, [], ◌∷◌, replicate, ◌+◌, ◌-◌, ◌*◌, ◌<◌, ◌≤◌, ◌≡◌, ◌≢◌, List, Option, Some, length, get_or, All, refl, sym, ap, subst, ◌∙◌, arith, ⊎_elim}
 use Rattle.std.specs.Prelude.{Any}
 use Rattle.std.proofs.lemmas.Bool.{cases_lt}
 use Rattle.std.proofs.lemmas.Int.{ints}

@@ -1,5 +1,5 @@
 -- The first row that a dating does not keep, by rows of dates and by the dating.
-use Rattle.std.proofs.Common.{ℕ, ◌+◌, ◌*◌, ◌<◌, ◌≤◌, ◌≡◌, List, length, get_or, refl, sym, subst, ap, ◌∙◌, arith}
+use Rattle.std.proofs.Common.{ℕ, ◌≡◌, List, get_or, sym, subst, ◌∙◌}
 use Rattle.std.specs.Prelude.{pos, All, take}
 use Rattle.std.proofs.lemmas.List.Elements.{All-take}
 use Rattle.teg_model.specs.dioid.declared.dates.Date.{Date}
@@ -11,7 +11,7 @@ use Rattle.due_laws.specs.MeetingDueDates.{inputs_at_zero}
 use Rattle.teg_due.specs.declared.rows.DueRow.{DueRow}
 use Rattle.teg_due.proofs.DueOnce.{no_row}
 use Rattle.late_lines.specs.declared.late.LateFiring.{LateFiring}
-use Rattle.dating_check.specs.FirstLate.{KeepsRow, IsRowOfLate, IsFirstLateBy}
+use Rattle.dating_check.specs.FirstLate.{IsFirstLateBy}
 
 -- another dating with the same dates at the rows
 pub late_moves : (x y : ℕ → ℕ → Date) (rows : List DueRow) (late : LateFiring) → All (λ r. x r.transition.index r.number ≡ y r.transition.index r.number) rows

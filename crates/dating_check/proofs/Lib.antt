@@ -1,7 +1,6 @@
 mod BackOrder
 mod BegunRows
 mod Bounding
-mod FiringsOnce
 mod FirstLate
 mod FormLines
 mod Lowering

@@ -1,5 +1,5 @@
 -- What is false in a table, beside the latest dates.
-use Rattle.std.proofs.Common.{ℕ, ◌+◌, ◌-◌, ◌*◌, ◌^◌, ◌<◌, ◌≤◌, ◌≡◌, ◌≢◌, List, [], Option, Some, None, drop, length, get_or, slice_index_or, refl, sym, ap, subst, ◌∙◌, arith, ⊎_elim}
+use Rattle.std.proofs.Common.{ℕ, ◌+◌, ◌-◌, ◌*◌, ◌<◌, ◌≤◌, ◌≡◌, ◌≢◌, List, [], Option, Some, None, length, get_or, slice_index_or, refl, sym, ap, subst, ◌∙◌, arith, ⊎_elim}
 use Rattle.std.proofs.lemmas.Bool.{cases_eq}
 use Rattle.std.proofs.lemmas.List.{get_or-drop}
 use Rattle.dioid.specs.declared.dates.Date.{Date}
@@ -13,10 +13,9 @@ use Rattle.teg_net.specs.Nets.{NetLists, IsNet}
 use Rattle.teg_due.specs.declared.rows.DueRow.{DueRow}
 use Rattle.teg_due.specs.RowRules.{IsDueOf}
 use Rattle.due_laws.specs.LatestDates.{IsLatestDate}
-use Rattle.due_laws.specs.MeetingDueDates.{InputsMeet, inputs_at_zero}
 use Rattle.due_laws.proofs.LatestDates.{never_or_not}
 use Rattle.dating_certificates.specs.CheckedRows.{date_in_rows}
-use Rattle.dating_certificates.specs.LatestRows.{AreLatestRows, ListsDues, date_up_to}
+use Rattle.dating_certificates.specs.LatestRows.{AreLatestRows, ListsDues}
 use Rattle.dating_certificates.specs.PlanRows.{ArePlanRows}
 use Rattle.dating_certificates.proofs.ListedDues.{dues_are_listed}
 use Rattle.dating_certificates.proofs.ToldForms.{told_in}
@@ -24,9 +23,9 @@ use Rattle.word_lines.specs.WordLines.{IsTextOf}
 use Rattle.dating_check.specs.declared.table_faults.TableFault.{TableFault}
 use Rattle.dating_check.specs.declared.table_faults.TableFault.TheVariants.{OtherNumbers, Line, Late}
 use Rattle.dating_check.specs.DueNumbers.{IsGreatestNumber}
-use Rattle.dating_check.specs.ShownTables.{IsShownTable, IsTableTold, firing_lines, latest_date_words, table_told_lines}
-use Rattle.dating_check.specs.TableReading.{FirstOther, FirstOtherOf, TellsDate, line_words, words_behind}
-use Rattle.dating_check.specs.TableTexts.{AreRightLines, IsFaultOf, IsFirstWrongLine, IsFalseTable, IsRightIfTable, IsRightLine, IsRightTable, IsTableText, latest_word, line_of_words, table_of_words}
+use Rattle.dating_check.specs.ShownTables.{IsShownTable, IsTableTold, latest_date_words}
+use Rattle.dating_check.specs.TableReading.{FirstOther, TellsDate, line_words, words_behind}
+use Rattle.dating_check.specs.TableTexts.{AreRightLines, IsFaultOf, IsFirstWrongLine, IsFalseTable, IsRightIfTable, IsRightLine, IsRightTable, IsTableText, latest_word, table_of_words}
 use Rattle.dating_check.proofs.TableLines.{same_tables, table_are_lines, table_is_text}
 use Rattle.dating_check.proofs.TableWords.{date_is_words}
 

@@ -40,3 +40,8 @@ AreKept net order numbers k first y dates = (c : ℕ) (d : Placed) → c < lengt
     → IsAtMostDate (delayed (place_at net (slice_index_or order c d).place).hold
     (date_up_to numbers (length net.transitions) dates (from_of net (slice_index_or order c d).place) k))
     (y (place_at net (slice_index_or order c d).place).to.index (k + (place_at net (slice_index_or order c d).place).tokens))
+
+-- one of the numbers from 1 to so many
+pub record IsNumberTo (numbers k : ℕ) : Type 0 where
+  pub first : 1 ≤ k
+  pub last : k ≤ numbers

@@ -1,5 +1,5 @@
 -- What a line of latest dates shows, and what a walk shows that comes late.
-use Rattle.std.specs.Prelude.{ℕ, pos, ◌<◌, ◌≡◌, ◌++◌, ◌∷◌, [], List, Some, Option, codes}
+use Rattle.std.specs.Prelude.{ℕ, pos, ◌<◌, ◌≡◌, ◌++◌, ◌∷◌, [], List, Some, Option}
 use Rattle.std.specs.Fmt.{decimal}
 use Rattle.teg_model.specs.dioid.declared.dates.Date.{Date}
 use Rattle.teg_model.specs.dioid.declared.dates.Date.TheVariants.{At}

@@ -1,6 +1,6 @@
 //! Rows of latest dates, made anew from what is due: number by number from the last down, and in
 //! each in falling order of numbers that rise along the places without tokens (chapter 5).
-ghost use Rattle.std.specs.Prelude.{ℕ, pos, ◌≡◌, ◌≤◌, ◌<◌, ◌+◌, ◌-◌, ◌*◌, All, IfOk, List, Option, false, length, slice_index_or, slice_set};
+ghost use Rattle.std.specs.Prelude.{ℕ, pos, ◌≡◌, ◌≤◌, ◌<◌, ◌+◌, ◌-◌, ◌*◌, All, IfOk, List, Option, length, slice_index_or, slice_set};
 ghost use Rattle.dioid.specs.declared.dates.Date.{Date};
 ghost use Rattle.dioid.specs.declared.dates.Date.TheVariants.{At, Early};
 ghost use Rattle.dioid.specs.Dates.{IsAtMostDate, delayed, earlier_of};
@@ -8,10 +8,9 @@ ghost use Rattle.teg_net.specs.Circuits.{IsLive};
 ghost use Rattle.teg_net.specs.Limits.{greatest_hold, most_transitions};
 ghost use Rattle.teg_due.specs.declared.rows.DueRow.{DueRow};
 ghost use Rattle.teg_due.specs.RowRules.{IsDueOf, IsDueRow};
-ghost use Rattle.witness_check.specs.Climbs.{RiseAlong};
 ghost use Rattle.dating_certificates.specs.LatestRows.{AreLatestRows, ListsDues, date_up_to};
-ghost use Rattle.dating_check.specs.BackOrder.{IsBackOrder};
-ghost use Rattle.dating_check.specs.MadeRows.{AreFrom, IsLatestFor, IsMade, date_index, greatest_fall};
+ghost use Rattle.dating_check.specs.BackOrder.{IsOrderBack};
+ghost use Rattle.dating_check.specs.MadeRows.{AreFrom, IsLatestFor, IsMade, IsNumberTo, date_index, greatest_fall};
 
 use crate::back_order::{Placed, places_back};
 use dioid::Date;
@@ -93,8 +92,7 @@ fn begin(alloc: Global, net: &Net, rows: &[DueRow], numbers: u32) -> Result<Vec<
 
 // Lowers the dates of the number to those of the next.
 fn pass_next(net: &Net, dates: &mut [Date], numbers: u32, number: u32)
-    requires number { 1 ≤ number }
-    requires within { number ≤ numbers }
+    requires number { IsNumberTo numbers number }
     requires full { length dates.old ≡ numbers * length net.now.transitions }
     ensures full { length dates.new ≡ numbers * length net.now.transitions }
     ensures made { (rows : List DueRow) (y : ℕ → ℕ → Date) → IsLatestFor net.now rows y
@@ -111,11 +109,8 @@ fn pass_next(net: &Net, dates: &mut [Date], numbers: u32, number: u32)
 
 // Lowers the dates of the number to what each place leaves of the date at its end.
 fn pass_places(net: &Net, order: &[Placed], dates: &mut [Date], numbers: u32, number: u32)
-    requires order { (ranks : List ℕ) × RiseAlong net.now false ranks
-        × IsBackOrder net.now ranks order.now }
-    requires few { length order.now ≡ length net.now.places }
-    requires number { 1 ≤ number }
-    requires within { number ≤ numbers }
+    requires order { IsOrderBack net.now order.now }
+    requires number { IsNumberTo numbers number }
     requires full { length dates.old ≡ numbers * length net.now.transitions }
     requires from { (fall : ℕ) × (fall + 4000000000000 ≤ greatest_fall) × AreFrom fall dates.old }
     ensures full { length dates.new ≡ numbers * length net.now.transitions }
@@ -137,11 +132,8 @@ fn pass_places(net: &Net, order: &[Placed], dates: &mut [Date], numbers: u32, nu
 
 // Makes the dates of the number from those of greater ones.
 fn pass_number(net: &Net, order: &[Placed], dates: &mut [Date], numbers: u32, number: u32)
-    requires order { (ranks : List ℕ) × RiseAlong net.now false ranks
-        × IsBackOrder net.now ranks order.now }
-    requires few { length order.now ≡ length net.now.places }
-    requires number { 1 ≤ number }
-    requires within { number ≤ numbers }
+    requires order { IsOrderBack net.now order.now }
+    requires number { IsNumberTo numbers number }
     requires full { length dates.old ≡ numbers * length net.now.transitions }
     requires from { (fall : ℕ) × (fall + 4000000000000 ≤ greatest_fall) × AreFrom fall dates.old }
     ensures full { length dates.new ≡ numbers * length net.now.transitions }
@@ -162,9 +154,7 @@ fn rows_back(
     rows: &[DueRow],
     numbers: u32,
 ) -> Result<Vec<Date>, AllocError>
-    requires order { (ranks : List ℕ) × RiseAlong net.now false ranks
-        × IsBackOrder net.now ranks order.now }
-    requires few { length order.now ≡ length net.now.places }
+    requires order { IsOrderBack net.now order.now }
     requires each { All (IsDueRow net.now) rows.now }
     requires most { All (λ r. r.number ≤ numbers) rows.now }
     ensures full { IfOk result (λ dates. length dates.items

@@ -2,7 +2,6 @@
 //! number of each.
 ghost use Rattle.std.specs.Prelude.{ℕ, ◌≡◌, ◌+◌, ◌*◌, ◌<◌, ◌≤◌, ◌^◌, ◌↔◌, ◌∷◌, [], IfOk, IsTrue, MatchOption, length, map};
 ghost use Rattle.std.specs.Option.{option_map};
-ghost use Rattle.teg_net.specs.Limits.{most_transitions};
 ghost use Rattle.teg_text.specs.Lines.{phrase, written};
 ghost use Rattle.dating_check.specs.TableReading.{AreFiringLines, AreTableLines, IsFiringLine, ReadsTable};
 ghost use Rattle.dating_check.specs.TableTexts.{table_head};

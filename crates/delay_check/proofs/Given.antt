@@ -1,5 +1,5 @@
 -- Delays of which no two are of one departure: each is the one that is given to its departure.
-use Rattle.std.proofs.Common.{ℕ, zero, suc, ◌+◌, ◌<◌, ◌≡◌, ◌≢◌, List, [], ◌∷◌, true, false, eqb, ◌&&◌, length, get_or, refl, sym, ap, ◌∙◌, arith, ⊎_elim, inl, inr}
+use Rattle.std.proofs.Common.{ℕ, zero, suc, ◌<◌, ◌≡◌, ◌≢◌, List, [], ◌∷◌, true, false, eqb, ◌&&◌, length, get_or, refl, ap, arith, ⊎_elim, inl, inr}
 use Rattle.std.specs.Prelude.{AllPairs, ◌⊎◌}
 use Rattle.std.proofs.lemmas.Bool.Decides.{eqb_tells}
 use Rattle.delay_laws.specs.declared.table.Delay.{Delay}

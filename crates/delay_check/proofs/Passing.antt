@@ -8,7 +8,6 @@ use Rattle.teg_net.specs.Circuits.{place_at, from_of}
 use Rattle.teg_model.specs.LiveRanks.{HasEndsInRange}
 use Rattle.delay_laws.specs.declared.table.Timetable.{Timetable}
 use Rattle.delay_laws.specs.PlannedTimetables.{first_planned, delay_given}
-use Rattle.delay_laws.specs.Delays.{AreDelaysLeft}
 use Rattle.delay_laws.specs.TightCircuits.{GivenDelaysAreLeft}
 use Rattle.delay_laws.proofs.TightCircuits.{place_passes}
 use Rattle.delay_check.specs.ShownDelays.{AreSomewhereLeft, IsSomewhereLeft}

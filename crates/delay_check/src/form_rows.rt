@@ -7,8 +7,9 @@ ghost use Rattle.delay_laws.specs.PlannedTimetables.{IsTableOf};
 ghost use Rattle.release_nets.specs.PlannedNets.{greatest_period};
 
 use crate::spread_text::Rows;
+use crate::tables::is_table;
 use dating_certificates::check_shortest;
-use delay_laws::{Timetable, is_table_of};
+use delay_laws::Timetable;
 use dioid::Date;
 use release_nets::{Planned, release_net};
 use std::alloc::Global;
@@ -19,12 +20,16 @@ use witness_check::is_seen_live;
 const GREATEST_PERIOD: u64 = 1_000_000;
 
 // Whether the timetable is one of the net, and the period keeps its limits.
-fn is_asked(net: &Net, period: u64, table: &Timetable) -> bool
-    ensures some { IsTrue result → 1 ≤ period }
-    ensures period { IsTrue result → period ≤ greatest_period }
-    ensures table { IsTrue result → IsTableOf net.now table.now }
+fn is_asked(alloc: Global, net: &Net, period: u64, table: &Timetable) -> Result<bool, OutOfMemory>
+    ensures some { IfOk result (λ yes. IsTrue yes → 1 ≤ period) }
+    ensures period { IfOk result (λ yes. IsTrue yes → period ≤ greatest_period) }
+    ensures table { IfOk result (λ yes. IsTrue yes → IsTableOf net.now table.now) }
 {
-    1 <= period && period <= GREATEST_PERIOD && is_table_of(net, table)
+    if period < 1 || period > GREATEST_PERIOD {
+        return Ok(false);
+    }
+    let is_table = is_table(alloc, net, table)?;
+    Ok(is_table)
 }
 
 // The net with its timetable, where the net is seen to be live and the delays can be followed.
@@ -37,7 +42,7 @@ pub(crate) fn planned_net<'a>(
     ensures { IfOk result (λ some. IfSome some (λ planned. (planned.net.now ≡ net.now)
         × (planned.period ≡ period) × (planned.table.now ≡ table.now))) }
 {
-    if !is_asked(net, period, table) {
+    if !is_asked(alloc, net, period, table)? {
         return Ok(None);
     }
     if !is_seen_live(alloc, net)? {

@@ -107,10 +107,10 @@ fn shows(
 /// delays of each line are those that are left, and the circuit keeps some for ever: it takes just
 /// the time that the plan gives it, and one of its transitions is late at some number. Which of
 /// several such circuits is told is free. It takes memory for the dates up to a period and the
-/// tokens of a place past those that are told, and for the text; and time of their order with the
-/// places, for each number that divides the period once more, and of the order places times
-/// transitions, with the square of the number of delays. `OutOfMemory` comes only where no memory is
-/// found.
+/// tokens of a place past those that are told, for the text, and 10,001 bytes for each transition;
+/// and time of the order of those dates with the places, for each number that divides the period
+/// once more, and of the order transitions times places and delays. `OutOfMemory` comes only where
+/// no memory is found.
 pub fn shown_kept(
     alloc: Global,
     net: &Net,

@@ -1,6 +1,6 @@
 //! How late transitions are at some number, by the delays that are given and the places that pass
 //! them on.
-ghost use Rattle.std.specs.Prelude.{◌≡◌, ◌+◌, ◌*◌, ◌<◌, ◌≤◌, ◌⊎◌, IfOk, IfSome, length};
+ghost use Rattle.std.specs.Prelude.{◌≡◌, ◌+◌, ◌*◌, ◌<◌, ◌⊎◌, IfOk, IfSome, length};
 ghost use Rattle.teg_net.specs.Circuits.{place_at};
 ghost use Rattle.delay_laws.specs.PlannedTimetables.{IsTableOf, first_planned};
 ghost use Rattle.delay_check.specs.ShownDelays.{AreSomewhereLeft, IsSomewhereLeft};
@@ -129,7 +129,7 @@ fn pass_all(net: &Net, period: u64, table: &Timetable, left: &mut [u64]) -> bool
 }
 
 // For each transition a delay that is left there at some number. It takes memory for them, and time
-// of the order transitions times places, with the square of the number of delays.
+// of the order transitions times places, with the number of delays.
 pub(crate) fn left_somewhere(
     alloc: Global,
     net: &Net,

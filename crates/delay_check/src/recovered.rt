@@ -40,9 +40,9 @@ fn shows(
 /// and period of the first line are those of the shortest settled form of delayed dates and releases
 /// together, the delays of each line are those that are left, and the number of the second line is
 /// the least after which there is none. It takes memory for the dates up to a period and the tokens
-/// of a place past those that are told, and for the text; and time of their order with the places,
-/// for each number that divides the period once more, and of the square of the number of delays.
-/// `OutOfMemory` comes only where no memory is found.
+/// of a place past those that are told, for the text, and 10,001 bytes for each transition; and time
+/// of the order of those dates with the places, for each number that divides the period once more,
+/// and of the order transitions times delays. `OutOfMemory` comes only where no memory is found.
 pub fn shown_recovered(
     alloc: Global,
     net: &Net,

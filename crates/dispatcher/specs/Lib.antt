@@ -1,2 +1,1 @@
-pub mod LeftRows
 pub mod Plants

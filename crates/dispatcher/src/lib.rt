@@ -7,16 +7,14 @@
 //! transition that fired n times ([`Plant::fired`]), and by `nets_go_on` of `state_laws` its least
 //! dating is that of the plant from now on. [`Plant::due_left`] gives the due rows that are still
 //! to be met the numbers that an outlook asks for (`rows_left`), and [`Outlook::missed`] tells just
-//! those that a table of its dates misses (`is_missed`). No other call than `due_left` has a proof
-//! file: the contracts of the calls that it makes tell all that it promises. It stands on
-//! `teg_state` for what is left, on `date_rows`, `teg_settle`, `teg_jit`, `teg_sizing` and
+//! those that a table of its dates misses (`is_missed`). No call has a proof file: the contracts of
+//! the calls that it makes tell all that it promises. It stands on `teg_state` for what is left, on `date_rows`, `teg_settle`, `teg_jit`, `teg_sizing` and
 //! `pace_calls` for answers, on `dispatch` for what is missed, on `teg_due` for logs and due dates,
 //! on `run_laws`, `state_laws`, `settled_laws` and `due_laws` for what they mean, on `teg_check` for
 //! live nets and on `teg_net` for nets. Its example stands in `library_examples`, in
 //! `logged_plants.rt`.
 #![tactic(auto)]
 
-mod due_left;
 mod outlook;
 mod plant;
 

@@ -6,7 +6,10 @@ ghost use Rattle.state_laws.specs.NetsLeft.{IsNetAfter, count_in};
 ghost use Rattle.state_laws.specs.Rests.{ArePaid};
 ghost use Rattle.teg_due.specs.Logs.{log_of};
 ghost use Rattle.teg_due.specs.csv_records.Records.{most_file_bytes};
+ghost use Rattle.teg_due.specs.RowRules.{IsDueOf};
 ghost use Rattle.teg_net.specs.Circuits.{place_at};
+ghost use Rattle.teg_state.specs.LeftLists.{AreNear};
+ghost use Rattle.teg_state.specs.LeftRows.{rows_left};
 ghost use Rattle.teg_state.specs.WhyNotLeft.{IsWhyNotLeft};
 ghost use Rattle.dispatcher.specs.Plants.{AreFiringsOf, IsWhyNotTaken, fired_of};
 
@@ -17,7 +20,7 @@ use std::error::Error;
 use std::fmt;
 use std::marker::Model;
 use teg_check::LiveNet;
-use teg_due::{LogRefusal, LogRow, read_log};
+use teg_due::{Due, LogRefusal, LogRow, read_log};
 use teg_net::{Net, OutOfMemory, PlaceId, TransitionId};
 use teg_state::{History, NotLeft, live_net_after};
 
@@ -182,9 +185,26 @@ impl Plant {
     pub fn from_now_on(&self, alloc: Global, now: u64) -> Result<Outlook, NotLeft>
         ensures net { IfOk result (IsNetAfter self.now.net self.now.run now) }
         ensures paid { IfOk result (λ _. ArePaid (count_in self.now.run) self.now.net.places) }
+        ensures near { IfOk result
+            (λ _. AreNear self.now.net self.now.run now (length self.now.net.transitions)) }
         ensures refused { IfErr result (IsWhyNotLeft self.now.net self.now.run now) }
     {
         let rest = live_net_after(alloc, &self.held, self.history.run(), now)?;
         Ok(Outlook::of(rest))
+    }
+
+    /// The due rows of the firings that are still to come, in their order, each with its number from
+    /// now on, as this outlook of the plant asks for them (chapter 5): the row of firing `k` of a
+    /// transition that fired `n` times becomes that of firing `k - n`, and is left out where its
+    /// firing came. `AllocError` comes only where no memory is found. It takes a step for each row.
+    pub fn due_left(&self, alloc: Global, outlook: &Outlook, due: &Due) -> Result<Due, AllocError>
+        requires due { IsDueOf self.now.net due.now.rows.items }
+        requires outlook { outlook.now.transitions ≡ self.now.net.transitions }
+        ensures rows { IfOk result
+            (λ left. left.rows.items ≡ rows_left self.now.run due.now.rows.items) }
+        ensures rules { IfOk result (λ left. IsDueOf outlook.now left.rows.items) }
+    {
+        self.history
+            .due_left(alloc, self.held.net(), outlook.net(), due)
     }
 }

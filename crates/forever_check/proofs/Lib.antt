@@ -1,3 +1,6 @@
 pub mod StoredForms
 pub mod Released
 pub mod Written
+pub mod ReleaseWalks
+pub mod LatestReleases
+pub mod ShortestLists

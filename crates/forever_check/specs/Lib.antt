@@ -1,1 +1,2 @@
 pub mod ShownReleases
+pub mod ReleaseWalks

@@ -1,5 +1,5 @@
 -- What the text of releases without end shows.
-use Rattle.std.specs.Prelude.{ℕ, ◌+◌, ◌<◌, ◌≡◌, ◌∷◌, ◌++◌, [], List, Option, Some, None, All, Any, codes, length, map, slice_index_or, ⊤}
+use Rattle.std.specs.Prelude.{ℕ, ℤ, ◌+◌, ◌<◌, ◌≤◌, ◌≡◌, ◌∷◌, ◌++◌, [], List, Option, Some, None, All, Any, codes, length, map, slice_index_or, ⊤}
 use Rattle.std.specs.Fmt.{decimal}
 use Rattle.teg_net.specs.declared.entries.Again.{Again}
 use Rattle.teg_net.specs.declared.entries.InputList.{InputList}
@@ -7,8 +7,12 @@ use Rattle.teg_net.specs.Nets.{NetLists, IsInput, lists_of}
 use Rattle.teg_net.specs.Circuits.{IsLive}
 use Rattle.teg_text.specs.Lines.{phrase, written}
 use Rattle.teg_text.specs.WordsOfNames.{name_of_transition}
-use Rattle.teg_model.specs.Datings.{listed_releases}
-use Rattle.due_laws.specs.MeetingDueDates.{InputsMeet}
+use Rattle.teg_net.specs.Inputs.{list_date}
+use Rattle.dioid.specs.declared.dates.Date.{Date}
+use Rattle.dioid.specs.Dates.{move}
+use Rattle.teg_model.specs.Datings.{as_date, listed_releases}
+use Rattle.due_laws.specs.MeetingDueDates.{InputsMeet, AreLatestInputs}
+use Rattle.due_laws.specs.LatestDates.{IsLatestDate}
 use Rattle.endless_due.specs.declared.row.EndlessRow.{EndlessRow}
 use Rattle.endless_due.specs.EndlessRows.{due_on, IsEndlessOf}
 
@@ -60,3 +64,35 @@ pub record IsShownMet (net : NetLists) (rows : List EndlessRow) (text : List ℕ
   pub releases : AreReleases net lists
   pub told : text ≡ written (released_lines net lists)
   pub meet : InputsMeet net (due_on rows) (listed_releases (with_lists net lists))
+
+-- the date of firing k by a list
+abbrev pub list_release : InputList → ℕ → Date
+list_release l k = as_date (list_date l.dates l.again k)
+
+-- past the number the dates of the list go on by some step in so many firings
+pub record ListRepeats (l : InputList) (past every : ℕ) : Type 0 where
+  pub some : 1 ≤ every
+  pub step : ℤ
+  pub again : (k : ℕ) → past < k → list_release l (k + every) ≡ move step (list_release l k)
+
+-- dates that go on so do it in no fewer firings, and past no smaller number
+abbrev pub IsShortestOf : InputList → Option Again → Type 0
+IsShortestOf l None = ⊤
+IsShortestOf l (Some a) = (past every : ℕ) → ListRepeats l past every → (a.every ≤ every) × (length l.dates ≤ past + a.every)
+
+-- no shorter list tells the same dates
+abbrev pub IsShortestList : InputList → Type 0
+IsShortestList l = IsShortestOf l l.again
+
+-- the net is live and the rows are due dates of it; the whole text tells releases of its inputs, which are together the latest inputs that
+-- meet what is due for every firing; the date of each firing is its latest, and never only where no walk leads from it to a due one;
+-- and no shorter lists tell the same releases
+pub record IsShownForever (net : NetLists) (rows : List EndlessRow) (text : List ℕ) : Type 0 where
+  pub live : IsLive net
+  pub due : IsEndlessOf net rows
+  pub lists : List InputList
+  pub releases : AreReleases net lists
+  pub told : text ≡ written (released_lines net lists)
+  pub latest : AreLatestInputs net (due_on rows) (listed_releases (with_lists net lists))
+  pub dates : (t k : ℕ) → IsInput net t → 1 ≤ k → IsLatestDate net (due_on rows) t k (listed_releases (with_lists net lists) t k)
+  pub shortest : All IsShortestList lists

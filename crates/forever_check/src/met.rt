@@ -6,6 +6,7 @@ ghost use Rattle.teg_model.specs.Datings.{listed_releases};
 ghost use Rattle.settled_laws.specs.SettledForms.{IsSettledFormOf};
 ghost use Rattle.due_laws.specs.MeetingDueDates.{InputsMeet};
 ghost use Rattle.endless_due.specs.EndlessRows.{IsEndlessOf, due_on};
+ghost use Rattle.forever_check.specs.ReleaseWalks.{IsMeetingNet};
 ghost use Rattle.forever_check.specs.ShownReleases.{AreReleases, IsShownMet, released_lines};
 ghost use Rattle.teg_text.specs.Lines.{written};
 
@@ -138,11 +139,43 @@ fn tells_lists(
     Ok(lines.as_str() == text)
 }
 
+// The net with the input lists that the whole text tells, where these are releases of the inputs of
+// the net, which is live, and meet what is due.
+pub(crate) fn meeting_net(
+    alloc: Global,
+    net: &Net,
+    rows: &[EndlessRow],
+    text: &str,
+) -> Result<Option<Net>, OutOfMemory>
+    ensures { IfOk result (λ some. IfSome some (IsMeetingNet net.now rows.now text.now)) }
+{
+    let Some(lists) = lists_in(alloc, net, text)? else {
+        return Ok(None);
+    };
+    let Some(released) = net_with(alloc, net, lists)? else {
+        return Ok(None);
+    };
+    if !is_endless_of(net, rows) || !is_endless_of(&released, rows) {
+        return Ok(None);
+    }
+    if !is_seen_live(alloc, net)? {
+        return Ok(None);
+    }
+    if !tells_lists(alloc, net, released.inputs(), text)? {
+        return Ok(None);
+    }
+    if !is_seen_kept(alloc, &released, rows)? {
+        return Ok(None);
+    }
+    released.rules();
+    Ok(Some(released))
+}
+
 /// Whether the text of `teg forever` that tells releases without end is shown to tell some that meet
 /// what is due (chapter 5): the net is seen to be live, the rows are due dates of it, the whole text
 /// tells a list for each input, in order, that goes on for ever, or that the input never fires, and
 /// in the least dating with these releases no firing, however late its number, comes after its due
-/// date. That no releases could be later is another test. No text is shown whose lists keep no rule
+/// date. That no releases could be later is told by [`shown_forever`](crate::shown_forever). No text is shown whose lists keep no rule
 /// of an input list: of which an input repeats after more than 1,000 firings, or whose dates or step
 /// exceed 10^12; or where 4,000,000 dates do not tell how the least dating goes on. It takes memory
 /// for these dates, and time of their order times the number of places, and for each row that of
@@ -155,21 +188,8 @@ pub fn shown_met(
 ) -> Result<bool, OutOfMemory>
     ensures { IfOk result (λ yes. IsTrue yes → IsShownMet net.now rows.now text.now) }
 {
-    let Some(lists) = lists_in(alloc, net, text)? else {
-        return Ok(false);
-    };
-    let Some(released) = net_with(alloc, net, lists)? else {
-        return Ok(false);
-    };
-    if !is_endless_of(net, rows) || !is_endless_of(&released, rows) {
-        return Ok(false);
+    match meeting_net(alloc, net, rows, text)? {
+        Some(_) => Ok(true),
+        None => Ok(false),
     }
-    if !is_seen_live(alloc, net)? {
-        return Ok(false);
-    }
-    if !tells_lists(alloc, net, released.inputs(), text)? {
-        return Ok(false);
-    }
-    let kept = is_seen_kept(alloc, &released, rows)?;
-    Ok(kept)
 }

@@ -5,7 +5,7 @@ ghost use Rattle.pace_laws.specs.Eigenspaces.{AreBegunAt, AreGreatestFrom, AreIn
 ghost use Rattle.pace_laws.specs.TightPotentials.{ArePacedDates, AreTightPotentials, IsCriticalIn, IsTightInto};
 ghost use Rattle.policy_laws.specs.RoundCounts.{most_ratios};
 ghost use Rattle.teg_check.specs.Ranks.{IsRanking};
-ghost use Rattle.teg_howard.specs.PolicyRounds.{IsPolicyRun};
+ghost use Rattle.policy_rounds.specs.PolicyRounds.{IsPolicyRun};
 ghost use Rattle.teg_net.specs.Certificates.{potential_at};
 ghost use Rattle.teg_net.specs.GreatestRatios.{HasNoCircuit, IsAnyPlace, IsGreatestRatio};
 ghost use Rattle.teg_net.specs.PartAnswers.{IsBestOfPart};

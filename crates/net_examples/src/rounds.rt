@@ -1,6 +1,4 @@
 //! Rounds of policy iteration: they are a run, and without their first one they are none.
-ghost use Rattle.std.specs.Prelude.{◌≡◌, IfOk, length};
-
 use example_nets::ask_held;
 use round_check::{check_round, check_run};
 use std::alloc::Global;

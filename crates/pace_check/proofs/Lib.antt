@@ -1,2 +1,2 @@
 mod PathSums
-mod Paces
+pub mod Paces

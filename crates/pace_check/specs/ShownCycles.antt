@@ -27,6 +27,12 @@ pub record TellsTimes (net : NetLists) (text : List ℕ) (answer : CycleAnswer) 
   pub parts : ArePartAnswers net answer.part_of.items answer.parts.items
   pub told : text ≡ written (cycle_lines net (cycle_lists answer))
 
+-- the net is live, and the text tells these cycle times, of which the first is the greatest ratio over all circuits of the net
+pub record IsShownTimes (net : NetLists) (text : List ℕ) (answer : CycleAnswer) : Type 0 where
+  pub live : IsLive net
+  pub greatest : (ratio : Fraction) × (best_ratio_of answer ≡ Some ratio) × IsGreatestRatio net IsAnyPlace ratio
+  pub times : TellsTimes net text answer
+
 -- the net is live; the text tells cycle times, of which the first is this ratio, the greatest over all circuits of the net
 pub record IsShownPace (net : NetLists) (text : List ℕ) (ratio : Fraction) : Type 0 where
   pub live : IsLive net

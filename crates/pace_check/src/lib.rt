@@ -2,7 +2,7 @@
 //!
 //! | Answer | What is read | Call |
 //! |---|---|---|
-//! | `cycle` | the circuits and potentials of the parts | [`shown_pace`] |
+//! | `cycle` | the circuits and potentials of the parts | [`shown_times`], [`shown_pace`] |
 //! | `size` | the circuit; potentials are searched for | [`shown_size`] |
 //!
 //! Each call reads a text without a promise, as those of `witness_check` do, lets a checker look at
@@ -23,5 +23,5 @@ mod reading;
 mod size_reading;
 mod sizes;
 
-pub use pace::shown_pace;
+pub use pace::{shown_pace, shown_times};
 pub use sizes::{ShownSize, shown_size};

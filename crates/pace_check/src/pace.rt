@@ -9,7 +9,7 @@ ghost use Rattle.teg_text.specs.Lines.{written};
 ghost use Rattle.teg_lines.specs.CycleLines.{cycle_lines};
 ghost use Rattle.teg_lines.specs.CycleMeanings.{cycle_lists};
 ghost use Rattle.pace_check.specs.PathSums.{IsToldFromLowest};
-ghost use Rattle.pace_check.specs.ShownCycles.{HasPartsInOrder, IsShownPace};
+ghost use Rattle.pace_check.specs.ShownCycles.{HasPartsInOrder, IsShownPace, IsShownTimes};
 
 use crate::path_sums::{PartAt, are_greatest};
 use crate::reading::answer_in;
@@ -149,16 +149,16 @@ fn tells_times(
     Ok(text.as_bytes() == lines.as_slice())
 }
 
-/// The ratio that the text of `teg cycle` tells in its first line, where the net is seen to be live
-/// and the text to tell its cycle times (chapter 3). The whole text is looked at: its parts are the
-/// strong parts of the net in their order; of each part its ratio is the greatest over the circuits
-/// in it, its circuit has it and is told from its lowest numbered transition on, and its potentials
-/// are the greatest sums of the paths from there, or no circuit lies in it; and the part that is
-/// named is the first of greatest ratio. Which of several such circuits is named is not looked at.
-/// It takes time of the order transitions times places, and for each part transitions times
-/// members. `OutOfMemory` comes only where no memory is found.
-pub fn shown_pace(alloc: Global, net: &Net, text: &str) -> Result<Option<Ratio>, OutOfMemory>
-    ensures { IfOk result (λ r. IfSome r (IsShownPace net.now text.now)) }
+/// The cycle times that the text of `teg cycle` tells, where the net is seen to be live and the text
+/// to tell them (chapter 3). The whole text is looked at: its parts are the strong parts of the net
+/// in their order; of each part its ratio is the greatest over the circuits in it, its circuit has
+/// it and is told from its lowest numbered transition on, and its potentials are the greatest sums of
+/// the paths from there, or no circuit lies in it; and the part that is named is the first of
+/// greatest ratio. Which of several such circuits is named is not looked at. It takes time of the
+/// order transitions times places, and for each part transitions times members. `OutOfMemory` comes
+/// only where no memory is found.
+pub fn shown_times(alloc: Global, net: &Net, text: &str) -> Result<Option<CycleAnswer>, OutOfMemory>
+    ensures { IfOk result (λ a. IfSome a (IsShownTimes net.now text.now)) }
 {
     net.rules();
     certificates_tell();
@@ -180,5 +180,16 @@ pub fn shown_pace(alloc: Global, net: &Net, text: &str) -> Result<Option<Ratio>,
     if !tells_times(alloc, net, text, &answer, ratio)? {
         return Ok(None);
     }
-    Ok(Some(ratio))
+    Ok(Some(answer))
+}
+
+/// The ratio that the text of `teg cycle` tells in its first line, where it is shown
+/// ([`shown_times`], in whose time and memory). `OutOfMemory` comes only where no memory is found.
+pub fn shown_pace(alloc: Global, net: &Net, text: &str) -> Result<Option<Ratio>, OutOfMemory>
+    ensures { IfOk result (λ r. IfSome r (IsShownPace net.now text.now)) }
+{
+    match shown_times(alloc, net, text)? {
+        Some(answer) => Ok(best_ratio(&answer)),
+        None => Ok(None),
+    }
 }

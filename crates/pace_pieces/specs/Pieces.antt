@@ -46,10 +46,23 @@ abbrev pub IsBestThere : NetLists → PlaceId → ℕ → Option BestLine → Ty
 IsBestThere net place hold None = HasNoCircuit net IsAnyPlace
 IsBestThere net place hold (Some b) = (b.hold ≡ hold) × IsBestAt net place hold b.line
 
+-- at the ends of a range of holding times the two lines do
+pub record AreBestAtEnds (net : NetLists) (place : PlaceId) (left right : BestLine) : Type 0 where
+  pub order : left.hold ≤ right.hold
+  pub few : right.hold ≤ greatest_hold
+  pub left_best : IsBestAt net place left.hold left.line
+  pub right_best : IsBestAt net place right.hold right.line
+
 -- at each holding time of the piece the net has the greatest ratio that its line tells
 pub record IsPieceOf (net : NetLists) (place : PlaceId) (p : Piece) : Type 0 where
   pub line : IsLineOf net place p.line
   pub greatest : (h : ℕ) → p.from ≤ h → h ≤ p.to → IsGreatestRatio (with_hold net place h) IsAnyPlace (ratio_at p.line h)
+
+-- that of a range of holding times
+pub record IsRangeOf (net : NetLists) (place : PlaceId) (p : Piece) : Type 0 where
+  pub order : p.from ≤ p.to
+  pub few : p.to ≤ greatest_hold
+  pub piece : IsPieceOf net place p
 
 -- the pieces follow each other from one holding time up to before another
 abbrev pub FollowOn : ℕ → List Piece → ℕ → Type 0

@@ -1,7 +1,6 @@
 //! Ranges of a holding time in which one circuit has the greatest ratio.
-ghost use Rattle.std.specs.Prelude.{◌≤◌, ◌<◌, ◌+◌, length, OnOk};
-ghost use Rattle.teg_net.specs.Limits.{greatest_hold};
-ghost use Rattle.pace_pieces.specs.Pieces.{ArePieces, IsPieceOf};
+ghost use Rattle.std.specs.Prelude.{◌<◌, ◌+◌, length, OnOk};
+ghost use Rattle.pace_pieces.specs.Pieces.{ArePieces, IsRangeOf};
 
 use crate::lines::Line;
 use teg_check::LiveNet;
@@ -29,9 +28,7 @@ pub(crate) fn add(
 ) -> Result<(), OutOfMemory>
     requires place { place.index < length held.now.places }
     requires before { ArePieces held.now place low piece.from pieces.old.items }
-    requires piece { IsPieceOf held.now place piece }
-    requires order { piece.from ≤ piece.to }
-    requires hold { piece.to ≤ greatest_hold }
+    requires piece { IsRangeOf held.now place piece }
     ensures { OnOk result (ArePieces held.now place low (piece.to + 1) pieces.new.items) }
 {
     let _held = held;

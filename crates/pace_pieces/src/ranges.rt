@@ -2,7 +2,7 @@
 ghost use Rattle.std.specs.Prelude.{◌+◌, ◌<◌, ◌≤◌, ◌≡◌, length, IfNone, IfOk, IfSome, OnOk};
 ghost use Rattle.teg_net.specs.GreatestRatios.{HasNoCircuit, IsAnyPlace};
 ghost use Rattle.teg_net.specs.Limits.{greatest_hold};
-ghost use Rattle.pace_pieces.specs.Pieces.{ArePieces, IsBestThere, IsBestAt};
+ghost use Rattle.pace_pieces.specs.Pieces.{AreBestAtEnds, ArePieces, IsBestThere};
 
 use crate::lines::{Line, line_of};
 use crate::pieces::{Piece, add};
@@ -66,10 +66,7 @@ fn cover(
     pieces: &mut Vec<Piece>,
 ) -> Result<(), OutOfMemory>
     requires place { place.index < length held.now.places }
-    requires order { left.hold ≤ right.hold }
-    requires hold { right.hold ≤ greatest_hold }
-    requires left { IsBestAt held.now place left.hold left.line }
-    requires right { IsBestAt held.now place right.hold right.line }
+    requires ends { AreBestAtEnds held.now place left right }
     requires before { ArePieces held.now place low left.hold pieces.old.items }
     ensures { OnOk result (ArePieces held.now place low (right.hold + 1) pieces.new.items) }
 {

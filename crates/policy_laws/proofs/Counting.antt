@@ -9,9 +9,9 @@ use Rattle.teg_net.specs.Nets.{NetLists}
 use Rattle.teg_net.specs.Ratios.{Fraction}
 use Rattle.teg_net.specs.Circuits.{no_place, place_at, from_of, IsCircuit, IsLive, time_of, tokens_of}
 use Rattle.teg_net.specs.Parts.{IsPlaceOfPart, ListsMembers}
-use Rattle.teg_howard.specs.Policies.{IsChanged}
-use Rattle.teg_howard.specs.PolicyRounds.{chosen, potential, IsRound, IsRoundOf, KeepsCircuit, FollowsRound, IsRunTo}
-use Rattle.teg_howard.proofs.Turns.{greater_ratio}
+use Rattle.policy_rounds.specs.Policies.{IsChanged}
+use Rattle.policy_rounds.specs.PolicyRounds.{chosen, potential, IsRound, IsRoundOf, KeepsCircuit, FollowsRound, IsRunTo}
+use Rattle.policy_rounds.proofs.Turns.{greater_ratio}
 use Rattle.teg_howard.proofs.Optimum.{some_token}
 use Rattle.teg_howard.proofs.RoundStates.{ratio_less}
 use Rattle.teg_howard.proofs.teg_certificates_proofs.Ratios.{ratio_trans_less}

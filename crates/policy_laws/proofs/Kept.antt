@@ -11,8 +11,8 @@ use Rattle.teg_net.specs.Circuits.{from_of, IsPathBetween}
 use Rattle.teg_net.specs.Parts.{to_of, IsMember, IsPlaceOfPart, ListsMembers}
 use Rattle.teg_net.specs.ReducedTimes.{reduced_time_of}
 use Rattle.teg_net.specs.PartAnswers.{first_transition_of}
-use Rattle.teg_howard.specs.Policies.{Enters}
-use Rattle.teg_howard.specs.PolicyRounds.{potential, IsRound}
+use Rattle.policy_rounds.specs.Policies.{Enters}
+use Rattle.policy_rounds.specs.PolicyRounds.{potential, IsRound}
 use Rattle.policy_laws.proofs.OneRound.{Gains, LeadsHome, IsShortPath, short_path}
 
 module _ (net : NetLists) (parts : List ℕ) (part : ℕ) (q : Fraction) (R : ℕ → Round) where

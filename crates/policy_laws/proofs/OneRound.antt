@@ -11,10 +11,10 @@ use Rattle.teg_net.specs.Circuits.{from_of, IsPathBetween}
 use Rattle.teg_net.specs.Parts.{to_of, IsMember, IsPlaceOfPart, ListsMembers}
 use Rattle.teg_net.specs.ReducedTimes.{reduced_time, reduced_time_of}
 use Rattle.teg_net.specs.PartAnswers.{first_transition_of}
-use Rattle.teg_howard.specs.Policies.{Enters, LeadsBack, AreSums, Improves, offer_of}
-use Rattle.teg_howard.specs.PolicyRounds.{chosen, potential, IsRound, KeepsCircuit, FollowsRound}
-use Rattle.teg_howard.proofs.Turns.{cases_improves, everywhere, better_is_policy, offers, rises}
-use Rattle.teg_howard.proofs.Back.{trail, trail_leads, trail_inside, trail_own}
+use Rattle.policy_rounds.specs.Policies.{Enters, LeadsBack, AreSums, Improves, offer_of}
+use Rattle.policy_rounds.specs.PolicyRounds.{chosen, potential, IsRound, KeepsCircuit, FollowsRound}
+use Rattle.policy_rounds.proofs.Turns.{cases_improves, everywhere, better_is_policy, offers, rises}
+use Rattle.policy_rounds.proofs.Back.{trail, trail_leads, trail_inside, trail_own}
 use Rattle.policy_laws.proofs.InPart.{shorten_in}
 
 -- both rounds have the ratio and the circuit, no potential of the first falls, and each of the second is at least what a

@@ -4,7 +4,7 @@ use Rattle.teg_net.specs.declared.rounds.Round.{Round}
 use Rattle.teg_net.specs.Nets.{NetLists}
 use Rattle.teg_net.specs.Circuits.{IsLive}
 use Rattle.teg_net.specs.Parts.{ListsMembers}
-use Rattle.teg_howard.specs.PolicyRounds.{IsPolicyRun}
+use Rattle.policy_rounds.specs.PolicyRounds.{IsPolicyRun}
 
 -- of one ratio there are at most as many rounds as the part has members
 abbrev pub RoundsOfOneRatioAreFew : Type 0

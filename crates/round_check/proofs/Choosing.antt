@@ -5,9 +5,9 @@ use Rattle.std.proofs.lemmas.Bool.{cases_lt, eq-eqb, ne_eqb}
 use Rattle.std.proofs.lemmas.List.{get_or-map, get_or_default, length-map}
 use Rattle.teg_net.specs.declared.rounds.Choice.{Choice}
 use Rattle.teg_net.specs.Parts.{IsMember, ListsMembers}
-use Rattle.teg_howard.specs.PolicyRounds.{choice_of_member, chosen_for}
-use Rattle.teg_howard.specs.FoundCircuits.{ListsChoices}
-use Rattle.teg_howard.proofs.Listing.{only_members, own_choice}
+use Rattle.policy_rounds.specs.PolicyRounds.{choice_of_member, chosen_for}
+use Rattle.policy_rounds.specs.PolicyLists.{ListsChoices}
+use Rattle.policy_rounds.proofs.ListedChoices.{only_members, own_choice}
 
 -- what stands past the end of a list of choices
 abbrev pub none_chosen : Choice

@@ -1,5 +1,5 @@
 -- The offers of the places that enter a transition, place by place.
-use Rattle.std.proofs.Common.{ℕ, ◌+◌, ◌<◌, ◌≤◌, ◌≡◌, ◌≢◌, List, [], ◌∷◌, Option, Some, None, length, get_or, refl, sym, ap, subst, ◌∙◌, arith, inl, inr, ⊎_elim}
+use Rattle.std.proofs.Common.{ℕ, ◌+◌, ◌<◌, ◌≤◌, ◌≡◌, List, [], ◌∷◌, Option, Some, None, length, refl, ap, subst, arith, inl, inr, ⊎_elim}
 use Rattle.std.specs.Prelude.{ℤ, pos, ◌<ℤ◌, ◌≤ℤ◌, ◌⊎◌, All}
 use Rattle.std.proofs.lemmas.Int.{ints}
 use Rattle.std.proofs.lemmas.Bool.{cases_lt, ne_eqb}
@@ -9,10 +9,10 @@ use Rattle.teg_net.specs.declared.entries.PlaceId.{PlaceId}
 use Rattle.teg_net.specs.declared.rounds.Choice.{Choice}
 use Rattle.teg_net.specs.Nets.{NetLists}
 use Rattle.teg_net.specs.Parts.{IsMember}
-use Rattle.teg_howard.specs.Policies.{Enters, IsGreatestOffer, Improves, first_id, offer_of}
-use Rattle.teg_howard.specs.PolicyRounds.{choice_of_member, chosen_place, value_in}
-use Rattle.teg_howard.specs.FoundCircuits.{policy_of}
-use Rattle.teg_howard.proofs.Turns.{cases_less}
+use Rattle.policy_rounds.specs.Policies.{Enters, first_id, offer_of}
+use Rattle.policy_rounds.specs.PolicyRounds.{choice_of_member, chosen_place, value_in}
+use Rattle.policy_rounds.specs.PolicyLists.{policy_of}
+use Rattle.policy_rounds.proofs.Turns.{cases_less}
 use Rattle.teg_net.proofs.Reading.{same_id}
 use Rattle.round_check.specs.declared.policies.Offer.{Offer}
 use Rattle.round_check.specs.Offers.{IsBetterAt, IsGreaterOf, IsMostBelow, MostBelow, values_at}

@@ -12,9 +12,9 @@ use Rattle.teg_net.specs.Parts.{IsMember, ListsMembers}
 use Rattle.teg_net.specs.PartAnswers.{first_transition_of}
 use Rattle.teg_net.specs.Ratios.{Fraction, IsLowestTerms}
 use Rattle.teg_net.specs.ReducedTimes.{reduced_time}
-use Rattle.teg_howard.specs.Policies.{AreSums, Enters, IsPolicy}
-use Rattle.teg_howard.specs.PolicyRounds.{IsRound, chosen, chosen_for, chosen_place, potential, value_in}
-use Rattle.teg_howard.proofs.Listing.{begins_lowest, only_members}
+use Rattle.policy_rounds.specs.Policies.{AreSums, Enters, IsPolicy}
+use Rattle.policy_rounds.specs.PolicyRounds.{IsRound, chosen, chosen_for, chosen_place, potential, value_in}
+use Rattle.policy_rounds.proofs.ListedChoices.{begins_lowest, only_members}
 use Rattle.round_check.specs.Checks.{AreEntered, AreSumsTold, FitsRound, sum_told}
 use Rattle.round_check.proofs.Choosing.{none_chosen, own_at, stands_at}
 

@@ -1,6 +1,6 @@
 -- From round to round: what is checked is what a run says.
-use Rattle.std.proofs.Common.{ℕ, ◌+◌, ◌-◌, ◌*◌, ◌<◌, ◌≤◌, ◌≡◌, ◌≢◌, List, [], ◌∷◌, Bool, Option, Some, None, length, get_or, refl, sym, ap, subst, ◌∙◌, arith, inl, inr, ⊎_elim}
-use Rattle.std.specs.Prelude.{ℤ, pos, ◌<ℤ◌, ◌≤ℤ◌, ◌⊎◌, ◌↔◌, All, Any}
+use Rattle.std.proofs.Common.{ℕ, ◌+◌, ◌-◌, ◌*◌, ◌<◌, ◌≤◌, ◌≡◌, ◌≢◌, List, [], ◌∷◌, Bool, Some, None, length, get_or, sym, ap, subst, ◌∙◌, arith, inl, inr, ⊎_elim}
+use Rattle.std.specs.Prelude.{ℤ, ◌↔◌, All}
 use Rattle.std.proofs.lemmas.Int.{ints}
 use Rattle.std.proofs.lemmas.Bool.{cases_eq, cases_lt, eq-eqb, ne_eqb}
 use Rattle.std.proofs.lemmas.List.Elements.{All-tail}
@@ -8,24 +8,23 @@ use Rattle.teg_net.specs.declared.entries.PlaceId.{PlaceId}
 use Rattle.teg_net.specs.declared.rounds.Choice.{Choice}
 use Rattle.teg_net.specs.declared.rounds.Round.{Round}
 use Rattle.teg_net.specs.Nets.{NetLists}
-use Rattle.teg_net.specs.Circuits.{AreInRange, from_of, time_of, tokens_of}
+use Rattle.teg_net.specs.Circuits.{time_of, tokens_of}
 use Rattle.teg_net.specs.Limits.{greatest_scaled_potential}
-use Rattle.teg_net.specs.Parts.{IsMember, IsPlaceOfPart, to_of}
+use Rattle.teg_net.specs.Parts.{IsMember, to_of}
 use Rattle.teg_net.specs.PartAnswers.{first_transition_of}
 use Rattle.teg_net.specs.ReducedTimes.{IsMagnitudeWithin}
-use Rattle.teg_howard.specs.Policies.{Policy, IsPolicy, IsPolicyCircuit, IsBestCircuit, IsRouting, Improves, IsImprovement, IsChanged, Enters, offer_of}
-use Rattle.teg_howard.specs.PolicyRounds.{IsRound, IsRoundOf, IsFirstRound, FollowsRound, KeepsCircuit, IsRunTo, IsPolicyRun, chosen, potential, choice_of_member, chosen_place, value_in, last_policy_round}
-use Rattle.teg_howard.specs.FoundCircuits.{AreLowest, policy_of}
-use Rattle.teg_howard.specs.RoundStates.{IsLastRound}
+use Rattle.policy_rounds.specs.Policies.{Policy, IsPolicy, IsPolicyCircuit, IsBestCircuit, IsRouting, Improves, IsImprovement, IsChanged, offer_of}
+use Rattle.policy_rounds.specs.PolicyRounds.{IsRound, IsRoundOf, IsFirstRound, FollowsRound, IsPolicyRun, chosen, potential, choice_of_member, value_in, IsLastRound}
+use Rattle.policy_rounds.specs.PolicyLists.{AreLowest, policy_of}
 use Rattle.teg_parts.specs.Components.{IsMarked}
-use Rattle.teg_howard.proofs.Turns.{cases_id, cases_improves, cases_member, better_is_policy, everywhere}
-use Rattle.teg_howard.proofs.RoundStates.{best_kind, same_functions}
+use Rattle.policy_rounds.proofs.Turns.{cases_id, cases_improves, better_is_policy, everywhere}
+use Rattle.policy_rounds.proofs.BestCircuits.{best_kind, same_functions}
 use Rattle.round_check.specs.declared.circuits.Bound.{Bound}
 use Rattle.round_check.specs.declared.policies.Spread.{Spread}
 use Rattle.round_check.specs.declared.runs.Step.{Step}
 use Rattle.round_check.specs.Offers.{AreSmall, IsBetterAt, IsSpread, values_at}
 use Rattle.round_check.specs.PolicyCircuits.{IsAtMost, IsBoundOf}
-use Rattle.round_check.specs.Rounds.{AreFollowing, IsStep, Keeps, KeepsLimits, Stands}
+use Rattle.round_check.specs.Rounds.{AreFollowing, IsStep, Keeps, KeepsLimits}
 use Rattle.round_check.proofs.Walking.{Passes}
 
 -- small values of choices are small at each transition
@@ -101,7 +100,7 @@ module _ (net : NetLists) (parts : List ℕ) (part : ℕ) where
     );
   }
 
-  of_kind : (π : Policy) (K L : ℕ → Type 0) (r : Round) → ((t : ℕ) → IsMember parts part t → K t → L t) → ((t : ℕ) → IsMember parts part t → L t → K t)
+  pub of_kind : (π : Policy) (K L : ℕ → Type 0) (r : Round) → ((t : ℕ) → IsMember parts part t → K t → L t) → ((t : ℕ) → IsMember parts part t → L t → K t)
       → IsRoundOf net parts part π K r → IsRoundOf net parts part π L r
   of_kind π K L r k l h = record { best = best_kind net parts part π K L r.circuit.places.items k l h.best; routing = h.routing }
 
@@ -126,7 +125,7 @@ module _ (net : NetLists) (parts : List ℕ) (part : ℕ) where
     step_policy = better_is_policy net parts part (chosen r) h.policy r.ratio.time r.ratio.tokens r.circuit.places.items h.circuit h.ratio.same (potential r) h.sums
         (policy_of st.policy.items) is.improves
 
-    changed_improves : (t : ℕ) → IsMarked st.marks.items t → (u : ℕ) × (p : PlaceId) × Improves net parts part r.ratio.time r.ratio.tokens (potential r) u p
+    pub changed_improves : (t : ℕ) → IsMarked st.marks.items t → (u : ℕ) × (p : PlaceId) × Improves net parts part r.ratio.time r.ratio.tokens (potential r) u p
     changed_improves t k =
         let c = (is.marks t).0 k in
         ⊎_elim

@@ -1,7 +1,7 @@
 -- Following a policy backwards from a transition, and how each circuit of the policy is met so.
-use Rattle.std.proofs.Common.{ℕ, zero, suc, ◌+◌, ◌-◌, ◌*◌, ◌<◌, ◌≤◌, ◌≡◌, ◌≢◌, List, [], ◌∷◌, Bool, Option, Some, None, IsTrue, length, get_or, refl, sym, ap, subst, ◌∙◌, arith, inl, inr, ⊎_elim}
-use Rattle.std.specs.Prelude.{All, Any, ◌⊎◌, IfNone, IfSome}
-use Rattle.std.proofs.lemmas.Bool.{cases_eq, cases_lt}
+use Rattle.std.proofs.Common.{ℕ, zero, suc, ◌+◌, ◌-◌, ◌*◌, ◌<◌, ◌≤◌, ◌≡◌, ◌≢◌, List, ◌∷◌, Bool, Option, Some, None, true, false, IsTrue, length, get_or, refl, sym, ap, subst, ◌∙◌, arith, inl, inr, ⊎_elim}
+use Rattle.std.specs.Prelude.{All, Any, ◌⊎◌, ◌↔◌, IfNone, IfSome}
+use Rattle.std.proofs.lemmas.Bool.{cases_eq, cases_lt, false≢true}
 use Rattle.std.proofs.lemmas.List.Sums.{sum_by-cons}
 use Rattle.teg_net.specs.declared.entries.PlaceId.{PlaceId}
 use Rattle.teg_net.specs.Nets.{NetLists, IsNet}
@@ -9,16 +9,16 @@ use Rattle.teg_net.specs.Circuits.{place_at, from_of, time_of, tokens_of}
 use Rattle.teg_net.specs.Limits.{greatest_circuit_time, most_circuit_tokens}
 use Rattle.teg_net.specs.Parts.{IsMember, to_of}
 use Rattle.teg_net.specs.PartAnswers.{first_transition_of}
-use Rattle.teg_howard.specs.Policies.{Policy, IsPolicy, IsPolicyCircuit, step_back, first_id}
-use Rattle.teg_howard.specs.FoundCircuits.{GoesBelow}
+use Rattle.policy_rounds.specs.Policies.{Policy, IsPolicy, IsPolicyCircuit, step_back, first_id}
+use Rattle.policy_rounds.specs.PolicyLists.{GoesBelow}
 use Rattle.teg_parts.specs.Components.{IsMarked}
-use Rattle.teg_howard.proofs.Back.{trail, back_member, get_or-trail, trail_circuit}
-use Rattle.teg_howard.proofs.Turns.{circuit_trail, root_member}
-use Rattle.teg_howard.proofs.Walks.{circuit_short, found_sums_in, same_circuit, trail_sums}
-use Rattle.teg_howard.proofs.First.{low_turn}
+use Rattle.policy_rounds.proofs.Back.{trail, back_member, get_or-trail, trail_circuit}
+use Rattle.policy_rounds.proofs.Turns.{circuit_trail, root_member}
+use Rattle.policy_rounds.proofs.PolicyCircuits.{circuit_short, found_sums_in, same_circuit, trail_sums}
+use Rattle.policy_rounds.proofs.First.{low_turn}
 use Rattle.round_check.specs.declared.circuits.Around.{Around}
 use Rattle.round_check.specs.declared.circuits.Bound.{Bound}
-use Rattle.round_check.specs.PolicyCircuits.{AreAtMost, FitsBound, IsAround, IsAtMost, IsAtMostAt}
+use Rattle.round_check.specs.PolicyCircuits.{AllAtMost, AreAtMost, FitsBound, IsAround, IsAtMost}
 
 abbrev pub Passes : NetLists → List Bool → List PlaceId → Type 0
 Passes net marked ps = Any (λ p. IsMarked marked (to_of net p)) ps
@@ -27,26 +27,31 @@ any_cons : (P : PlaceId → Type 0) (p : PlaceId) (ps : List PlaceId) → Any P 
 any_cons P p ps (zero, x, l, e, h) = inl (subst P (sym e) h)
 any_cons P p ps (suc k, x, l, e, h) = inr (k, x, (let m : k < length ps = omega arith in m), e, h)
 
+any_here : (P : PlaceId → Type 0) (p : PlaceId) (ps : List PlaceId) → P p → Any P (p ∷ ps)
+any_here P p ps h = let l : 0 < length (p ∷ ps) = omega arith in (0, p, l, refl, h)
+
+any_later : (P : PlaceId → Type 0) (p : PlaceId) (ps : List PlaceId) → Any P ps → Any P (p ∷ ps)
+any_later P p ps (k, x, l, e, h) = let m : suc k < length (p ∷ ps) = omega arith in (suc k, x, m, e, h)
+
 -- m places back from the start, which has not come again
 pub record Walking (net : NetLists) (π : Policy) (marked : List Bool) (start m at time tokens : ℕ) (passes : Bool) : Type 0 where
   pub here : at ≡ step_back net π m start
   pub time_is : time ≡ time_of net (trail net π m start)
   pub tokens_is : tokens ≡ tokens_of net (trail net π m start)
-  pub passed : Passes net marked (trail net π m start) → IsTrue passes
+  pub passed : IsTrue passes ↔ Passes net marked (trail net π m start)
   pub not_yet : (j : ℕ) → 0 < j → j ≤ m → step_back net π j start ≢ start
 
-pub walking_none : (net : NetLists) (π : Policy) (marked : List Bool) (start : ℕ) (passes : Bool) → Walking net π marked start 0 start 0 0 passes
-walking_none net π marked start passes = record {
+pub walking_none : (net : NetLists) (π : Policy) (marked : List Bool) (start : ℕ) → Walking net π marked start 0 start 0 0 false
+walking_none net π marked start = record {
   here = refl;
   time_is = refl;
   tokens_is = refl;
-  passed = λ w. let l = w.2 in absurd (omega arith);
+  passed = (λ (y : false ≡ true). absurd (false≢true y), λ w. let l = w.2 in absurd (omega arith));
   not_yet = λ j l k. absurd (omega arith);
 }
 
 module _ (net : NetLists) (parts : List ℕ) (part : ℕ) (π : Policy) (ok : IsPolicy net parts part π) (marked : List Bool) (start : ℕ) (member : IsMember parts part start) where
-  module _ (m at time tokens : ℕ) (passes now : Bool) (h : Walking net π marked start m at time tokens passes)
-      (before : IsTrue passes → IsTrue now) (here : IsMarked marked at → IsTrue now) where
+  module _ (m at time tokens : ℕ) (passes : Bool) (h : Walking net π marked start m at time tokens passes) where
     step_at : π at ≡ π (step_back net π m start)
     step_at = ap π h.here
 
@@ -67,26 +72,31 @@ module _ (net : NetLists) (parts : List ℕ) (part : ℕ) (π : Policy) (ok : Is
         let t = h.tokens_is in
         omega arith
 
-    step_passed : Passes net marked (trail net π (suc m) start) → IsTrue now
-    step_passed w =
+    step_passed : (now : Bool) → IsTrue now ↔ (IsTrue passes ⊎ IsMarked marked at) → IsTrue now ↔ Passes net marked (trail net π (suc m) start)
+    step_passed now is =
         let x : ℕ = step_back net π m start in
-        ⊎_elim
-        (λ (q : IsMarked marked (to_of net (π x))).
         let ends : to_of net (π x) ≡ x = (ok x (back_member net parts part π ok m start member)).ends in
-        here (subst (IsMarked marked) (ends ∙ sym h.here) q))
-        (λ (q : Passes net marked (trail net π m start)). before (h.passed q))
-        (any_cons (λ p. IsMarked marked (to_of net p)) (π x) (trail net π m start) w)
+        let P : PlaceId → Type 0 = λ p. IsMarked marked (to_of net p) in (
+          λ y. ⊎_elim
+              (λ (q : IsTrue passes). any_later P (π x) (trail net π m start) (h.passed.0 q))
+              (λ (q : IsMarked marked at). any_here P (π x) (trail net π m start) (subst (IsMarked marked) (h.here ∙ sym ends) q))
+              (is.0 y),
+          λ w. is.1 (⊎_elim
+              (λ (q : IsMarked marked (to_of net (π x))). inr (subst (IsMarked marked) (ends ∙ sym h.here) q))
+              (λ (q : Passes net marked (trail net π m start)). inl (h.passed.1 q))
+              (any_cons P (π x) (trail net π m start) w)),
+        )
 
-    pub walking_more : from_of net (π at) ≢ start
+    pub walking_more : (now : Bool) → IsTrue now ↔ (IsTrue passes ⊎ IsMarked marked at) → from_of net (π at) ≢ start
         → Walking net π marked start (m + 1) (from_of net (π at)) (time + (place_at net (π at)).hold) (tokens + (place_at net (π at)).tokens) now
-    walking_more ne =
+    walking_more now is ne =
         let e : m + 1 ≡ suc m = omega arith in
         subst (λ n. Walking net π marked start n (from_of net (π at)) (time + (place_at net (π at)).hold) (tokens + (place_at net (π at)).tokens) now) (sym e)
         (record {
           here = step_from;
           time_is = step_time;
           tokens_is = step_tokens;
-          passed = step_passed;
+          passed = step_passed now is;
           not_yet = λ j l k.
               ⊎_elim
               (λ (q : j < suc m). h.not_yet j l (omega arith))
@@ -95,9 +105,9 @@ module _ (net : NetLists) (parts : List ℕ) (part : ℕ) (π : Policy) (ok : Is
         })
 
     -- the start has come again
-    pub walking_round : IsNet net → m < length net.transitions → from_of net (π at) ≡ start → (a : Around) → a.time ≡ time + (place_at net (π at)).hold
+    pub walking_round : (now : Bool) → IsTrue now ↔ (IsTrue passes ⊎ IsMarked marked at) → IsNet net → m < length net.transitions → from_of net (π at) ≡ start → (a : Around) → a.time ≡ time + (place_at net (π at)).hold
         → a.tokens ≡ tokens + (place_at net (π at)).tokens → a.passes ≡ now → IsAround net parts part π marked start a
-    walking_round kept l e a ts ks ps =
+    walking_round now is kept l e a ts ks ps =
         let home : step_back net π (suc m) start ≡ start = sym step_from ∙ e in
         let sums = trail_sums net parts part π ok kept (suc m) start member in
         let few = kept.few_transitions in
@@ -110,7 +120,7 @@ module _ (net : NetLists) (parts : List ℕ) (part : ℕ) (π : Policy) (ok : Is
           begins = home;
           time = time_is;
           tokens = tokens_is;
-          passes = λ w. subst IsTrue (sym ps) (step_passed w);
+          passes = subst (λ b. IsTrue b ↔ Passes net marked (trail net π (suc m) start)) (sym ps) (step_passed now is);
           time_in = small.0;
           tokens_in = small.1;
         }
@@ -172,12 +182,20 @@ module _ (net : NetLists) (parts : List ℕ) (part : ℕ) (π : Policy) (ok : Is
   pub some_at : (start : ℕ) (a : Around) → IsAround net parts part π marked start a → FitsBound (Some a) bound start → AreAtMost net parts part π marked bound start
   some_at start a h f d hd low e p =
       let same : d ≡ h.places = same_circuit net parts part π ok d h.places hd h.circuit (e ∙ sym h.begins) in
-      at_most bound a start 0 0 d f (h.passes (subst (Passes net marked) same p)) (ap (time_of net) same ∙ sym h.time) (ap (tokens_of net) same ∙ sym h.tokens) e
+      at_most bound a start 0 0 d f (h.passes.1 (subst (Passes net marked) same p)) (ap (time_of net) same ∙ sym h.time) (ap (tokens_of net) same ∙ sym h.tokens) e
 
   pub found_at : (start : ℕ) (found : Option Around) → IfSome found (IsAround net parts part π marked start) → IfNone found (GoesBelow net π start (length parts))
       → FitsBound found bound start → AreAtMost net parts part π marked bound start
   found_at start None some none f = none_at start none
   found_at start (Some a) some none f = some_at start a some f
+
+  -- where all circuits fit, that which was found does
+  pub fits_where_all : (b : Option Bound) (start : ℕ) (found : Option Around) → IfSome found (IsAround net parts part π marked start) → AllAtMost net parts part π marked b → FitsBound found b start
+  fits_where_all b start None some all = tt
+  fits_where_all None start (Some a) some all = λ y. all some.places some.circuit (some.passes.0 y)
+  fits_where_all (Some b) start (Some a) some all = λ y.
+      let fits = all some.places some.circuit (some.passes.0 y) in
+      rw (some.time, some.tokens, sym some.begins) fits
 
   turned_at_most : (b : Option Bound) (d e : List PlaceId) → time_of net e ≡ time_of net d → tokens_of net e ≡ tokens_of net d
       → first_transition_of net e ≤ first_transition_of net d → IsAtMost net b e → IsAtMost net b d
@@ -193,7 +211,7 @@ module _ (net : NetLists) (parts : List ℕ) (part : ℕ) (π : Policy) (ok : Is
 
   -- each circuit is told from its lowest transition on somewhere
   pub all_at_most : ((s : ℕ) → s < length parts → IsMember parts part s → AreAtMost net parts part π marked bound s)
-      → (d : List PlaceId) → IsPolicyCircuit net parts part π d → Passes net marked d → IsAtMost net bound d
+      → AllAtMost net parts part π marked bound
   all_at_most each d hd p =
       let t = low_turn net parts part π (λ q. IsMarked marked (to_of net q)) d hd in
       let m = root_member net parts part π t.places t.is in

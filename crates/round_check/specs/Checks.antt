@@ -8,8 +8,8 @@ use Rattle.teg_net.specs.Parts.{IsPlaceOfPart, ListsMembers, to_of}
 use Rattle.teg_net.specs.PartAnswers.{first_transition_of}
 use Rattle.teg_net.specs.Ratios.{Fraction}
 use Rattle.teg_net.specs.ReducedTimes.{reduced_time}
-use Rattle.teg_howard.specs.Policies.{Enters}
-use Rattle.teg_howard.specs.PolicyRounds.{choice_of_member, chosen_for, chosen_place, value_in}
+use Rattle.policy_rounds.specs.Policies.{Enters}
+use Rattle.policy_rounds.specs.PolicyRounds.{choice_of_member, chosen_for, chosen_place, value_in}
 
 -- each choice is of a place of the part that enters its transition
 abbrev pub AreEntered : NetLists → List ℕ → ℕ → List Choice → Type 0

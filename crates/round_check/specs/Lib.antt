@@ -3,3 +3,4 @@ pub mod Offers
 pub mod PolicyCircuits
 pub mod Routes
 pub mod Rounds
+pub mod ShownRounds

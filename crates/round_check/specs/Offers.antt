@@ -5,9 +5,9 @@ use Rattle.teg_net.specs.declared.rounds.Choice.{Choice}
 use Rattle.teg_net.specs.Nets.{NetLists}
 use Rattle.teg_net.specs.Limits.{greatest_scaled_potential}
 use Rattle.teg_net.specs.ReducedTimes.{IsMagnitudeWithin}
-use Rattle.teg_howard.specs.Policies.{Enters, Improves, IsGreatestOffer, offer_of}
-use Rattle.teg_howard.specs.PolicyRounds.{choice_of_member, chosen_place, value_in}
-use Rattle.teg_howard.specs.FoundCircuits.{policy_of}
+use Rattle.policy_rounds.specs.Policies.{Enters, Improves, IsGreatestOffer, offer_of}
+use Rattle.policy_rounds.specs.PolicyRounds.{choice_of_member, chosen_place, value_in}
+use Rattle.policy_rounds.specs.PolicyLists.{policy_of}
 use Rattle.round_check.specs.declared.policies.Offer.{Offer}
 use Rattle.round_check.specs.declared.policies.Spread.{Spread}
 

@@ -6,7 +6,7 @@ use Rattle.teg_net.specs.Circuits.{from_of, time_of, tokens_of}
 use Rattle.teg_net.specs.Limits.{greatest_circuit_time, most_circuit_tokens}
 use Rattle.teg_net.specs.Parts.{to_of}
 use Rattle.teg_net.specs.PartAnswers.{first_transition_of}
-use Rattle.teg_howard.specs.Policies.{Policy, IsPolicyCircuit}
+use Rattle.policy_rounds.specs.Policies.{Policy, IsPolicyCircuit}
 use Rattle.teg_parts.specs.Components.{IsMarked}
 use Rattle.round_check.specs.declared.circuits.Around.{Around}
 use Rattle.round_check.specs.declared.circuits.Bound.{Bound}
@@ -18,7 +18,7 @@ pub record IsAround (net : NetLists) (parts : List ℕ) (part : ℕ) (policy : P
   pub begins : first_transition_of net places ≡ start
   pub time : a.time ≡ time_of net places
   pub tokens : a.tokens ≡ tokens_of net places
-  pub passes : Any (λ p. IsMarked marked (to_of net p)) places → IsTrue a.passes
+  pub passes : IsTrue a.passes ↔ Any (λ p. IsMarked marked (to_of net p)) places
   pub time_in : a.time ≤ greatest_circuit_time
   pub tokens_in : a.tokens ≤ most_circuit_tokens
 
@@ -49,6 +49,18 @@ FitsBound (Some a) (Some b) start = IsTrue a.passes → IsAtMostAt a.time a.toke
 abbrev pub IsAtMost : NetLists → Option Bound → List PlaceId → Type 0
 IsAtMost net None d = ⊥
 IsAtMost net (Some b) d = IsAtMostAt (time_of net d) (tokens_of net d) (first_transition_of net d) b
+
+-- each circuit of the policy that passes a marked transition does so
+abbrev pub AllAtMost : NetLists → List ℕ → ℕ → Policy → List Bool → Option Bound → Type 0
+AllAtMost net parts part policy marked bound =
+    (d : List PlaceId) → IsPolicyCircuit net parts part policy d → Any (λ p. IsMarked marked (to_of net p)) d → IsAtMost net bound d
+
+-- the places of the circuit are the policy's, one of them ends at a marked transition, and no circuit of the policy that passes one is
+-- above the bound
+pub record FitsPolicy (net : NetLists) (parts : List ℕ) (part : ℕ) (policy : Policy) (marked : List Bool) (c : List PlaceId) (b : Bound) : Type 0 where
+  pub own : All (λ p. policy (to_of net p) ≡ p) c
+  pub through : Any (λ p. IsMarked marked (to_of net p)) c
+  pub most : AllAtMost net parts part policy marked (Some b)
 
 -- each circuit of the policy that begins at the transition, its lowest one, and passes a marked one does so
 abbrev pub AreAtMost : NetLists → List ℕ → ℕ → Policy → List Bool → Option Bound → ℕ → Type 0

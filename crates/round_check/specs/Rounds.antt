@@ -6,9 +6,9 @@ use Rattle.teg_net.specs.Limits.{greatest_scaled_potential}
 use Rattle.teg_net.specs.Nets.{NetLists}
 use Rattle.teg_net.specs.Parts.{IsMember}
 use Rattle.teg_net.specs.ReducedTimes.{IsMagnitudeWithin}
-use Rattle.teg_howard.specs.Policies.{IsChanged, IsImprovement}
-use Rattle.teg_howard.specs.PolicyRounds.{FollowsRound, IsRound, chosen, potential}
-use Rattle.teg_howard.specs.FoundCircuits.{IsCircuitRatio, policy_of}
+use Rattle.policy_rounds.specs.Policies.{IsChanged, IsImprovement}
+use Rattle.policy_rounds.specs.PolicyRounds.{FollowsRound, IsRound, chosen, potential}
+use Rattle.policy_rounds.specs.PolicyLists.{IsCircuitRatio, policy_of}
 use Rattle.teg_parts.specs.Components.{IsMarked}
 use Rattle.round_check.specs.declared.runs.Step.{Step}
 

@@ -1,11 +1,11 @@
 -- Working definitions of how members are routed to a circuit: which are marked.
-use Rattle.std.specs.Prelude.{ℕ, ◌<◌, ◌≤◌, ◌≡◌, ◌↔◌, List, Bool, length}
+use Rattle.std.specs.Prelude.{ℕ, ◌≤◌, ◌≡◌, ◌↔◌, List, Bool}
 use Rattle.teg_net.specs.declared.entries.PlaceId.{PlaceId}
 use Rattle.teg_net.specs.Nets.{NetLists}
 use Rattle.teg_net.specs.Circuits.{from_of}
 use Rattle.teg_net.specs.Parts.{IsMember, IsPlaceOfPart, to_of}
-use Rattle.teg_howard.specs.Policies.{Policy, LeadsBack}
-use Rattle.teg_howard.specs.FoundCircuits.{policy_of}
+use Rattle.policy_rounds.specs.Policies.{Policy, IsRouting, LeadsBack}
+use Rattle.policy_rounds.specs.PolicyLists.{policy_of}
 use Rattle.teg_parts.specs.Components.{IsMarked}
 
 -- marked are just the members from which the policy leads back to the root
@@ -26,6 +26,10 @@ pub record Leads (net : NetLists) (parts : List ℕ) (part : ℕ) (marks : List 
 pub record IsNextMark (net : NetLists) (parts : List ℕ) (part : ℕ) (marks : List Bool) (p : PlaceId) : Type 0 where
   pub leads : Leads net parts part marks p
   pub lowest : (q : PlaceId) → Leads net parts part marks q → p.index ≤ q.index
+
+-- the policy with every other member routed to the root, by whatever places that join them
+abbrev pub IsRoutedBy : NetLists → List ℕ → ℕ → Policy → ℕ → Policy → Type 0
+IsRoutedBy net parts part policy root routed = (joins : List PlaceId) × IsRouting net parts part policy root joins routed
 
 -- each member is marked
 abbrev pub AreMarked : List ℕ → ℕ → List Bool → Type 0

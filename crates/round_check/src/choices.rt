@@ -1,9 +1,8 @@
 //! The choices of a round: what is chosen for each member, and whether that is one choice for each.
-ghost use Rattle.std.specs.Prelude.{◌≡◌, ◌≢◌, ◌↔◌, ◌<◌, ℕ, All, AllPairs, IsTrue, None, length};
+ghost use Rattle.std.specs.Prelude.{◌≡◌, ◌≢◌, ◌↔◌, ◌<◌, ℕ, All, AllPairs, IsTrue, None};
 ghost use Rattle.teg_net.specs.Parts.{IsMember, ListsMembers};
-ghost use Rattle.teg_howard.specs.Policies.{IsPolicy};
-ghost use Rattle.teg_howard.specs.PolicyRounds.{choice_of_member, chosen_for, chosen_place, value_in};
-ghost use Rattle.teg_howard.specs.FoundCircuits.{ListsChoices};
+ghost use Rattle.policy_rounds.specs.PolicyRounds.{choice_of_member, chosen_for, chosen_place, value_in};
+ghost use Rattle.policy_rounds.specs.PolicyLists.{ListsChoices};
 ghost use Rattle.round_check.specs.Checks.{AreEntered};
 
 use crate::parts::{Part, enters, is_member};

@@ -1,13 +1,12 @@
 //! The circuits of a policy, and whether one of them is the greatest.
-ghost use Rattle.std.specs.Prelude.{◌≡◌, ◌↔◌, ◌<◌, ◌≤◌, ◌*◌, ℕ, List, Any, IfNone, IfSome, IsTrue, length};
-ghost use Rattle.teg_net.specs.declared.entries.PlaceId.{PlaceId};
+ghost use Rattle.std.specs.Prelude.{◌≡◌, ◌↔◌, ◌<◌, ◌≤◌, ◌⊎◌, Any, IfNone, IfSome, IsTrue, length};
 ghost use Rattle.teg_net.specs.Circuits.{AreInRange, place_at};
 ghost use Rattle.teg_net.specs.Limits.{greatest_circuit_time, most_circuit_tokens};
 ghost use Rattle.teg_net.specs.Parts.{IsMember, to_of};
-ghost use Rattle.teg_howard.specs.Policies.{IsPolicy, IsPolicyCircuit};
-ghost use Rattle.teg_howard.specs.FoundCircuits.{GoesBelow, policy_of};
+ghost use Rattle.policy_rounds.specs.Policies.{IsPolicy};
+ghost use Rattle.policy_rounds.specs.PolicyLists.{GoesBelow, policy_of};
 ghost use Rattle.teg_parts.specs.Components.{IsMarked};
-ghost use Rattle.round_check.specs.PolicyCircuits.{AreAtMost, FitsBound, IsAround, IsAtMost, IsAtMostAt, IsBoundSmall};
+ghost use Rattle.round_check.specs.PolicyCircuits.{AllAtMost, AreAtMost, FitsBound, IsAround, IsAtMostAt, IsBoundSmall};
 
 use crate::parts::{Part, end_of};
 use teg_net::{Net, Place, PlaceId};
@@ -34,8 +33,7 @@ pub(crate) struct Around {
 
 // Whether a marked transition was passed before, or is now.
 fn passes_now(before: bool, is_marked: bool) -> bool
-    ensures before { IsTrue before → IsTrue result }
-    ensures now { IsTrue is_marked → IsTrue result }
+    ensures { IsTrue result ↔ (IsTrue before ⊎ IsTrue is_marked) }
 {
     before || is_marked
 }
@@ -133,8 +131,10 @@ fn fits_at(
     requires count_marked { length marked.now ≡ length part.now.parts.now }
     requires bound { IfSome bound IsBoundSmall }
     requires member { IsMember part.now.parts.now part.now.number start }
-    ensures { IsTrue result → AreAtMost part.now.net.now part.now.parts.now part.now.number
+    ensures fits { IsTrue result → AreAtMost part.now.net.now part.now.parts.now part.now.number
         (policy_of policy.now) marked.now bound start }
+    ensures all { AllAtMost part.now.net.now part.now.parts.now part.now.number (policy_of
+        policy.now) marked.now bound → IsTrue result }
 {
     let found = circuit_from(part, policy, marked, start);
     fits_bound(found, bound, start)
@@ -152,10 +152,8 @@ pub(crate) fn all_fit(
     requires count { length policy.now ≡ length part.now.parts.now }
     requires count_marked { length marked.now ≡ length part.now.parts.now }
     requires bound { IfSome bound IsBoundSmall }
-    ensures { IsTrue result → ((d : List PlaceId)
-        → IsPolicyCircuit part.now.net.now part.now.parts.now part.now.number (policy_of policy.now)
-        d → Any (λ p. IsMarked marked.now (to_of part.now.net.now p)) d
-        → IsAtMost part.now.net.now bound d) }
+    ensures { IsTrue result ↔ AllAtMost part.now.net.now part.now.parts.now part.now.number
+        (policy_of policy.now) marked.now bound }
 {
     for start in 0..part.parts.len() {
         if part.parts[start] == part.number && !fits_at(part, policy, marked, bound, start) {
@@ -165,15 +163,24 @@ pub(crate) fn all_fit(
     true
 }
 
+// Whether the place ends at a marked transition.
+fn ends_marked(net: &Net, marked: &[bool], id: PlaceId) -> bool
+    requires place { id.index < length net.now.places }
+    requires end { to_of net.now id < length marked.now }
+    ensures { IsTrue result ↔ IsMarked marked.now (to_of net.now id) }
+{
+    marked[end_of(net, id)]
+}
+
 // Whether a place of the circuit ends at a marked transition.
 pub(crate) fn passes(net: &Net, circuit: &[PlaceId], marked: &[bool]) -> bool
     requires in_range { AreInRange net.now circuit.now }
     requires count { length marked.now ≡ length net.now.transitions }
-    ensures { IsTrue result → Any (λ p. IsMarked marked.now (to_of net.now p)) circuit.now }
+    ensures { IsTrue result ↔ Any (λ p. IsMarked marked.now (to_of net.now p)) circuit.now }
 {
     net.rules();
     for id in circuit {
-        if marked[end_of(net, *id)] {
+        if ends_marked(net, marked, *id) {
             return true;
         }
     }

@@ -2,7 +2,7 @@
 ghost use Rattle.std.specs.Prelude.{◌≡◌, ◌↔◌, ◌<◌, IsTrue, length};
 ghost use Rattle.teg_net.specs.Circuits.{place_at};
 ghost use Rattle.teg_net.specs.Parts.{IsMember, IsPlaceOfPart};
-ghost use Rattle.teg_howard.specs.Policies.{Enters};
+ghost use Rattle.policy_rounds.specs.Policies.{Enters};
 
 use teg_net::{Net, PlaceId};
 

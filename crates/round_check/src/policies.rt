@@ -2,13 +2,12 @@
 //! offer more.
 ghost use Rattle.std.specs.Prelude.{◌≡◌, ◌↔◌, ◌<◌, ◌≤◌, ◌+◌, ◌*◌, ◌+ℤ◌, ◌-ℤ◌, ◌<ℤ◌, ℕ, pos, All, IfNone, IfOk, IfSome, IsTrue, length};
 ghost use Rattle.teg_net.specs.declared.entries.PlaceId.{PlaceId};
-ghost use Rattle.teg_net.specs.Circuits.{from_of};
 ghost use Rattle.teg_net.specs.Limits.{greatest_hold, greatest_scaled_potential, most_place_tokens};
 ghost use Rattle.teg_net.specs.Parts.{IsMember};
 ghost use Rattle.teg_net.specs.ReducedTimes.{IsMagnitudeWithin};
-ghost use Rattle.teg_howard.specs.Policies.{Enters, IsChanged, IsImprovement, first_id, offer_of};
-ghost use Rattle.teg_howard.specs.PolicyRounds.{IsLowestInto};
-ghost use Rattle.teg_howard.specs.FoundCircuits.{AreLowest, IsCircuitRatio, policy_of};
+ghost use Rattle.policy_rounds.specs.Policies.{Enters, IsChanged, IsImprovement, first_id, offer_of};
+ghost use Rattle.policy_rounds.specs.PolicyRounds.{IsLowestInto};
+ghost use Rattle.policy_rounds.specs.PolicyLists.{AreLowest, IsCircuitRatio, policy_of};
 ghost use Rattle.teg_parts.specs.Components.{IsMarked};
 ghost use Rattle.round_check.specs.Offers.{AreSmall, IsBetterAt, IsGreaterOf, IsMostBelow, IsSpread, values_at};
 

@@ -6,7 +6,7 @@ ghost use Rattle.teg_net.specs.PartAnswers.{first_transition_of};
 ghost use Rattle.teg_net.specs.Parts.{IsPlaceOfPart, to_of};
 ghost use Rattle.teg_net.specs.Ratios.{IsLowestTerms};
 ghost use Rattle.teg_net.specs.ReducedTimes.{reduced_time_of_place};
-ghost use Rattle.teg_howard.specs.PolicyRounds.{IsRound, choice_of_member, chosen_place};
+ghost use Rattle.policy_rounds.specs.PolicyRounds.{IsRound, choice_of_member, chosen_place};
 ghost use Rattle.round_check.specs.Checks.{AreChoicesOf, AreChosen, AreSumsTold, FitsCircuit, FitsRound, IsCircuitTold, IsInRangeAt, IsOwnCircuit, sum_told};
 
 use crate::choices::{are_entered, list_members, place_for, value_for};

@@ -1,11 +1,10 @@
 //! Whether a policy is another one with every member routed to a circuit, place by place.
-ghost use Rattle.std.specs.Prelude.{◌≡◌, ◌↔◌, ◌<◌, ℕ, List, IfNone, IfOk, IfSome, IsTrue, length};
+ghost use Rattle.std.specs.Prelude.{◌≡◌, ◌↔◌, ◌<◌, IfNone, IfOk, IfSome, IsTrue, length};
 ghost use Rattle.teg_net.specs.declared.entries.PlaceId.{PlaceId};
 ghost use Rattle.teg_net.specs.Parts.{IsMember};
-ghost use Rattle.teg_howard.specs.Policies.{IsPolicy, IsRouting, LeadsBack};
-ghost use Rattle.teg_howard.specs.FoundCircuits.{policy_of};
-ghost use Rattle.teg_parts.specs.Components.{IsMarked};
-ghost use Rattle.round_check.specs.Routes.{AreHome, AreMarked, IsNextMark, KeepsHome, Leads};
+ghost use Rattle.policy_rounds.specs.Policies.{IsPolicy, LeadsBack};
+ghost use Rattle.policy_rounds.specs.PolicyLists.{policy_of};
+ghost use Rattle.round_check.specs.Routes.{AreHome, AreMarked, IsNextMark, IsRoutedBy, KeepsHome, Leads};
 
 use crate::parts::{Part, end_of, is_inside, is_member, start_of};
 use std::alloc::{AllocError, Global};
@@ -66,7 +65,7 @@ fn keeps_home(part: &Part, policy: &[PlaceId], routed: &[PlaceId], home: &[bool]
     requires count { length policy.now ≡ length part.now.parts.now }
     requires count_routed { length routed.now ≡ length part.now.parts.now }
     requires count_home { length home.now ≡ length part.now.parts.now }
-    ensures { IsTrue result → KeepsHome policy.now routed.now home.now }
+    ensures { IsTrue result ↔ KeepsHome policy.now routed.now home.now }
 {
     for member in 0..part.parts.len() {
         if home[member] && routed[member] != policy[member] {
@@ -108,7 +107,7 @@ fn next_join(part: &Part, marked: &[bool]) -> Option<PlaceId>
 // Whether each member is marked.
 fn all_marked(part: &Part, marked: &[bool]) -> bool
     requires { length marked.now ≡ length part.now.parts.now }
-    ensures { IsTrue result → AreMarked part.now.parts.now part.now.number marked.now }
+    ensures { IsTrue result ↔ AreMarked part.now.parts.now part.now.number marked.now }
 {
     for member in 0..part.parts.len() {
         if part.parts[member] == part.number && !marked[member] {
@@ -135,13 +134,15 @@ fn joins_all(
     routed: &[PlaceId],
     mut home: Vec<bool>,
 ) -> bool
+    requires policy { IsPolicy part.now.net.now part.now.parts.now part.now.number (policy_of
+        policy.now) }
     requires count { length home.items ≡ length part.now.parts.now }
     requires count_routed { length routed.now ≡ length part.now.parts.now }
     requires home { AreHome part.now.net.now part.now.parts.now part.now.number (policy_of
         policy.now) root home.items }
     requires kept { KeepsHome policy.now routed.now home.items }
-    ensures { IsTrue result → (joins : List PlaceId) × IsRouting part.now.net.now
-        part.now.parts.now part.now.number (policy_of policy.now) root joins (policy_of routed.now) }
+    ensures { IsTrue result ↔ IsRoutedBy part.now.net.now part.now.parts.now part.now.number
+        (policy_of policy.now) root (policy_of routed.now) }
 {
     let _policy = policy;
     'joins: for _step in 0..part.parts.len() {
@@ -171,9 +172,8 @@ pub(crate) fn is_routing(
         policy.now) }
     requires count { length policy.now ≡ length part.now.parts.now }
     requires count_routed { length routed.now ≡ length part.now.parts.now }
-    ensures { IfOk result (λ yes. IsTrue yes → (joins : List PlaceId) × IsRouting part.now.net.now
-        part.now.parts.now part.now.number (policy_of policy.now) root joins
-        (policy_of routed.now)) }
+    ensures { IfOk result (λ yes. IsTrue yes ↔ IsRoutedBy part.now.net.now part.now.parts.now
+        part.now.number (policy_of policy.now) root (policy_of routed.now)) }
 {
     let home = homes(alloc, part, policy, root)?;
     if !keeps_home(part, policy, routed, &home) {

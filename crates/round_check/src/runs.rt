@@ -1,17 +1,15 @@
 //! Whether rounds are a policy run of a part.
-ghost use Rattle.std.specs.Prelude.{◌≡◌, ◌↔◌, ◌<◌, ◌≤◌, ◌-◌, ℕ, List, All, Any, IfOk, IsTrue, Some, length, slice_index_or};
-ghost use Rattle.teg_net.specs.declared.entries.PlaceId.{PlaceId};
+ghost use Rattle.std.specs.Prelude.{◌≡◌, ◌↔◌, ◌<◌, ◌-◌, ℕ, All, IfOk, IsTrue, length, slice_index_or};
 ghost use Rattle.teg_net.specs.declared.rounds.Round.{Round};
-ghost use Rattle.teg_net.specs.Circuits.{AreInRange, IsCircuit};
+ghost use Rattle.teg_net.specs.Circuits.{AreInRange, IsCircuit, IsLive};
 ghost use Rattle.teg_net.specs.Limits.{greatest_scaled_potential};
 ghost use Rattle.teg_net.specs.Parts.{to_of};
 ghost use Rattle.teg_net.specs.ReducedTimes.{IsMagnitudeWithin};
-ghost use Rattle.teg_howard.specs.Policies.{IsPolicy, IsPolicyCircuit};
-ghost use Rattle.teg_howard.specs.PolicyRounds.{FollowsRound, IsFirstRound, IsPolicyRun, IsRound, IsRoundOf};
-ghost use Rattle.teg_howard.specs.FoundCircuits.{policy_of};
-ghost use Rattle.teg_howard.specs.RoundStates.{IsLastRound};
+ghost use Rattle.policy_rounds.specs.Policies.{IsPolicy};
+ghost use Rattle.policy_rounds.specs.PolicyRounds.{FollowsRound, IsFirstRound, IsPolicyRun, IsRound, IsRoundOf, IsLastRound};
+ghost use Rattle.policy_rounds.specs.PolicyLists.{IsCircuitRatio, policy_of};
 ghost use Rattle.teg_parts.specs.Components.{IsMarked};
-ghost use Rattle.round_check.specs.PolicyCircuits.{IsAtMost, IsBoundOf, IsBoundSmall};
+ghost use Rattle.round_check.specs.PolicyCircuits.{FitsPolicy, IsBoundOf, IsBoundSmall};
 ghost use Rattle.round_check.specs.Offers.{IsSpread};
 ghost use Rattle.round_check.specs.Rounds.{AreFollowing, HasPlacesOf, IsStep, Keeps, KeepsLimits, Stands};
 
@@ -21,7 +19,7 @@ use crate::policies::{Spread, better_policy, changed, lowest_places, members, sp
 use crate::rounds::{check_round, root_of};
 use crate::routing::{has_place, is_routing};
 use std::alloc::{AllocError, Global};
-use teg_net::{Choice, Net, OutOfMemory, PlaceId, Round, time_of, tokens_of};
+use teg_net::{Net, OutOfMemory, PlaceId, Ratio, Round, time_of, tokens_of};
 
 // The time of a circuit at most, in the user's unit.
 const GREATEST_CIRCUIT_TIME: u64 = 400_000_000_000;
@@ -33,19 +31,24 @@ const MOST_CIRCUIT_TOKENS: u64 = 400_000;
 const GREATEST_POTENTIAL: i128 = 400_000_000_000_000_000;
 
 // Whether the potential keeps its limit.
-fn is_small(choice: Choice) -> bool
-    ensures { IsTrue result ↔ IsMagnitudeWithin greatest_scaled_potential choice.value }
+pub(crate) fn is_small(value: i128) -> bool
+    ensures { IsTrue result ↔ IsMagnitudeWithin greatest_scaled_potential value }
 {
-    choice.value >= -GREATEST_POTENTIAL && choice.value <= GREATEST_POTENTIAL
+    value >= -GREATEST_POTENTIAL && value <= GREATEST_POTENTIAL
+}
+
+// Whether the ratio keeps the limits of circuits.
+pub(crate) fn is_circuit_ratio(ratio: Ratio) -> bool
+    ensures { IsTrue result ↔ IsCircuitRatio ratio }
+{
+    ratio.time() <= GREATEST_CIRCUIT_TIME && ratio.tokens() <= MOST_CIRCUIT_TOKENS
 }
 
 // Whether ratio and potentials keep the limits of circuits.
 fn keeps_limits(round: &Round) -> bool
     ensures { IsTrue result ↔ KeepsLimits round.now }
 {
-    round.ratio.time() <= GREATEST_CIRCUIT_TIME
-        && round.ratio.tokens() <= MOST_CIRCUIT_TOKENS
-        && round.choices.iter().all(|choice| is_small(*choice))
+    is_circuit_ratio(round.ratio) && round.choices.iter().all(|choice| is_small(choice.value))
 }
 
 // Whether the round is that of its policy, within limits.
@@ -58,7 +61,7 @@ fn stands(part: &Part, round: &Round) -> bool
 
 // Whether each round is so.
 fn all_stand(part: &Part, rounds: &[Round]) -> bool
-    ensures { IsTrue result → All (Stands part.now.net.now part.now.parts.now part.now.number)
+    ensures { IsTrue result ↔ All (Stands part.now.net.now part.now.parts.now part.now.number)
         rounds.now }
 {
     rounds.iter().all(|round| stands(part, round))
@@ -76,7 +79,7 @@ fn spread_of(alloc: Global, part: &Part, round: &Round) -> Result<Spread, AllocE
 fn is_of_policy(part: &Part, policy: &[PlaceId], circuit: &[PlaceId]) -> bool
     requires range { AreInRange part.now.net.now circuit.now }
     requires count { length policy.now ≡ length part.now.parts.now }
-    ensures { IsTrue result → All (λ p. policy_of policy.now (to_of part.now.net.now p) ≡ p)
+    ensures { IsTrue result ↔ All (λ p. policy_of policy.now (to_of part.now.net.now p) ≡ p)
         circuit.now }
 {
     part.net.rules();
@@ -116,14 +119,8 @@ fn fits_policy(
     requires count_marked { length marked.now ≡ length part.now.parts.now }
     requires range { AreInRange part.now.net.now circuit.now }
     requires bound { IsBoundSmall bound }
-    ensures own { IsTrue result → All (λ p. policy_of policy.now (to_of part.now.net.now p) ≡ p)
-        circuit.now }
-    ensures through { IsTrue result → Any (λ p. IsMarked marked.now (to_of part.now.net.now p))
-        circuit.now }
-    ensures most { IsTrue result → ((d : List PlaceId)
-        → IsPolicyCircuit part.now.net.now part.now.parts.now part.now.number (policy_of policy.now)
-        d → Any (λ p. IsMarked marked.now (to_of part.now.net.now p)) d
-        → IsAtMost part.now.net.now (Some bound) d) }
+    ensures { IsTrue result ↔ FitsPolicy part.now.net.now part.now.parts.now part.now.number
+        (policy_of policy.now) marked.now circuit.now bound }
 {
     is_of_policy(part, policy, circuit)
         && passes(part.net, circuit, marked)
@@ -144,7 +141,7 @@ fn is_made_of(
     requires count { length policy.now ≡ length part.now.parts.now }
     requires count_marked { length marked.now ≡ length part.now.parts.now }
     requires round { IsRound part.now.net.now part.now.parts.now part.now.number round.now }
-    ensures { IfOk result (λ yes. IsTrue yes → IsRoundOf part.now.net.now part.now.parts.now
+    ensures { IfOk result (λ yes. IsTrue yes ↔ IsRoundOf part.now.net.now part.now.parts.now
         part.now.number (policy_of policy.now) (IsMarked marked.now) round.now) }
 {
     let bound = bound_of(part.net, &round.circuit.places);
@@ -159,7 +156,7 @@ fn is_made_of(
 // Whether the round is the first of the part.
 fn is_first(alloc: Global, part: &Part, round: &Round) -> Result<bool, AllocError>
     requires { IsRound part.now.net.now part.now.parts.now part.now.number round.now }
-    ensures { IfOk result (λ yes. IsTrue yes → IsFirstRound part.now.net.now part.now.parts.now
+    ensures { IfOk result (λ yes. IsTrue yes ↔ IsFirstRound part.now.net.now part.now.parts.now
         part.now.number round.now) }
 {
     let policy = lowest_places(alloc, part)?;
@@ -172,7 +169,7 @@ fn is_first(alloc: Global, part: &Part, round: &Round) -> Result<bool, AllocErro
 fn has_places_of(part: &Part, policy: &[PlaceId], own: &Spread) -> bool
     requires count { length policy.now ≡ length part.now.parts.now }
     requires count_own { length own.now.policy.items ≡ length part.now.parts.now }
-    ensures { IsTrue result → HasPlacesOf part.now.parts.now part.now.number policy.now
+    ensures { IsTrue result ↔ HasPlacesOf part.now.parts.now part.now.number policy.now
         own.now.policy.items }
 {
     for member in 0..part.parts.len() {
@@ -184,7 +181,7 @@ fn has_places_of(part: &Part, policy: &[PlaceId], own: &Spread) -> bool
 }
 
 // Whether the places are the same.
-fn same_places(first: &[PlaceId], second: &[PlaceId]) -> bool
+pub(crate) fn same_places(first: &[PlaceId], second: &[PlaceId]) -> bool
     ensures { IsTrue result ↔ (first.now ≡ second.now) }
 {
     first == second
@@ -192,9 +189,8 @@ fn same_places(first: &[PlaceId], second: &[PlaceId]) -> bool
 
 // Whether the round has the ratio and the circuit of the one before.
 fn has_circuit_of(before: &Round, round: &Round) -> bool
-    ensures circuit { IsTrue result → round.now.circuit.places.items
-        ≡ before.now.circuit.places.items }
-    ensures ratio { IsTrue result → round.now.ratio ≡ before.now.ratio }
+    ensures { IsTrue result ↔ ((round.now.circuit.places.items ≡ before.now.circuit.places.items)
+        × (round.now.ratio ≡ before.now.ratio)) }
 {
     same_places(&round.circuit.places, &before.circuit.places) && round.ratio == before.ratio
 }
@@ -209,7 +205,7 @@ fn keeps(
 ) -> Result<bool, AllocError>
     requires count { length policy.now ≡ length part.now.parts.now }
     requires round { IsRound part.now.net.now part.now.parts.now part.now.number round.now }
-    ensures { IfOk result (λ yes. IsTrue yes → Keeps part.now.parts.now part.now.number before.now
+    ensures { IfOk result (λ yes. IsTrue yes ↔ Keeps part.now.parts.now part.now.number before.now
         policy.now round.now) }
 {
     if !has_circuit_of(before, round) {
@@ -254,7 +250,7 @@ fn is_any(marks: &[bool]) -> bool
 fn follows(alloc: Global, part: &Part, before: &Round, round: &Round) -> Result<bool, AllocError>
     requires before { Stands part.now.net.now part.now.parts.now part.now.number before.now }
     requires round { IsRound part.now.net.now part.now.parts.now part.now.number round.now }
-    ensures { IfOk result (λ yes. IsTrue yes → FollowsRound part.now.net.now part.now.parts.now
+    ensures { IfOk result (λ yes. IsTrue yes ↔ FollowsRound part.now.net.now part.now.parts.now
         part.now.number before.now round.now) }
 {
     let step = step_from(alloc, part, before)?;
@@ -280,7 +276,7 @@ fn round_at<'r>(rounds: &'r [Round], number: usize) -> &'r Round
 // Whether each round follows from the one before.
 fn follow_each(alloc: Global, part: &Part, rounds: &[Round]) -> Result<bool, AllocError>
     requires { All (Stands part.now.net.now part.now.parts.now part.now.number) rounds.now }
-    ensures { IfOk result (λ yes. IsTrue yes → AreFollowing part.now.net.now part.now.parts.now
+    ensures { IfOk result (λ yes. IsTrue yes ↔ AreFollowing part.now.net.now part.now.parts.now
         part.now.number rounds.now (length rounds.now)) }
 {
     for next in 1..rounds.len() {
@@ -300,7 +296,7 @@ fn follow_each(alloc: Global, part: &Part, rounds: &[Round]) -> Result<bool, All
 // Whether no place improves the round.
 fn is_last(alloc: Global, part: &Part, round: &Round) -> Result<bool, AllocError>
     requires { Stands part.now.net.now part.now.parts.now part.now.number round.now }
-    ensures { IfOk result (λ yes. IsTrue yes → IsLastRound part.now.net.now part.now.parts.now
+    ensures { IfOk result (λ yes. IsTrue yes ↔ IsLastRound part.now.net.now part.now.parts.now
         part.now.number round.now) }
 {
     let step = step_from(alloc, part, round)?;
@@ -310,11 +306,14 @@ fn is_last(alloc: Global, part: &Part, round: &Round) -> Result<bool, AllocError
     Ok(true)
 }
 
-// Whether the rounds are a policy run of the part.
+// Whether the rounds are a policy run of the part. In a live net those of a run keep the limits.
 fn is_run(alloc: Global, part: &Part, rounds: &[Round]) -> Result<bool, AllocError>
-    ensures { IfOk result (λ yes. IsTrue yes → IsPolicyRun part.now.net.now part.now.parts.now
+    ensures sure { IfOk result (λ yes. IsTrue yes → IsPolicyRun part.now.net.now part.now.parts.now
         part.now.number rounds.now) }
+    ensures all { IsLive part.now.net.now → IfOk result (λ yes. IsPolicyRun part.now.net.now
+        part.now.parts.now part.now.number rounds.now → IsTrue yes) }
 {
+    part.net.rules();
     if rounds.len() == 0 {
         return Ok(false);
     }
@@ -334,9 +333,10 @@ fn is_run(alloc: Global, part: &Part, rounds: &[Round]) -> Result<bool, AllocErr
 }
 
 /// Whether the rounds are a policy run of the part (`IsPolicyRun`; Howard's algorithm, of which the
-/// book has none). A yes says that they are: the first is that of the policy of the lowest numbered
-/// places, each follows from the one before by the rule of the search, and no place improves the
-/// last. A no says nothing.
+/// book has none): the first is that of the policy of the lowest numbered places, each follows from
+/// the one before by the rule of the search, and no place improves the last. A yes says that they
+/// are one, and in a live net a no that they are none. In another net a circuit without time and
+/// tokens has each ratio, so a run may pass the limits of circuits, and is then told with a no.
 ///
 /// The numbers of parts are one for each transition, in any sense. `Err` is want of memory, and
 /// nothing else. It takes time of the order of the cube of the part's members for each round, and
@@ -349,7 +349,10 @@ pub fn check_run(
     rounds: &[Round],
 ) -> Result<bool, OutOfMemory>
     requires { length parts.now ≡ length net.now.transitions }
-    ensures { IfOk result (λ yes. IsTrue yes → IsPolicyRun net.now parts.now part rounds.now) }
+    ensures sure { IfOk result (λ yes. IsTrue yes
+        → IsPolicyRun net.now parts.now part rounds.now) }
+    ensures all { IsLive net.now → IfOk result (λ yes.
+        IsPolicyRun net.now parts.now part rounds.now → IsTrue yes) }
 {
     let own = Part {
         net,

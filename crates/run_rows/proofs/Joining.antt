@@ -3,7 +3,7 @@ use Rattle.std.proofs.Common.{ℕ, ◌+◌, ◌-◌, ◌<◌, ◌≤◌, ◌≡�
 use Rattle.std.specs.Prelude.{All}
 use Rattle.std.proofs.lemmas.Bool.{cases_lt}
 use Rattle.std.proofs.lemmas.List.{get_or_append_left, get_or-append_right, length-append}
-use Rattle.std.proofs.lemmas.List.Elements.{All-append, All-nil}
+use Rattle.std.proofs.lemmas.List.Elements.{All-append}
 use Rattle.teg_net.specs.Nets.{NetLists}
 use Rattle.dioid.specs.declared.dates.Date.{Date}
 use Rattle.jump_laws.specs.Runs.{Run, IsInRun, IsRunOf, date_by_runs}
@@ -49,10 +49,7 @@ late_joined net most before end runs a h l far x is =
       );
     }
 
--- by itself, or behind runs and rows
-pub late_alone : (net : NetLists) (most before end : ℕ) (a : Run) → IsLeastRun net before end a → before + most ≤ end → AreLateRuns net most end ([] ++ a ∷ [])
-late_alone net most before end a l far = late_joined net most before end [] a (λ x is. All-nil (IsRunOf (length net.transitions) x)) l far
-
+-- and so has one behind runs and rows
 pub late_behind : (net : NetLists) (most before middle end : ℕ) (runs : List Run) (a b : Run) → AreLateRuns net most before runs → IsLeastRun net before middle a → IsLeastRun net middle end b
     → middle + most ≤ end → AreLateRuns net most end ((runs ++ a ∷ []) ++ b ∷ [])
 late_behind net most before middle end runs a b h la lb far =

@@ -25,9 +25,9 @@ use Rattle.teg_net.proofs.NetRules.{lists_by_rule}
 use Rattle.jump_laws.proofs.InLists.{listed_jump}
 use Rattle.jump_laws.proofs.Runs.{read_off}
 use Rattle.run_rows.specs.LeastRuns.{AreRowsPast}
-use Rattle.run_rows.specs.ReadRuns.{IsJumpRun, IsJumpWindow, IsLastTurn, MovesInRows}
-use Rattle.run_rows.specs.RoomyRuns.{IsRoomy, residue_of, run_of, step_of}
-use Rattle.run_rows.specs.TurnsLeft.{AreInTimeFor, IsInLastTurn, IsPlaceInTime}
+use Rattle.run_rows.specs.ReadRuns.{GoesOnFor, IsJumpRun, IsLastTurn}
+use Rattle.run_rows.specs.RoomyRuns.{IsRoomy, end_of, residue_of, run_of, step_of}
+use Rattle.run_rows.specs.TurnsLeft.{IsInLastTurn, IsPlaceInTime}
 
 -- an input is a transition of the net
 pub input_in : (net : NetLists) (t : ℕ) → IsInput net t → t < length net.transitions
@@ -54,9 +54,7 @@ residue_here first turn i l =
 
 module _ (net : NetLists) (ok : IsNet net) (live : IsLive net) (after : ℕ) (rows : TableDates) (r : AreRowsPast net after rows) (last : Run) (lt : IsLastTurn after rows last)
     (most turns : ℕ) (one : 1 ≤ most) (some : 1 ≤ last.turn) (fits : most + last.turn + last.turn ≤ rows.count) (tokens : All (λ p. p.tokens ≤ most) net.places)
-    (lists : All (GoesOnInTurns last.turn (after + ((rows.count - last.turn) - last.turn))) net.inputs)
-    (moves : (t : ℕ) → t < length net.transitions → MovesInRows after rows last ((((rows.count - last.turn) - last.turn) - most) + 1) t)
-    (left : AreInTimeFor turns net after rows last) (go : 1 ≤ turns) where
+    (g : GoesOnFor net most after rows last turns) where
   abbrev turn : ℕ
   turn = last.turn
 
@@ -71,6 +69,9 @@ module _ (net : NetLists) (ok : IsNet net) (live : IsLive net) (after : ℕ) (ro
 
   abbrev run : Run
   run = run_of last.first last.turn (turns + 1) last.dates last.steps
+
+  go : 1 ≤ turns
+  go = let two = g.some in omega (arith, two)
 
   residues : (t k : ℕ) → step_of last t (k + last.turn) ≡ step_of last t k
   residues t k = ap (kept_step last t) (residue_same last.first turn k)
@@ -88,7 +89,7 @@ module _ (net : NetLists) (ok : IsNet net) (live : IsLive net) (after : ℕ) (ro
         let on : (k + turn) - after ≡ i + turn = omega (arith, a) in
         sym (row t (k + turn) l (omega (arith, a)) m)
         ∙ (ap (date_at rows t) on
-        ∙ ((moves t l).moves i (omega (arith, a)) (omega (arith, a, m))
+        ∙ ((g.moves t l).moves i (omega (arith, a)) (omega (arith, a, m))
         ∙ (ap (λ z. move (step t z) (date_at rows t i)) back ∙ ap (move (step t k)) (row t k l (omega (arith, a)) (omega (arith, m))))))
 
     window : MovesInTurns net x begin last.turn (after + rows.count) (step_of last)
@@ -119,8 +120,8 @@ module _ (net : NetLists) (ok : IsNet net) (live : IsLive net) (after : ℕ) (ro
     in_time : AreInTimeAfter turns net x last.turn (after + rows.count) (step_of last)
     in_time k a m =
         all_extended_in net (λ p. IsInTimeAfter turns step p k (available_at x p k) (x p.to.index k))
-        (λ i d l. let ends = net_ends net ok i d l in place_on (get_or net.places i d) ends.0 ends.1 (tokens i d l) (left.places i d l) k a m)
-        (λ t l. place_on (implicit_place t) l l one (left.implicit t l) k a m)
+        (λ i d l. let ends = net_ends net ok i d l in place_on (get_or net.places i d) ends.0 ends.1 (tokens i d l) (g.left.places i d l) k a m)
+        (λ t l. place_on (implicit_place t) l l one (g.left.implicit t l) k a m)
 
     released : (t k : ℕ) → IsInput net t → after + rows.count < k + last.turn → k ≤ after + rows.count
         → IsReleasedAfter turns (step_of last) (listed_pace net last.turn) t k (listed_releases net t k) (x t k)
@@ -129,13 +130,13 @@ module _ (net : NetLists) (ok : IsNet net) (live : IsLive net) (after : ℕ) (ro
         let in_turn : IsInLastTurn rows turn i = record { past = omega (arith, a, fits); last = omega (arith, m) } in
         let here : after + i ≡ k = omega (arith, a, fits) in
         let date : date_at rows t i ≡ x t k = row t k (input_in net t input) (omega (arith, a, fits)) m in
-        rw (here, date) at (((left.inputs t input).each i in_turn).at turns go (omega arith))
+        rw (here, date) at (((g.left.inputs t input).each i in_turn).at turns go (omega arith))
 
     jumped : MovesUpTo (length net.transitions) x begin last.turn ((after + rows.count) + turns * last.turn) (step_of last)
     jumped = listed_jump net (net_ends net ok) (lists_by_rule net ok) live x h begin turn end turns step (record {
       window = window;
       in_time = in_time;
-      lists = let at : after + ((rows.count - turn) - turn) ≡ (end - turn) - turn = omega (arith, fits) in subst (λ z. All (GoesOnInTurns turn z) net.inputs) at lists;
+      lists = let at : after + ((rows.count - turn) - turn) ≡ (end - turn) - turn = omega (arith, fits) in subst (λ z. All (GoesOnInTurns turn z) net.inputs) at g.lists;
       released = released;
     })
 
@@ -181,34 +182,32 @@ module _ (net : NetLists) (ok : IsNet net) (live : IsLive net) (after : ℕ) (ro
             (cases_lt t (length net.transitions));
       }
 
-  pub jump_run : (number : ℕ) → (after + rows.count) + turns * last.turn ≤ number → most ≤ turns * last.turn
-      → IsJumpRun net most after rows.count number (run_of last.first last.turn (turns + 1) last.dates last.steps)
-  jump_run number few far =
+  pub ends : end_of (run_of last.first last.turn (turns + 1) last.dates last.steps) ≡ after + rows.count + turns * last.turn
+  ends =
       let first = lt.first in
       let all : (turns + 1) * turn ≡ turns * turn + turn = grind arith in
-      let one_turn : 1 * turn ≤ turns * turn = mul-le-mul_right turn go in
-      let is : 1 * turn ≡ turn = grind arith in
+      omega (arith, first, all)
+
+  pub jump_run : IsJumpRun net most after rows (run_of last.first last.turn (turns + 1) last.dates last.steps)
+  jump_run =
+      let first = lt.first in
+      let long = g.long in
+      let all : (turns + 1) * turn ≡ turns * turn + turn = grind arith in
+      let back : (turns + 1) - 1 ≡ turns = omega arith in
       record {
-        end = (after + rows.count) + turns * turn;
         run = record {
           least = λ x h. jump_is_run x h;
           from = omega (arith, first, some);
           to = omega (arith, first, all);
         };
         begins = omega (arith, first, fits, one);
-        on = omega (arith, one_turn, is, some);
-        long = omega (arith, far);
-        up_to = few;
+        long = rw ends (omega (arith, long));
+        window = rw back (record {
+          more = refl;
+          some = some;
+          first = first;
+          fits = fits;
+          moves = λ x h. jumped x h;
+          in_time = λ i d l. record { each = (g.left.places i d l).each };
+        });
       }
-
-  pub jump_window : IsJumpWindow net most after rows (run_of last.first last.turn (turns + 1) last.dates last.steps) ((turns + 1) - 1)
-  jump_window =
-      let back : (turns + 1) - 1 ≡ turns = omega arith in
-      rw back (record {
-        more = refl;
-        some = some;
-        first = lt.first;
-        fits = fits;
-        moves = λ x h. jumped x h;
-        in_time = λ i d l. record { each = (left.places i d l).each };
-      })

@@ -1,18 +1,18 @@
 -- Where a jump is long and a token would come late past it, no form is within a limit.
-use Rattle.std.proofs.Common.{ℕ, ℤ, suc, pos, ◌+◌, ◌-◌, ◌*◌, ◌<◌, ◌≤◌, ◌≡◌, ◌+ℤ◌, List, length, get_or, sym, ap, subst, ◌∙◌, arith, ⊎_elim}
+use Rattle.std.proofs.Common.{ℕ, ℤ, suc, pos, ◌+◌, ◌-◌, ◌*◌, ◌<◌, ◌≤◌, ◌≡◌, ◌+ℤ◌, List, length, get_or, sym, ap, ◌∙◌, arith, ⊎_elim}
 use Rattle.std.specs.Prelude.{◌*ℤ◌, All}
 use lib.IntN.{zero-*ℤ}
 use Rattle.std.proofs.lemmas.Bool.{cases_lt}
 use Rattle.std.proofs.lemmas.Int.{ints}
 use Rattle.std.proofs.lemmas.List.Elements.{All-from_get_or}
 use Rattle.dioid.specs.declared.dates.Date.{Date}
-use Rattle.dioid.specs.Dates.{IsAtMostDate, delayed, move}
+use Rattle.dioid.specs.Dates.{delayed, move}
 use Rattle.dioid.proofs.Moves.{move_move}
 use Rattle.teg_net.specs.Nets.{NetLists, IsNet}
 use Rattle.teg_net.specs.Circuits.{no_place}
 use Rattle.teg_net.specs.declared.entries.Place.{Place}
 use Rattle.teg_check.specs.Ranks.{IsRanking}
-use Rattle.teg_model.specs.Datings.{available_at, extended_places, initial_date}
+use Rattle.teg_model.specs.Datings.{available_at, initial_date}
 use Rattle.teg_model.proofs.DateFunctions.{Dating}
 use Rattle.teg_model.proofs.OfNet.{extended_has, net_ends}
 use Rattle.teg_model.proofs.Tokens.{available_after}
@@ -26,7 +26,7 @@ use Rattle.settled_laws.specs.SettledForms.{NetSettlesPast}
 use Rattle.run_rows.specs.LeastRuns.{AreRowsPast}
 use Rattle.run_rows.specs.ReadRuns.{IsJumpWindow}
 use Rattle.run_rows.specs.RoomyRuns.{step_of}
-use Rattle.run_rows.specs.TurnsLeft.{IsInLastTurn, IsPlaceInTime}
+use Rattle.run_rows.specs.TurnsLeft.{IsPlaceInTime}
 use Rattle.run_rows.proofs.GoneOn.{earliest, is}
 use Rattle.run_rows.proofs.Jumping.{residue_same}
 

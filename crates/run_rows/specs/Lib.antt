@@ -1,5 +1,6 @@
 pub mod LeastRuns
 pub mod RoomyRuns
+pub mod DatedRows
 pub mod ReadRuns
 pub mod TurnsLeft
 pub mod Stretches

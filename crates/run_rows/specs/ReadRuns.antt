@@ -7,9 +7,10 @@ use Rattle.teg_net.specs.Nets.{NetLists}
 use Rattle.teg_model.specs.Datings.{IsLeastDating}
 use Rattle.date_rows.specs.DateTables.{TableDates, date_at}
 use Rattle.jump_laws.specs.Jumps.{MovesUpTo}
+use Rattle.jump_laws.specs.ListedJumps.{GoesOnInTurns}
 use Rattle.jump_laws.specs.Runs.{Run, IsRunOf}
-use Rattle.run_rows.specs.RoomyRuns.{step_of}
-use Rattle.run_rows.specs.TurnsLeft.{IsPlaceInTime}
+use Rattle.run_rows.specs.RoomyRuns.{end_of, step_of}
+use Rattle.run_rows.specs.TurnsLeft.{AreInTimeFor, IsPlaceInTime}
 
 -- the dates of transition t from number `first` of the rows on, so many
 pub record IsColumn (rows : TableDates) (t first count : ℕ) (dates : List Date) : Type 0 where
@@ -37,14 +38,14 @@ pub record IsLeastRun (net : NetLists) (before end : ℕ) (r : Run) : Type 0 whe
   pub from : r.first ≤ before + 1
   pub to : r.first + r.turns * r.turn ≡ end + 1
 
--- a run of it that begins in so many rows past `after` and leads on past them by `most` numbers, at most up to this number
-pub record IsJumpRun (net : NetLists) (most after count number : ℕ) (r : Run) : Type 0 where
-  pub end : ℕ
-  pub run : IsLeastRun net (after + count) end r
-  pub begins : 1 ≤ r.first
-  pub on : after + count < end
-  pub long : after + count + most ≤ end
-  pub up_to : end ≤ number
+-- the rows move by the steps of the run, in as many numbers before its last two turns as a place may have tokens too, and for so many
+-- turns more, at least two and as many numbers as a place may have tokens, all tokens and releases are in time
+pub record GoesOnFor (net : NetLists) (most after : ℕ) (rows : TableDates) (last : Run) (turns : ℕ) : Type 0 where
+  pub lists : All (GoesOnInTurns last.turn (after + ((rows.count - last.turn) - last.turn))) net.inputs
+  pub moves : (t : ℕ) → t < length net.transitions → MovesInRows after rows last ((((rows.count - last.turn) - last.turn) - most) + 1) t
+  pub left : AreInTimeFor turns net after rows last
+  pub some : 2 ≤ turns
+  pub long : most ≤ turns * last.turn
 
 -- the last two turns of the rows, and as many numbers before them as a place may have tokens, move by the steps of the run, and so
 -- do the least dates for so many turns more, in each of which the tokens are in time
@@ -56,3 +57,10 @@ pub record IsJumpWindow (net : NetLists) (most after : ℕ) (rows : TableDates) 
   pub moves : (x : ℕ → ℕ → Date) → IsLeastDating net x
       → MovesUpTo (length net.transitions) x (after + (((rows.count - r.turn) - r.turn) - most)) r.turn ((after + rows.count) + turns * r.turn) (step_of r)
   pub in_time : All (IsPlaceInTime turns after rows r) net.places
+
+-- such a run of the least dating, which begins in the rows and leads on past them by as many numbers as a place may have tokens
+pub record IsJumpRun (net : NetLists) (most after : ℕ) (rows : TableDates) (r : Run) : Type 0 where
+  pub run : IsLeastRun net (after + rows.count) (end_of r) r
+  pub begins : 1 ≤ r.first
+  pub long : after + rows.count + most ≤ end_of r
+  pub window : IsJumpWindow net most after rows r (r.turns - 1)

@@ -1,5 +1,5 @@
 -- Runs of dates in memory: the dates stay within a bound, so that none of them is out of range.
-use Rattle.std.specs.Prelude.{ℕ, ℤ, pos, ◌+◌, ◌-◌, ◌%◌, ◌*ℤ◌, ◌<◌, ◌≤◌, List}
+use Rattle.std.specs.Prelude.{ℕ, ℤ, pos, ◌+◌, ◌-◌, ◌*◌, ◌%◌, ◌*ℤ◌, ◌<◌, ◌≤◌, List}
 use Rattle.dioid.specs.declared.dates.Date.{Date}
 use Rattle.dioid.specs.Dates.{move}
 use Rattle.teg_model.specs.DateBounds.{IsDateWithin, greatest_least_date}
@@ -25,3 +25,7 @@ residue_of first turn k = (k + (turn - first % turn)) % turn
 -- by what the date of transition t and number k moves in a turn of the run
 abbrev pub step_of : Run → ℕ → ℕ → ℤ
 step_of r t k = kept_step r t (residue_of r.first r.turn k)
+
+-- the last number of the run
+abbrev pub end_of : Run → ℕ
+end_of r = r.first + r.turns * r.turn - 1

@@ -2,6 +2,7 @@
 use Rattle.std.specs.Prelude.{ℕ, ℤ, pos, ◌+◌, ◌-◌, ◌*ℤ◌, ◌<◌, ◌≤◌, All, length}
 use Rattle.dioid.specs.declared.dates.Date.{Date}
 use Rattle.dioid.specs.Dates.{IsAtMostDate, delayed, move}
+use Rattle.teg_net.specs.Limits.{greatest_hold}
 use Rattle.teg_net.specs.Nets.{NetLists, IsInput}
 use Rattle.teg_net.specs.declared.entries.Place.{Place}
 use Rattle.teg_net.specs.Inputs.{list_of_input}
@@ -9,11 +10,20 @@ use Rattle.teg_model.specs.Datings.{implicit_place, listed_releases}
 use Rattle.date_rows.specs.DateTables.{TableDates, date_at}
 use Rattle.jump_laws.specs.ListedJumps.{pace_by_list}
 use Rattle.jump_laws.specs.Runs.{Run}
+use Rattle.run_rows.specs.declared.in_time.Way.{Way}
 use Rattle.run_rows.specs.RoomyRuns.{step_of}
 
 -- in each of so many turns, and at least one, the first date, moved by its steps, is at most the second, moved by its own
 pub record InTimeFor (turns : ℕ) (token_step step : ℤ) (token date : Date) : Type 0 where
   pub at : (j : ℕ) → 1 ≤ j → j ≤ turns → IsAtMostDate (move (pos j *ℤ token_step) token) (move (pos j *ℤ step) date)
+
+-- the way leads between transitions of rows, holds no longer than a place may, and before the last turn of the rows these have as
+-- many numbers as it has tokens
+pub record IsWayIn (rows : TableDates) (turn : ℕ) (w : Way) : Type 0 where
+  pub from : w.from.index < rows.width
+  pub to : w.to.index < rows.width
+  pub hold : w.hold ≤ greatest_hold
+  pub fits : w.tokens + turn ≤ rows.count
 
 -- the number is one of the last turn of the rows
 pub record IsInLastTurn (rows : TableDates) (turn k : ℕ) : Type 0 where

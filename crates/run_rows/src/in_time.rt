@@ -1,18 +1,15 @@
 //! For how many turns more the last turn of rows goes on before a place or a release is late.
 ghost use Rattle.std.specs.Prelude.{ℕ, pos, ◌≡◌, ◌+ℤ◌, ◌+◌, ◌*◌, ◌/◌, ◌<◌, ◌≤◌, All, IfSome, length, option_copied};
 ghost use Rattle.dioid.specs.declared.dates.Date.TheVariants.{At};
-ghost use Rattle.teg_net.specs.Limits.{greatest_firing_number, greatest_hold, greatest_input_date, most_rows};
+ghost use Rattle.teg_net.specs.Limits.{greatest_input_date, most_rows};
 ghost use Rattle.teg_net.specs.Nets.{IsInput, IsNet};
 ghost use Rattle.teg_net.specs.Inputs.{list_of_input};
-ghost use Rattle.teg_model.specs.DateBounds.{IsDateWithin, greatest_least_date};
 ghost use Rattle.teg_model.specs.Datings.{implicit_place};
-ghost use Rattle.date_rows.specs.DateTables.{date_at};
 ghost use Rattle.jump_laws.specs.ListedJumps.{gaps_in, pace_by_list};
-ghost use Rattle.run_rows.specs.LeastRuns.{AreRowsPast};
-ghost use Rattle.run_rows.specs.TurnsLeft.{AreInTimeFor, InTimeFor, IsPlaceInTime, IsReleaseInTime, IsWayInTime};
+ghost use Rattle.run_rows.specs.TurnsLeft.{AreInTimeFor, InTimeFor, IsPlaceInTime, IsReleaseInTime, IsWayIn, IsWayInTime};
 
-use crate::runs::EvenRun;
-use date_rows::{DateCell, NetInputs, Rows, Source};
+use crate::last_turn::LastTurn;
+use date_rows::{DateCell, NetInputs, Source};
 use dioid::Date;
 use teg_net::{Again, InputList, Net, Place, Role, TransitionId};
 
@@ -97,59 +94,49 @@ pub(crate) fn way_of(place: &Place) -> Way
 
 // So for the place: the token that it takes from so many numbers before, at each number of the last
 // turn.
-fn turns_of_way(rows: &Rows, last: &EvenRun, after: u64, way: Way, most: u64) -> u64
-    requires from { way.from.index < rows.now.width }
-    requires to { way.to.index < rows.now.width }
-    requires hold { way.hold ≤ greatest_hold }
-    requires few { after + rows.now.count ≤ greatest_firing_number }
-    requires first { last.now.first + last.now.turn ≤ after + rows.now.count + 1 }
-    requires fits { way.tokens + last.now.turn ≤ rows.now.count }
-    requires within { (t k : ℕ) → t < rows.now.width → 1 ≤ k → k ≤ rows.now.count
-        → IsDateWithin greatest_least_date (date_at rows.now t k) }
+fn turns_of_way(last: &LastTurn<'_>, way: Way, most: u64) -> u64
+    requires { IsWayIn last.now.rows.now last.now.run.now.turn way }
     ensures within { result ≤ most }
-    ensures in_time { IsWayInTime result after rows.now last.now way.from.index way.to.index
-        way.tokens way.hold }
+    ensures in_time { IsWayInTime result last.now.after last.now.rows.now last.now.run.now
+        way.from.index
+        way.to.index way.tokens way.hold }
 {
+    let rows = last.rows;
+    let run = last.run;
     let count = rows.count();
     let mut turns = most;
-    for number in count - last.turn + 1..count + 1 {
+    for number in count - run.turn + 1..count + 1 {
         let before = number - way.tokens;
         let token = rows.date(way.from, before).delayed(way.hold);
-        let token_step = last.step(way.from, after + before);
-        let step = last.step(way.to, after + number);
+        let token_step = run.step(way.from, last.after + before);
+        let step = run.step(way.to, last.after + number);
         turns = turns_of_dates(token, token_step, rows.date(way.to, number), step, turns);
     }
     turns
 }
 
 // So for each place of the net.
-fn turns_of_places(net: &Net, rows: &Rows, last: &EvenRun, after: u64, most: u64) -> u64
-    requires rows { AreRowsPast net.now after rows.now }
-    requires few { after + rows.now.count ≤ greatest_firing_number }
-    requires first { last.now.first + last.now.turn ≤ after + rows.now.count + 1 }
-    requires fits { All (λ p. p.tokens + last.now.turn ≤ rows.now.count) net.now.places }
+fn turns_of_places(last: &LastTurn<'_>, most: u64) -> u64
     ensures within { result ≤ most }
-    ensures in_time { All (IsPlaceInTime result after rows.now last.now) net.now.places }
+    ensures in_time { All (IsPlaceInTime result last.now.after last.now.rows.now
+        last.now.run.now) last.now.of.net.now.places }
 {
     let mut turns = most;
-    for place in net.places() {
-        turns = turns_of_way(rows, last, after, way_of(place), turns);
+    for place in last.of.net.places() {
+        turns = turns_of_way(last, way_of(place), turns);
     }
     turns
 }
 
 // So for the implicit place of each transition.
-fn turns_of_transitions(net: &Net, rows: &Rows, last: &EvenRun, after: u64, most: u64) -> u64
-    requires rows { AreRowsPast net.now after rows.now }
-    requires few { after + rows.now.count ≤ greatest_firing_number }
-    requires first { last.now.first + last.now.turn ≤ after + rows.now.count + 1 }
-    requires fits { 1 + last.now.turn ≤ rows.now.count }
+fn turns_of_transitions(last: &LastTurn<'_>, most: u64) -> u64
     ensures within { result ≤ most }
-    ensures in_time { (t : ℕ) → t < length net.now.transitions
-        → IsPlaceInTime result after rows.now last.now (implicit_place t) }
+    ensures in_time { (t : ℕ) → t < length last.now.of.net.now.transitions
+        → IsPlaceInTime result last.now.after last.now.rows.now last.now.run.now (implicit_place
+        t) }
 {
     let mut turns = most;
-    for index in 0..net.transitions().len() {
+    for index in 0..last.of.net.transitions().len() {
         let id = TransitionId {
             index: index as u32,
         };
@@ -159,7 +146,7 @@ fn turns_of_transitions(net: &Net, rows: &Rows, last: &EvenRun, after: u64, most
             tokens: 1,
             hold: 0,
         };
-        turns = turns_of_way(rows, last, after, way, turns);
+        turns = turns_of_way(last, way, turns);
     }
     turns
 }
@@ -201,89 +188,65 @@ fn pace_of(net: &Net, input: TransitionId, turn: u64) -> u128
 }
 
 // The turns for which the releases of an input are in time.
-fn turns_of_input(
-    net: &Net,
-    rows: &Rows,
-    last: &EvenRun,
-    after: u64,
-    input: TransitionId,
-    most: u64,
-) -> u64
-    requires input { IsInput net.now input.index }
-    requires width { input.index < rows.now.width }
-    requires few { after + rows.now.count ≤ greatest_firing_number }
-    requires first { last.now.first + last.now.turn ≤ after + rows.now.count + 1 }
-    requires fits { last.now.turn ≤ rows.now.count }
+fn turns_of_input(last: &LastTurn<'_>, input: TransitionId, most: u64) -> u64
+    requires input { IsInput last.now.of.net.now input.index }
+    requires inside { input.index < length last.now.of.net.now.transitions }
     ensures within { result ≤ most }
-    ensures in_time { IsReleaseInTime result after net.now rows.now last.now input.index }
+    ensures in_time { IsReleaseInTime result last.now.after last.now.of.net.now last.now.rows.now
+        last.now.run.now input.index }
 {
+    let rows = last.rows;
+    let run = last.run;
     let count = rows.count();
-    let pace = pace_of(net, input, last.turn) as i128;
+    let pace = pace_of(last.of.net, input, run.turn) as i128;
     let mut turns = most;
-    for number in count - last.turn + 1..count + 1 {
-        let release = NetInputs.release(net, input, after + number);
-        let step = last.step(input, after + number);
+    for number in count - run.turn + 1..count + 1 {
+        let release = NetInputs.release(last.of.net, input, last.after + number);
+        let step = run.step(input, last.after + number);
         turns = turns_of_dates(release, pace, rows.date(input, number), step, turns);
     }
     turns
 }
 
 // The turns for which those of the transition are, if it is an input.
-fn turns_of_role(
-    net: &Net,
-    rows: &Rows,
-    last: &EvenRun,
-    after: u64,
-    transition: TransitionId,
-    most: u64,
-) -> u64
-    requires transition { transition.index < length net.now.transitions }
-    requires width { rows.now.width ≡ length net.now.transitions }
-    requires few { after + rows.now.count ≤ greatest_firing_number }
-    requires first { last.now.first + last.now.turn ≤ after + rows.now.count + 1 }
-    requires fits { last.now.turn ≤ rows.now.count }
+fn turns_of_role(last: &LastTurn<'_>, transition: TransitionId, most: u64) -> u64
+    requires { transition.index < length last.now.of.net.now.transitions }
     ensures within { result ≤ most }
-    ensures in_time { IsInput net.now transition.index
-        → IsReleaseInTime result after net.now rows.now last.now transition.index }
+    ensures in_time { IsInput last.now.of.net.now transition.index
+        → IsReleaseInTime result last.now.after last.now.of.net.now last.now.rows.now
+        last.now.run.now transition.index }
 {
-    match net.transitions()[transition.index as usize].role {
-        Role::Input => turns_of_input(net, rows, last, after, transition, most),
+    match last.of.net.transitions()[transition.index as usize].role {
+        Role::Input => turns_of_input(last, transition, most),
         Role::Internal => most,
         Role::Output => most,
     }
 }
 
 // So for each input of the net.
-fn turns_of_inputs(net: &Net, rows: &Rows, last: &EvenRun, after: u64, most: u64) -> u64
-    requires width { rows.now.width ≡ length net.now.transitions }
-    requires few { after + rows.now.count ≤ greatest_firing_number }
-    requires first { last.now.first + last.now.turn ≤ after + rows.now.count + 1 }
-    requires fits { last.now.turn ≤ rows.now.count }
+fn turns_of_inputs(last: &LastTurn<'_>, most: u64) -> u64
     ensures within { result ≤ most }
-    ensures in_time { (t : ℕ) → IsInput net.now t
-        → IsReleaseInTime result after net.now rows.now last.now t }
+    ensures in_time { (t : ℕ) → IsInput last.now.of.net.now t
+        → IsReleaseInTime result last.now.after last.now.of.net.now last.now.rows.now
+        last.now.run.now t }
 {
     let mut turns = most;
-    for index in 0..net.transitions().len() {
+    for index in 0..last.of.net.transitions().len() {
         let id = TransitionId {
             index: index as u32,
         };
-        turns = turns_of_role(net, rows, last, after, id, turns);
+        turns = turns_of_role(last, id, turns);
     }
     turns
 }
 
 // For how many turns, at most so many, all tokens and releases are in time.
-pub(crate) fn turns_left(net: &Net, rows: &Rows, last: &EvenRun, after: u64, most: u64) -> u64
-    requires rows { AreRowsPast net.now after rows.now }
-    requires few { after + rows.now.count ≤ greatest_firing_number }
-    requires first { last.now.first + last.now.turn ≤ after + rows.now.count + 1 }
-    requires fits { All (λ p. p.tokens + last.now.turn ≤ rows.now.count) net.now.places }
-    requires one { 1 + last.now.turn ≤ rows.now.count }
+pub(crate) fn turns_left(last: &LastTurn<'_>, most: u64) -> u64
     ensures within { result ≤ most }
-    ensures in_time { AreInTimeFor result net.now after rows.now last.now }
+    ensures in_time { AreInTimeFor result last.now.of.net.now last.now.after last.now.rows.now
+        last.now.run.now }
 {
-    let turns = turns_of_places(net, rows, last, after, most);
-    let turns = turns_of_transitions(net, rows, last, after, turns);
-    turns_of_inputs(net, rows, last, after, turns)
+    let turns = turns_of_places(last, most);
+    let turns = turns_of_transitions(last, turns);
+    turns_of_inputs(last, turns)
 }

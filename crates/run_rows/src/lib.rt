@@ -24,12 +24,17 @@
 
 mod by_jumps;
 mod columns;
+mod extent;
 mod in_time;
 mod jump;
+mod last_turn;
 mod late;
 mod past;
 mod past_limit;
+mod ranked;
+mod reached;
 mod runs;
+mod stretches;
 mod turn;
 
 pub use by_jumps::{date_by_jumps, date_past_rows, dates_by_few_rows, dates_by_jumps};

@@ -1,15 +1,20 @@
 //! That jumps show each settled form to be longer than a limit, without the rows up to there.
-ghost use Rattle.std.specs.Prelude.{◌≡◌, ◌+◌, ◌-◌, ◌*◌, ◌<◌, ◌≤◌, All, IfOk, IsTrue};
+ghost use Rattle.std.specs.Prelude.{◌≤◌, IfOk, IsTrue};
 ghost use Rattle.teg_check.specs.Ranks.{IsRanking};
-ghost use Rattle.teg_net.specs.Limits.{greatest_firing_number, most_place_tokens};
+ghost use Rattle.teg_net.specs.Limits.{greatest_firing_number};
 ghost use Rattle.settled_laws.specs.SettledForms.{NetSettlesPast};
 ghost use Rattle.run_rows.specs.LeastRuns.{AreRowsPast};
-ghost use Rattle.run_rows.specs.ReadRuns.{IsJumpWindow};
+ghost use Rattle.run_rows.specs.ReadRuns.{IsJumpRun};
+ghost use Rattle.run_rows.specs.RoomyRuns.{end_of};
 
-use crate::by_jumps::{most_tokens, next_stretch, runs_past};
+use crate::extent::Extent;
+use crate::last_turn::LastTurn;
 use crate::late::late_place;
-use crate::past::{GREATEST, Past};
+use crate::past::GREATEST;
+use crate::ranked::{RankedNet, most_tokens};
+use crate::reached::Reached;
 use crate::runs::{EvenRun, RunRows};
+use crate::stretches::next_stretch;
 use date_rows::{PlaceOrder, Rows};
 use std::alloc::Global;
 use teg_check::Live;
@@ -22,30 +27,21 @@ const FAR: u64 = 500_000_000_000_000_000;
 const NUMBERS_A_ROW: u64 = 64;
 
 // Whether the jump past these rows is longer than the limit, and a token comes late behind it.
-fn shows_late(
-    net: &Net,
-    _live: &Live,
-    rows: &Rows,
-    after: u64,
-    run: &EvenRun,
-    most: u64,
-    limit: u64,
-) -> bool
-    requires stands { IsRanking net.now _live.now }
-    requires rows { AreRowsPast net.now after rows.now }
-    requires one { 1 ≤ most }
-    requires few { most ≤ most_place_tokens }
-    requires tokens { All (λ p. p.tokens ≤ most) net.now.places }
-    requires number { after + rows.now.count ≤ greatest_firing_number }
-    requires some { 1 ≤ run.now.turns }
-    requires window { IsJumpWindow net.now most after rows.now run.now (run.now.turns - 1) }
-    requires jump { run.now.turns * run.now.turn ≤ greatest_firing_number + 1 }
-    ensures { IsTrue result → NetSettlesPast net.now limit }
+fn shows_late(ranked: &RankedNet<'_>, rows: &Rows, after: u64, run: &EvenRun, limit: u64) -> bool
+    requires rows { AreRowsPast ranked.now.net.now after rows.now }
+    requires jump { IsJumpRun ranked.now.net.now ranked.now.most after rows.now run.now }
+    requires few { end_of run.now ≤ greatest_firing_number }
+    ensures { IsTrue result → NetSettlesPast ranked.now.net.now limit }
 {
     // The net keeps its rules.
-    net.rules();
-    let turn = run.turn;
-    (run.turns - 1) * turn + most >= limit && late_place(net, rows, run, after, run.turns)
+    ranked.net.rules();
+    let last = &LastTurn {
+        of: *ranked,
+        rows,
+        after,
+        run,
+    };
+    (run.turns - 1) * run.turn + ranked.most >= limit && late_place(last, run.turns)
 }
 
 /// Whether jumps show that each settled form of the least dating of a live net, with its ready
@@ -60,24 +56,27 @@ pub fn settles_past(alloc: Global, net: &Net, live: &Live, limit: u32) -> Result
 {
     let order = PlaceOrder::new(alloc, net, live)?;
     let most = most_tokens(net);
+    let ranked = &RankedNet { net, live, most };
     let asked = u64::from(limit);
-    let mut runs = RunRows::new(alloc);
-    let mut after = 0;
+    let runs = RunRows::new(alloc);
+    let mut reached = Reached {
+        runs,
+        after: 0,
+        all: false,
+    };
     let mut room = asked / NUMBERS_A_ROW + 2 * most + 16;
-    while after < FAR && room > 0 {
-        let past = Past { runs: &runs, after };
-        let found = next_stretch(alloc, net, live, &order, &past, most, GREATEST, room)?;
+    while reached.after < FAR && room > 0 {
+        let number = GREATEST;
+        let found = next_stretch(alloc, ranked, &order, &reached, Extent { number, room })?;
         let rows = found.rows;
         match found.jump {
             None => return Ok(false),
             Some(run) => {
-                if shows_late(net, live, &rows, after, &run, most, asked) {
+                if shows_late(ranked, &rows, reached.after, &run, asked) {
                     return Ok(true);
                 }
-                let end = run.end();
                 room = room.saturating_sub(rows.count());
-                runs = runs_past(alloc, net, runs, &rows, after, run, most, end, false)?;
-                after = end;
+                reached = reached.past(alloc, ranked, &rows, run)?;
             }
         }
     }

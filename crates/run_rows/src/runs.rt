@@ -3,7 +3,7 @@ ghost use Rattle.std.specs.Prelude.{◌≡◌, ◌+◌, ◌-◌, ◌*◌, ◌/�
 ghost use Rattle.dioid.specs.Dates.{move};
 ghost use Rattle.teg_model.specs.DateBounds.{IsDateWithin, greatest_least_date};
 ghost use Rattle.jump_laws.specs.Runs.{IsInRun, date_by_runs, kept_date, kept_step, run_date};
-ghost use Rattle.run_rows.specs.RoomyRuns.{IsRoomy, residue_of, run_of, step_of};
+ghost use Rattle.run_rows.specs.RoomyRuns.{IsRoomy, end_of, residue_of, run_of, step_of};
 
 use dioid::Date;
 use std::alloc::{AllocError, Global};
@@ -98,7 +98,7 @@ impl EvenRun {
     pub(crate) fn end(&self) -> u64
         requires first { 1 ≤ self.now.first }
         requires fits { self.now.first + self.now.turns * self.now.turn < 2 ^ 62 }
-        ensures { result ≡ self.now.first + self.now.turns * self.now.turn - 1 }
+        ensures { result ≡ end_of self.now }
     {
         self.first + self.turns * self.turn - 1
     }

@@ -6,7 +6,7 @@ ghost use Rattle.jump_laws.specs.ListedJumps.{GoesOnInTurns};
 ghost use Rattle.run_rows.specs.ReadRuns.{MovesInRows};
 
 use crate::columns::step_between;
-use crate::runs::EvenRun;
+use crate::last_turn::LastTurn;
 use date_rows::Rows;
 use dioid::Date;
 use teg_net::{InputList, Net, TransitionId};
@@ -27,17 +27,17 @@ fn is_moved(early: Date, step: i128, late: Date) -> bool
 
 // Whether the dates of the transition move from this number of the rows on in a turn by the steps
 // of the run.
-fn moves_one(rows: &Rows, last: &EvenRun, after: u64, transition: TransitionId, from: u64) -> bool
-    requires transition { transition.index < rows.now.width }
+fn moves_one(last: &LastTurn<'_>, transition: TransitionId, from: u64) -> bool
+    requires transition { transition.index < last.now.rows.now.width }
     requires from { 1 ≤ from }
-    requires few { after + rows.now.count ≤ greatest_firing_number }
-    requires first { last.now.first + last.now.turn ≤ after + rows.now.count + 1 }
-    requires fits { last.now.turn ≤ rows.now.count }
-    ensures { IsTrue result → MovesInRows after rows.now last.now from transition.index }
+    ensures { IsTrue result → MovesInRows last.now.after last.now.rows.now last.now.run.now from
+        transition.index }
 {
-    let turn = last.turn;
+    let rows = last.rows;
+    let run = last.run;
+    let turn = run.turn;
     for number in from..rows.count() - turn + 1 {
-        let step = last.step(transition, after + number);
+        let step = run.step(transition, last.after + number);
         let late = rows.date(transition, number + turn);
         if !is_moved(rows.date(transition, number), step, late) {
             return false;
@@ -47,20 +47,16 @@ fn moves_one(rows: &Rows, last: &EvenRun, after: u64, transition: TransitionId, 
 }
 
 // Whether those of all transitions do.
-pub(crate) fn moves(net: &Net, rows: &Rows, last: &EvenRun, after: u64, from: u64) -> bool
-    requires width { rows.now.width ≡ length net.now.transitions }
-    requires from { 1 ≤ from }
-    requires few { after + rows.now.count ≤ greatest_firing_number }
-    requires first { last.now.first + last.now.turn ≤ after + rows.now.count + 1 }
-    requires fits { last.now.turn ≤ rows.now.count }
-    ensures { IsTrue result → (t : ℕ) → t < length net.now.transitions
-        → MovesInRows after rows.now last.now from t }
+pub(crate) fn moves(last: &LastTurn<'_>, from: u64) -> bool
+    requires { 1 ≤ from }
+    ensures { IsTrue result → (t : ℕ) → t < length last.now.of.net.now.transitions
+        → MovesInRows last.now.after last.now.rows.now last.now.run.now from t }
 {
-    for index in 0..net.transitions().len() {
+    for index in 0..last.of.net.transitions().len() {
         let id = TransitionId {
             index: index as u32,
         };
-        if !moves_one(rows, last, after, id, from) {
+        if !moves_one(last, id, from) {
             return false;
         }
     }

@@ -9,3 +9,4 @@ pub mod Returns
 pub mod MadeDates
 pub mod TwoStreams
 pub mod Jumped
+pub mod OwnForms

@@ -9,6 +9,7 @@ ghost use Rattle.teg_bound.specs.ReturningRows.{IsOnePart, IsShortestRepetition}
 
 use crate::readings::most_tokens;
 use crate::two_streams::{Returned, SettledNumbers, numbers_by_streams, step_between};
+use own_periods::own_numbers;
 use periodic_laws::live_nets_settle;
 use run_rows::{RunRows, dates_by_few_rows};
 use std::alloc::Global;
@@ -201,12 +202,33 @@ fn numbers_by_jumps(
     }
 }
 
+// The number and the period by the own periods of the transitions, if these tell them, or else by
+// two streams.
+fn numbers_by_rows(alloc: Global, net: &Net, live: &Live) -> Result<SettledNumbers, OutOfMemory>
+    requires stands { IsRanking net.now live.now }
+    requires alone { HasPlacesAlone net.now }
+    requires strong { EachReachesEach net.now }
+    ensures { IfOk result (IsShortestRepetition net.now) }
+{
+    live_nets_settle();
+    // The net keeps its rules.
+    net.rules();
+    match own_numbers(alloc, net, live)? {
+        Some(found) => {
+            let (after, period) = (found.after, found.period);
+            Ok(SettledNumbers { after, period })
+        }
+        None => numbers_by_streams(alloc, net, live),
+    }
+}
+
 /// The number and the period of the shortest settled form of a live net without inputs, in which
 /// each transition reaches each (chapter 3, cyclicity), for nets that settle late. Rows are made
 /// only near the numbers at which one circuit overtakes another, 8,192 at most and one for each 32
 /// numbers that are jumped over, and these are kept: so where rates nearly agree it takes little
-/// time however late the net settles. Where so few rows tell no form, as where periods are long, no
-/// rows are kept but the last of two streams, as many of each as a place has tokens, at most 1,000,
+/// time however late the net settles. Where so few rows tell no form, as where periods are long, it
+/// is asked of the periods of the transitions in the first 10,000 rows ([`own_periods`]). Where
+/// these tell none either, no rows are kept but the last of two streams, as many of each as a place has tokens, at most 1,000,
 /// in memory of 64 bytes for each of them and of the transitions. For a settling length l and
 /// places of at most m tokens it then takes time of order `p log p + (l + m) (n + p)` for n
 /// transitions and p places, and that of the comparisons of these rows, most of which end at the
@@ -220,6 +242,6 @@ pub fn settled_numbers(alloc: Global, net: &Net, live: &Live) -> Result<SettledN
 {
     match numbers_by_jumps(alloc, net, live)? {
         Some(found) => Ok(found),
-        None => numbers_by_streams(alloc, net, live),
+        None => numbers_by_rows(alloc, net, live),
     }
 }

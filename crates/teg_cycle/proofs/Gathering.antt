@@ -10,7 +10,7 @@ use Rattle.teg_net.specs.Parts.{IsPlaceOfPart}
 use Rattle.teg_net.specs.Nets.{NetLists}
 use Rattle.teg_net.specs.Certificates.{IsCertificate}
 use Rattle.teg_parts.specs.Partitions.{PartLists, AreParts}
-use Rattle.teg_howard.specs.PolicyRounds.{IsPolicyRun}
+use Rattle.policy_rounds.specs.PolicyRounds.{IsPolicyRun}
 use Rattle.teg_howard.specs.PolicyRuns.{HasInnerPlace, IsAnswerOfLast}
 use Rattle.teg_certificates.specs.Checks.{ArePartCertificates}
 use Rattle.teg_cycle.specs.LastRounds.{IsLastOfRun, IsRunOf, AreRunsFrom, some_run}

@@ -21,7 +21,7 @@ use Rattle.std.proofs.lemmas.List.{length_push, get_or_push, get_or_append_left}
 use Rattle.teg_net.specs.declared.rounds.Round.{Round}
 use Rattle.teg_net.specs.GreatestRatios.{ratio_in}
 use Rattle.teg_net.specs.PartAnswers.{ArePartAnswers}
-use Rattle.teg_howard.specs.PolicyRounds.{IsPolicyRun}
+use Rattle.policy_rounds.specs.PolicyRounds.{IsPolicyRun}
 use Rattle.teg_cycle.specs.BestParts.{HaveTokens}
 use Rattle.teg_certificates.proofs.NamedRatios.{told_in}
 use Rattle.teg_howard.specs.PolicyRuns.{KeepsLimits, IsAnswerOfLast}

@@ -1,31 +1,15 @@
 //! Rows that have the walk series and the due series of the row before.
-ghost use Rattle.std.specs.Prelude.{◌≡◌, ◌<◌, length, IsTrue};
+ghost use Rattle.std.specs.Prelude.{◌<◌, length, IsTrue};
 ghost use Rattle.teg_forever.specs.Alike.{HaveSameWalks};
 ghost use Rattle.teg_forever.specs.Divisions.{AreDivisions, IsAsBefore};
 
 use crate::asked::InputRows;
 use crate::divisions::Divisions;
-use dioid::Date;
 use teg_net::TransitionId;
-use teg_settle::Settled;
-
-// Whether the dates are the same.
-fn are_same(dates: &[Date], other: &[Date]) -> bool
-    ensures { IsTrue result → dates.now ≡ other.now }
-{
-    if dates.len() != other.len() {
-        return false;
-    }
-    for index in 0..dates.len() {
-        if dates[index] != other[index] {
-            return false;
-        }
-    }
-    true
-}
+use teg_settle::WalkDates;
 
 // Whether the form tells the same dates of two transitions.
-fn have_same_walks(settled: &Settled, first: TransitionId, other: TransitionId) -> bool
+fn have_same_walks(settled: &WalkDates, first: TransitionId, other: TransitionId) -> bool
     requires first { first.index < length settled.now.rows }
     requires other { other.index < length settled.now.rows }
     ensures { IsTrue result → HaveSameWalks settled.now first.index other.index }
@@ -33,7 +17,7 @@ fn have_same_walks(settled: &Settled, first: TransitionId, other: TransitionId) 
     if settled.step(first) != settled.step(other) {
         return false;
     }
-    are_same(settled.row(first), settled.row(other))
+    settled.has_same_row(first, other)
 }
 
 // Whether the row has the walk series and the due series of the one before.

@@ -18,7 +18,7 @@ use series_form::{Series, SeriesRefused};
 use series_ops::Gain;
 use std::alloc::{AllocError, Global};
 use teg_net::{OutOfMemory, TransitionId};
-use teg_settle::Settled;
+use teg_settle::WalkDates;
 
 // The listed dates.
 fn listed(alloc: Global, dates: &[u64]) -> Result<Vec<Date>, AllocError>
@@ -56,7 +56,7 @@ pub(crate) fn due_gain(alloc: Global, row: &EndlessRow) -> Result<Gain, OutOfMem
 // The series of the dates that a form tells of a transition.
 fn told_series(
     alloc: Global,
-    settled: &Settled,
+    settled: &WalkDates,
     transition: TransitionId,
 ) -> Result<Series, SeriesRefused>
     requires transition { transition.index < length settled.now.rows }
@@ -67,9 +67,13 @@ fn told_series(
         (length (row_of settled.now transition.index))
         (length (row_of settled.now transition.index)) result }
 {
+    let row = match settled.row(alloc, transition) {
+        Ok(row) => row,
+        Err(_) => return Err(SeriesRefused::OutOfMemory),
+    };
     Series::from_list(
         alloc,
-        settled.row(transition),
+        row.as_slice(),
         settled.period() as usize,
         settled.step(transition),
     )

@@ -17,7 +17,7 @@ use series_form::Series;
 use std::alloc::Global;
 use teg_due::is_input;
 use teg_net::{OutOfMemory, TransitionId};
-use teg_settle::{SettleRefusal, transfer, walk_times_settle};
+use teg_settle::{SettleRefusal, transfer_dates, walk_times_settle};
 
 // The longest settled form of walk times that is taken.
 const LONGEST_FORM: u32 = 20_000;
@@ -48,7 +48,7 @@ fn release_of(
     ensures stopped { IfErr result (IsStopped due.now.net due.now.rows input) }
 {
     let (net, rows) = (due.net(), due.rows());
-    let settled = match transfer(alloc, net, due.live(), input, LONGEST_FORM) {
+    let settled = match transfer_dates(alloc, net, due.live(), input, LONGEST_FORM) {
         Ok(settled) => settled,
         Err(SettleRefusal::TooLong { .. }) => return Err(ForeverRefusal::TooLong { input }),
         Err(SettleRefusal::OutOfMemory) => return Err(ForeverRefusal::OutOfMemory),

@@ -7,17 +7,17 @@ use Rattle.teg_net.specs.Nets.{NetLists, IsNet}
 use Rattle.teg_net.specs.Circuits.{IsPathBetween, IsLive, time_of, tokens_of, from_of}
 use Rattle.teg_howard.specs.declared.policy_circuits.FoundCircuit.{FoundCircuit}
 use Rattle.teg_net.specs.Parts.{IsMember, IsPlaceOfPart, to_of}
-use Rattle.teg_howard.specs.Policies.{Policy, IsPolicy, IsPolicyCircuit, step_back, first_id}
+use Rattle.policy_rounds.specs.Policies.{Policy, IsPolicy, IsPolicyCircuit, step_back, first_id}
 use Rattle.teg_net.specs.PartAnswers.{first_transition_of}
 use Rattle.teg_net.specs.Limits.{greatest_circuit_time, most_circuit_tokens}
 use Rattle.teg_parts.specs.Components.{IsMarked}
 use Rattle.teg_howard.specs.FoundCircuits.{IsFoundAt, IsAbove, IsBetterOf, IsBestFound}
 use Rattle.teg_howard.specs.CircuitStarts.{IsLowestOnCircuit, AreStarts}
-use Rattle.teg_howard.proofs.Back.{trail_inside, get_or-trail}
-use Rattle.teg_howard.proofs.Sums.{own_trail}
-use Rattle.teg_howard.proofs.Turns.{circuit_trail, root_member}
-use Rattle.teg_howard.proofs.Walks.{same_circuit, circuit_short}
-use Rattle.teg_howard.proofs.First.{low_turn}
+use Rattle.policy_rounds.proofs.Back.{trail_inside, get_or-trail}
+use Rattle.policy_rounds.proofs.Sums.{own_trail}
+use Rattle.policy_rounds.proofs.Turns.{circuit_trail, root_member}
+use Rattle.policy_rounds.proofs.PolicyCircuits.{same_circuit, circuit_short}
+use Rattle.policy_rounds.proofs.First.{low_turn}
 use Rattle.teg_howard.proofs.Optimum.{some_token}
 use Rattle.teg_certificates.proofs.Ratios.{ratio_trans_less}
 

@@ -6,8 +6,8 @@ use Rattle.std.proofs.lemmas.List.Quantifiers.{all_pairs_push}
 use Rattle.std.proofs.lemmas.List.Elements.{All-push}
 use Rattle.teg_net.specs.declared.rounds.Choice.{Choice}
 use Rattle.teg_net.specs.Parts.{IsMember}
-use Rattle.teg_howard.specs.Policies.{Policy}
-use Rattle.teg_howard.specs.PolicyRounds.{choice_of_member}
+use Rattle.policy_rounds.specs.Policies.{Policy}
+use Rattle.policy_rounds.specs.PolicyRounds.{choice_of_member}
 use Rattle.teg_howard.specs.FoundCircuits.{value_held, value_or_zero}
 
 pub push_some : (cs : List Choice) (c x : Choice) (t : ℕ) → choice_of_member cs t ≡ Some x → choice_of_member (cs ++ c ∷ []) t ≡ Some x

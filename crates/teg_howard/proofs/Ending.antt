@@ -7,7 +7,7 @@ use Rattle.teg_net.specs.Nets.{NetLists}
 use Rattle.teg_net.specs.declared.rounds.Round.{Round}
 use Rattle.teg_howard.specs.declared.settling.RoundState.{RoundState}
 use Rattle.teg_howard.specs.declared.iteration.Iteration.{Iteration}
-use Rattle.teg_howard.specs.PolicyRounds.{potential}
+use Rattle.policy_rounds.specs.PolicyRounds.{potential}
 use Rattle.teg_net.specs.ReducedTimes.{IsMagnitudeWithin}
 use Rattle.teg_net.specs.Limits.{greatest_circuit_time, most_circuit_tokens}
 use Rattle.teg_howard.specs.RoundStates.{IsRoundState, RisesEach, IsIteration, GoesOn}

@@ -7,7 +7,7 @@ use Rattle.teg_net.specs.declared.entries.PlaceId.{PlaceId}
 use Rattle.teg_net.specs.Nets.{NetLists}
 use Rattle.teg_net.specs.Parts.{IsPlaceOfPart, to_of}
 use Rattle.teg_parts.specs.Components.{IsMarked}
-use Rattle.teg_howard.specs.Policies.{first_id}
+use Rattle.policy_rounds.specs.Policies.{first_id}
 use Rattle.teg_parts.proofs.Marks.{flag_past, false_not_true}
 
 pub some_by : {X : Type 0} (o : Option X) (P : Type 0) → IfNone o P → (P → ⊥) → IsSome o

@@ -9,8 +9,9 @@ use Rattle.teg_net.specs.declared.entries.PlaceId.{PlaceId}
 use Rattle.teg_net.specs.Nets.{NetLists}
 use Rattle.teg_net.specs.Ratios.{Fraction}
 use Rattle.teg_net.specs.Parts.{IsPlaceOfPart, to_of}
-use Rattle.teg_howard.specs.Policies.{Policy, Enters, first_id, offer_of, Improves}
-use Rattle.teg_howard.specs.FoundCircuits.{policy_of, potentials, IsBar, IsBetterPolicy}
+use Rattle.policy_rounds.specs.Policies.{Policy, Enters, first_id, offer_of, Improves}
+use Rattle.teg_howard.specs.FoundCircuits.{potentials, IsBar, IsBetterPolicy}
+use Rattle.policy_rounds.specs.PolicyLists.{policy_of}
 use Rattle.teg_net.proofs.Reading.{same_id}
 use Rattle.teg_parts.specs.Components.{IsMarked}
 

@@ -1,14 +1,9 @@
-pub mod Search
-pub mod Back
-pub mod Sums
-pub mod Turns
 pub mod InnerPlaces
 pub mod Routing
 pub mod Optimum
 pub mod Measure
 pub mod Lowest
 pub mod Walks
-pub mod First
 pub mod Best
 pub mod Values
 pub mod NextJoins
@@ -26,6 +21,7 @@ pub mod Unique
 pub mod OneRun
 pub use Rattle.teg_check.proofs.number_laws_proofs as number_laws_proofs
 pub use Rattle.teg_net.proofs as teg_net_proofs
+pub use Rattle.policy_rounds.proofs as policy_rounds_proofs
 pub use Rattle.teg_check.proofs as teg_check_proofs
 pub use Rattle.teg_certificates.proofs as teg_certificates_proofs
 pub use Rattle.teg_parts.proofs as teg_parts_proofs

@@ -5,8 +5,8 @@ use Rattle.std.proofs.lemmas.List.{length-set, get_or-set_same, get_or-set_other
 use Rattle.teg_net.specs.declared.entries.PlaceId.{PlaceId}
 use Rattle.teg_net.specs.Nets.{NetLists}
 use Rattle.teg_net.specs.Parts.{IsPlaceOfPart, to_of}
-use Rattle.teg_howard.specs.Policies.{Enters, first_id}
-use Rattle.teg_howard.specs.FoundCircuits.{policy_of}
+use Rattle.policy_rounds.specs.Policies.{Enters, first_id}
+use Rattle.policy_rounds.specs.PolicyLists.{policy_of}
 
 pub record LowestFrom (net : NetLists) (parts : List ℕ) (part : ℕ) (ps : List PlaceId) (i : ℕ) : Type 0 where
   pub count : length ps ≡ length parts

@@ -7,7 +7,7 @@ use Rattle.teg_net.specs.declared.entries.PlaceId.{PlaceId}
 use Rattle.teg_net.specs.Nets.{NetLists}
 use Rattle.teg_net.specs.Circuits.{from_of}
 use Rattle.teg_net.specs.Parts.{IsPlaceOfPart, to_of}
-use Rattle.teg_howard.specs.Policies.{first_id}
+use Rattle.policy_rounds.specs.Policies.{first_id}
 use Rattle.teg_howard.specs.InnerPlaces.{ListsPlaces, IsFirstExit}
 use Rattle.teg_howard.specs.FoundCircuits.{value_held, LeadsOn, NoneLeadsOn, IsFirstOn}
 

@@ -9,16 +9,16 @@ use Rattle.teg_net.specs.Circuits.{IsLive, time_of, tokens_of, from_of}
 use Rattle.teg_net.specs.declared.rounds.Choice.{Choice}
 use Rattle.teg_net.specs.declared.rounds.Round.{Round}
 use Rattle.teg_net.specs.Parts.{IsMember, to_of}
-use Rattle.teg_howard.specs.Policies.{Policy, IsPolicy, IsBestCircuit, LeadsBack, IsRouted, Joins, IsRouting, AreSums, IsImprovement, IsChanged, Improves}
+use Rattle.policy_rounds.specs.Policies.{Policy, IsPolicy, IsBestCircuit, LeadsBack, IsRouted, Joins, IsRouting, AreSums, IsImprovement, IsChanged, Improves}
 use Rattle.teg_net.specs.PartAnswers.{first_transition_of}
-use Rattle.teg_howard.specs.PolicyRounds.{chosen, potential, chosen_place, value_in, choice_of_member, IsRound, IsRoundOf, IsFirstRound, KeepsCircuit, FollowsRound, IsRunTo, IsPolicyRun}
+use Rattle.policy_rounds.specs.PolicyRounds.{chosen, potential, chosen_place, value_in, choice_of_member, IsRound, IsRoundOf, IsFirstRound, KeepsCircuit, FollowsRound, IsRunTo, IsPolicyRun}
 use Rattle.teg_net.specs.Ratios.{IsRatioOf}
-use Rattle.teg_howard.proofs.Turns.{cases_member, better_is_policy, still_back_to_root}
+use Rattle.policy_rounds.proofs.Turns.{cases_member, better_is_policy, still_back_to_root}
 use Rattle.teg_net.proofs.Reading.{same_id}
 use Rattle.teg_howard.proofs.Routing.{all_home}
 use Rattle.teg_howard.proofs.Optimum.{some_token}
-use Rattle.teg_howard.proofs.Listing.{only_members}
-use Rattle.teg_howard.proofs.RoundStates.{same_functions, any_kind, best_kind}
+use Rattle.policy_rounds.proofs.ListedChoices.{only_members}
+use Rattle.policy_rounds.proofs.BestCircuits.{same_functions, any_kind, best_kind}
 use Rattle.teg_howard.proofs.Unique.{one_improvement, leads_agrees, circuit_agrees, one_best, one_routing, one_sums}
 use Rattle.teg_certificates.proofs.OneRatio.{one_ratio}
 

@@ -7,12 +7,12 @@ use Rattle.teg_net.specs.declared.entries.PlaceId.{PlaceId}
 use Rattle.teg_net.specs.Nets.{NetLists}
 use Rattle.teg_net.specs.Circuits.{IsPathBetween, IsCircuit, IsLive, time_of, tokens_of}
 use Rattle.teg_net.specs.Parts.{IsMember, IsPlaceOfPart, to_of}
-use Rattle.teg_howard.specs.Policies.{Policy, IsPolicy, step_back, LeadsBack, offer_of, AreSums, Improves}
+use Rattle.policy_rounds.specs.Policies.{Policy, IsPolicy, step_back, LeadsBack, offer_of, AreSums, Improves}
 use Rattle.teg_net.specs.ReducedTimes.{reduced_time_of}
-use Rattle.teg_howard.proofs.Search.{FirstBelow, first_below}
-use Rattle.teg_howard.proofs.Back.{trail, trail_leads, trail_inside}
+use Rattle.policy_rounds.proofs.Search.{FirstBelow, first_below}
+use Rattle.policy_rounds.proofs.Back.{trail, trail_leads, trail_inside}
 use Rattle.teg_certificates.proofs.PathSums.{weight_is, above_along}
-use Rattle.teg_howard.proofs.Sums.{sum_back}
+use Rattle.policy_rounds.proofs.Sums.{sum_back}
 
 module _ (net : NetLists) (parts : List ℕ) (part a b : ℕ) (v : ℕ → ℤ) (none : (t : ℕ) (p : PlaceId) → Improves net parts part a b v t p → ⊥) where
   -- no place offers its end more than the potential there

@@ -9,9 +9,9 @@ use Rattle.teg_net.specs.Nets.{NetLists}
 use Rattle.teg_net.specs.Circuits.{from_of}
 use Rattle.teg_net.specs.Parts.{IsMember}
 use Rattle.teg_parts.specs.Components.{IsMarked}
-use Rattle.teg_howard.specs.Policies.{Policy, IsPolicy, step_back, LeadsBack}
+use Rattle.policy_rounds.specs.Policies.{Policy, IsPolicy, step_back, LeadsBack}
 use Rattle.teg_howard.specs.CircuitStarts.{IsLowestOnCircuit, IsLowestBack, walk_at, HasWalkPassed}
-use Rattle.teg_howard.proofs.Back.{back_add, back_member}
+use Rattle.policy_rounds.proofs.Back.{back_add, back_member}
 use Rattle.teg_parts.proofs.Ordering.{cases_number}
 
 some_not_none : (o : Option ℕ) (z : ℕ) → o ≡ Some z → o ≢ None

@@ -3,9 +3,9 @@ use Rattle.std.proofs.Common.{ℕ, zero, suc, ◌+◌, ◌*◌, ◌<◌, ◌≡�
 use Rattle.teg_net.specs.Nets.{NetLists}
 use Rattle.teg_net.specs.Circuits.{IsLive, time_of, tokens_of}
 use Rattle.teg_net.specs.declared.rounds.Round.{Round}
-use Rattle.teg_howard.specs.PolicyRounds.{chosen, potential, IsRound, IsRunTo}
+use Rattle.policy_rounds.specs.PolicyRounds.{chosen, potential, IsRound, IsRunTo}
 use Rattle.teg_howard.specs.PolicyRuns.{RisesInSum, PairRises, AllRise, RisesByCase, RiseByCase}
-use Rattle.teg_howard.proofs.Turns.{greater_ratio}
+use Rattle.policy_rounds.proofs.Turns.{greater_ratio}
 use Rattle.teg_howard.proofs.Optimum.{some_token}
 use Rattle.teg_howard.proofs.RoundStates.{ratio_less}
 

@@ -9,23 +9,22 @@ use Rattle.teg_net.specs.Circuits.{IsLive, time_of, tokens_of, from_of}
 use Rattle.teg_net.specs.Ratios.{Fraction, IsRatioOf}
 use Rattle.teg_howard.specs.declared.settling.RoundState.{RoundState}
 use Rattle.teg_howard.specs.declared.policy_circuits.FoundCircuit.{FoundCircuit}
-use Rattle.teg_net.specs.Parts.{IsMember, IsPlaceOfPart, to_of}
-use Rattle.teg_howard.specs.Policies.{Policy, IsPolicy, IsPolicyCircuit, IsBestCircuit, LeadsBack, IsRouting, AreSums, Improves, IsImprovement, IsChanged, first_id, offer_of}
+use Rattle.teg_net.specs.Parts.{IsMember, to_of}
+use Rattle.policy_rounds.specs.Policies.{IsPolicy, IsPolicyCircuit, IsBestCircuit, LeadsBack, IsRouting, AreSums, Improves, IsImprovement, IsChanged, first_id, offer_of}
 use Rattle.teg_net.specs.PartAnswers.{first_transition_of}
-use Rattle.teg_howard.specs.PolicyRounds.{chosen, potential, chosen_place, value_in, IsRound, IsRoundOf, BeginsBy}
-use Rattle.teg_howard.specs.FoundCircuits.{policy_of, potentials, value_or_zero, IsCircuitRatio, CanSettle, IsSettled, IsBestFound, IsBetterPolicy}
-use Rattle.teg_howard.specs.RoundStates.{IsRoundState, HasCircuit, IsNextRoundState, IsLastRound}
-use Rattle.teg_howard.proofs.Turns.{cases_member, everywhere, better_is_policy, greater_ratio, still_back_to_root, still_circuit, rises, rises_more}
+use Rattle.policy_rounds.specs.PolicyRounds.{chosen, potential, chosen_place, value_in, IsRound, IsRoundOf, BeginsBy, IsLastRound}
+use Rattle.teg_howard.specs.FoundCircuits.{potentials, value_or_zero, CanSettle, IsSettled, IsBestFound, IsBetterPolicy}
+use Rattle.policy_rounds.specs.PolicyLists.{IsCircuitRatio, policy_of}
+use Rattle.teg_howard.specs.RoundStates.{IsRoundState, HasCircuit, IsNextRoundState}
+use Rattle.policy_rounds.proofs.Turns.{cases_member, everywhere, better_is_policy, greater_ratio, still_back_to_root, still_circuit, rises, rises_more}
 use Rattle.teg_howard.proofs.Routing.{all_home, routed_is_policy, circuit_kept}
 use Rattle.teg_howard.proofs.Improving.{cases_marked}
-use Rattle.teg_howard.proofs.Listing.{lists_members, begins_lowest}
-use Rattle.teg_howard.proofs.First.{best_lowest}
+use Rattle.policy_rounds.proofs.ListedChoices.{lists_members, begins_lowest}
+use Rattle.policy_rounds.proofs.First.{best_lowest}
 use Rattle.teg_howard.proofs.Optimum.{some_token}
 use Rattle.std.proofs.Math.Nat.{mul-le-mul_right}
 use Rattle.teg_parts.specs.Components.{IsMarked}
-
-pub same_functions : {A B : Type 0} (f g : A → B) → ((x : A) → f x ≡ g x) → f ≡ g
-same_functions f g e = λ i. λ x. e x i
+use Rattle.policy_rounds.proofs.BestCircuits.{same_functions, any_kind, best_kind}
 
 -- the ratio of a circuit that gains at a / b, in lowest terms, is greater
 pub ratio_less : (a b c d time tokens : ℕ) → 0 < d → 0 < tokens → a * tokens < b * time → time * d ≡ c * tokens → a * d < c * b
@@ -96,22 +95,6 @@ module _ (net : NetLists) (parts : List ℕ) (part : ℕ) where
             (subst (λ x. AreSums net parts part st.round.ratio.time st.round.ratio.tokens x (first_transition_of net c) (potentials st.values.items)) f h.sums);
       }
 
-  pub any_kind : (K L : ℕ → Type 0) → ((t : ℕ) → IsMember parts part t → K t → L t) → (d : List PlaceId)
-      → All (IsPlaceOfPart net parts part) d → Any (λ p. K (to_of net p)) d → Any (λ p. L (to_of net p)) d
-  any_kind K L k d h w =
-      let inside : IsPlaceOfPart net parts part w.1 = subst (IsPlaceOfPart net parts part) w.3 (h w.0 w.1 w.2) in
-      (w.0, w.1, w.2, w.3, k (to_of net w.1) inside.to_member w.4)
-
-  -- the best circuit through one kind is that through another kind of the same members
-  pub best_kind : (π : Policy) (K L : ℕ → Type 0) (c : List PlaceId) → ((t : ℕ) → IsMember parts part t → K t → L t)
-      → ((t : ℕ) → IsMember parts part t → L t → K t) → IsBestCircuit net parts part π K c → IsBestCircuit net parts part π L c
-  best_kind π K L c k l b = record {
-    is = b.is;
-    through = any_kind K L k c b.is.inside b.through;
-    greatest = λ d h w. b.greatest d h (any_kind L K l d h.inside w);
-    lowest = λ d h w e. b.lowest d h (any_kind L K l d h.inside w) e;
-  }
-
   -- a round made from a policy's best circuit
   pub round_from :
       (policy routed : List PlaceId) (r : Fraction) (c : List PlaceId) (st : RoundState) (Kind : ℕ → Type 0)
@@ -179,7 +162,7 @@ module _ (net : NetLists) (parts : List ℕ) (part : ℕ) where
     step_new routed r f next live best ratio standing h =
         let c : List PlaceId = f.places.items in
         let through : Any (λ p. IsMarked marked (to_of net p)) c = best.best.through in
-        let new = any_kind (IsMarked marked) (λ t. IsChanged parts part (policy_of policy) (policy_of better) t) (λ t m y. (m, marked_changed t m y)) c best.best.is.inside through in
+        let new = any_kind net parts part (IsMarked marked) (λ t. IsChanged parts part (policy_of policy) (policy_of better) t) (λ t m y. (m, marked_changed t m y)) c best.best.is.inside through in
         let up_ratio = greater_ratio net parts part
         (policy_of policy) state.is_policy st.round.ratio.time st.round.ratio.tokens st.round.circuit.places.items state.circuit
         state.ratio.same (potentials st.values.items) state.sums (policy_of better) up.improves c best.best.is new in
@@ -193,7 +176,7 @@ module _ (net : NetLists) (parts : List ℕ) (part : ℕ) where
             better = policy_of better;
             improves = improvement;
             next = inl (round_from better routed r c next (IsChanged parts part (chosen st.round) (policy_of better)) standing h
-                (best_kind (policy_of better) (IsMarked marked) (IsChanged parts part (chosen st.round) (policy_of better)) c kind_to kind_from best.best));
+                (best_kind net parts part (policy_of better) (IsMarked marked) (IsChanged parts part (chosen st.round) (policy_of better)) c kind_to kind_from best.best));
           };
           rises = inl (subst (λ x. st.round.ratio.time * x.tokens < x.time * st.round.ratio.tokens) (sym h.ratio) less);
         }
@@ -201,7 +184,7 @@ module _ (net : NetLists) (parts : List ℕ) (part : ℕ) where
     -- it has none: ratio and circuit stay
     module _ (none : (d : List PlaceId) → IsPolicyCircuit net parts part (policy_of better) d → Any (λ p. IsMarked marked (to_of net p)) d → ⊥) where
       none_new : (d : List PlaceId) → IsPolicyCircuit net parts part (policy_of better) d → Any (λ p. IsChanged parts part (policy_of policy) (policy_of better) (to_of net p)) d → ⊥
-      none_new d h w = none d h (any_kind (λ t. IsChanged parts part (policy_of policy) (policy_of better) t) (IsMarked marked) (λ t m y. changed_marked t m y.1) d h.inside w)
+      none_new d h w = none d h (any_kind net parts part (λ t. IsChanged parts part (policy_of policy) (policy_of better) t) (IsMarked marked) (λ t m y. changed_marked t m y.1) d h.inside w)
 
       pub same_circuit_stands : IsPolicyCircuit net parts part (policy_of better) st.round.circuit.places.items
       same_circuit_stands = still_circuit net parts part
@@ -239,7 +222,7 @@ module _ (net : NetLists) (parts : List ℕ) (part : ℕ) where
               better = policy_of better;
               improves = improvement;
               next = inr (record {
-                none_new = λ d hd n. none d hd (any_kind (IsChanged parts part (chosen st.round) (policy_of better)) (IsMarked marked) kind_from d hd.inside n);
+                none_new = λ d hd n. none d hd (any_kind net parts part (IsChanged parts part (chosen st.round) (policy_of better)) (IsMarked marked) kind_from d hd.inside n);
                 same_circuit = h.circuit;
                 same_ratio = h.ratio;
                 same_places = λ u m. standing.chosen_is u ∙ same u m;
@@ -270,7 +253,7 @@ module _ (net : NetLists) (parts : List ℕ) (part : ℕ) where
     round = standing_round routed st standing;
     made =
         round_from policy routed r f.places.items st (IsMember parts part) standing h
-        (best_kind (policy_of policy) (IsMarked all) (IsMember parts part) f.places.items (λ t m y. m) (λ t m y. marks t m) best.best);
+        (best_kind net parts part (policy_of policy) (IsMarked all) (IsMember parts part) f.places.items (λ t m y. m) (λ t m y. marks t m) best.best);
   }
 
 pub ratio_to : (net : NetLists) (f : FoundCircuit) (r : Fraction) → f.time ≡ time_of net f.places.items

@@ -6,10 +6,10 @@ use Rattle.teg_net.specs.declared.entries.PlaceId.{PlaceId}
 use Rattle.teg_net.specs.Nets.{NetLists}
 use Rattle.teg_net.specs.Circuits.{from_of}
 use Rattle.teg_net.specs.Parts.{IsMember, to_of}
-use Rattle.teg_howard.specs.Policies.{Policy, IsPolicy, Enters, IsPolicyCircuit, step_back, LeadsBack, first_id, Joins, IsRouting}
+use Rattle.policy_rounds.specs.Policies.{Policy, IsPolicy, Enters, IsPolicyCircuit, step_back, LeadsBack, first_id, Joins, IsRouting}
 use Rattle.teg_net.specs.PartAnswers.{first_transition_of}
-use Rattle.teg_howard.proofs.Back.{back_add, back_member}
-use Rattle.teg_howard.proofs.Turns.{on_circuit}
+use Rattle.policy_rounds.proofs.Back.{back_add, back_member}
+use Rattle.policy_rounds.proofs.Turns.{on_circuit}
 
 module _ (net : NetLists) (parts : List ℕ) (part : ℕ) (π : Policy) (ok : IsPolicy net parts part π) (s : ℕ) (joins : List PlaceId)
     (routed : Policy) (r : IsRouting net parts part π s joins routed) where

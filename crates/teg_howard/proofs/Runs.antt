@@ -9,11 +9,12 @@ use Rattle.teg_net.specs.Nets.{NetLists}
 use Rattle.teg_net.specs.Circuits.{IsLive, IsPathBetween, tokens_of}
 use Rattle.teg_net.specs.declared.rounds.Round.{Round}
 use Rattle.teg_net.specs.Parts.{IsMember, IsPlaceOfPart, Reaches, to_of}
-use Rattle.teg_howard.specs.Policies.{Enters, IsPolicy, Improves, first_id}
+use Rattle.policy_rounds.specs.Policies.{Enters, IsPolicy, Improves, first_id}
 use Rattle.teg_net.specs.PartAnswers.{first_transition_of}
-use Rattle.teg_howard.specs.PolicyRounds.{BeginsBy, IsFirstRound, FollowsRound, IsRunTo, IsPolicyRun, last_policy_round, potential}
-use Rattle.teg_howard.specs.FoundCircuits.{policy_of, potentials, AreLowest, IsBeginning}
-use Rattle.teg_howard.specs.RoundStates.{IsRoundState, HasCircuit, IsLastRound, Rises}
+use Rattle.policy_rounds.specs.PolicyRounds.{BeginsBy, IsFirstRound, FollowsRound, IsRunTo, IsPolicyRun, last_policy_round, potential, IsLastRound}
+use Rattle.teg_howard.specs.FoundCircuits.{potentials, IsBeginning}
+use Rattle.policy_rounds.specs.PolicyLists.{AreLowest, policy_of}
+use Rattle.teg_howard.specs.RoundStates.{IsRoundState, HasCircuit, Rises}
 use Rattle.teg_howard.specs.PolicyRuns.{AllRise, IsAnswerOf, KeepsLimits, potential_of}
 use Rattle.std.specs.Prelude.{map}
 use Rattle.teg_net.specs.Ratios.{Fraction}
@@ -24,11 +25,12 @@ use Rattle.teg_net.specs.Parts.{ListsMembers}
 use Rattle.teg_net.specs.ReducedTimes.{IsGreatestPathTime, IsMagnitudeWithin}
 use Rattle.teg_net.specs.PartAnswers.{IsBestOfPart, IsPartAnswer}
 use Rattle.teg_net.specs.Limits.{greatest_scaled_potential}
-use Rattle.teg_howard.proofs.Listing.{lists_members, begins_lowest, same_transitions, told_potentials, pair_rises}
+use Rattle.teg_howard.proofs.Listing.{same_transitions, told_potentials, pair_rises}
+use Rattle.policy_rounds.proofs.ListedChoices.{lists_members, begins_lowest}
 use Rattle.teg_howard.proofs.Values.{path_inside}
-use Rattle.teg_howard.proofs.Turns.{cases_member}
+use Rattle.policy_rounds.proofs.Turns.{cases_member}
 use Rattle.teg_howard.proofs.Optimum.{greatest_in_part, no_greater_sum, sum_attained}
-use Rattle.teg_howard.proofs.RoundStates.{same_functions}
+use Rattle.policy_rounds.proofs.BestCircuits.{same_functions}
 use Rattle.teg_howard.specs.declared.settling.RoundState.{RoundState}
 
 module _ (net : NetLists) (parts : List ℕ) (part : ℕ) where

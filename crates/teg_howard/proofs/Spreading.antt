@@ -12,7 +12,7 @@ use Rattle.teg_net.specs.Nets.{NetLists}
 use Rattle.teg_net.specs.Circuits.{from_of}
 use Rattle.teg_net.specs.Parts.{IsMember}
 use Rattle.teg_howard.specs.declared.following.Followers.{Followers}
-use Rattle.teg_howard.specs.Policies.{Policy}
+use Rattle.policy_rounds.specs.Policies.{Policy}
 use Rattle.teg_howard.specs.FoundCircuits.{value_held, IsFollower}
 use Rattle.teg_howard.specs.Following.{IsFollowerOf, IsHighestFollowerBelow, AreFollowers, listed_member, Followed}
 use Rattle.teg_howard.proofs.Values.{some_apart, cases_option}

@@ -9,13 +9,13 @@ use Rattle.teg_net.specs.declared.entries.PlaceId.{PlaceId}
 use Rattle.teg_net.specs.Nets.{NetLists}
 use Rattle.teg_net.specs.Circuits.{time_of, tokens_of, from_of}
 use Rattle.teg_net.specs.Parts.{IsMember, to_of}
-use Rattle.teg_howard.specs.Policies.{Policy, IsPolicy, IsPolicyCircuit, IsBestCircuit, step_back, LeadsBack, IsRouted, JoinsNext, IsRouting, AreSums, Improves, IsImprovement, first_id, offer_of}
+use Rattle.policy_rounds.specs.Policies.{Policy, IsPolicy, IsPolicyCircuit, IsBestCircuit, step_back, LeadsBack, IsRouted, JoinsNext, IsRouting, AreSums, Improves, IsImprovement, first_id, offer_of}
 use Rattle.teg_net.specs.PartAnswers.{first_transition_of}
 use Rattle.teg_net.specs.ReducedTimes.{reduced_time}
-use Rattle.teg_howard.proofs.Back.{back_member, back_add}
-use Rattle.teg_howard.proofs.Turns.{cases_improves}
+use Rattle.policy_rounds.proofs.Back.{back_member, back_add}
+use Rattle.policy_rounds.proofs.Turns.{cases_improves}
 use Rattle.teg_net.proofs.Reading.{same_id}
-use Rattle.teg_howard.proofs.Walks.{same_circuit}
+use Rattle.policy_rounds.proofs.PolicyCircuits.{same_circuit}
 
 one_between : (x y : ℤ) → x ≤ℤ y → y ≤ℤ x → x ≡ y
 one_between x y a b = omega (arith, ints)

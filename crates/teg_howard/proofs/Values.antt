@@ -3,8 +3,6 @@ use Rattle.std.proofs.Common.{ℕ, zero, suc, ◌+◌, ◌*◌, ◌<◌, ◌≤�
 use Rattle.std.proofs.Common.{take, refl, sym, ap, subst, ◌∙◌, arith, rules, inl, inr, ⊎_elim}
 use Rattle.std.specs.Prelude.{ℤ, pos, ◌+ℤ◌, All, Any, IsSome, ◌⊎◌}
 use Rattle.std.proofs.lemmas.Int.{ints}
-use mir.Val.{SFits}
-use mir.Syntax.{w128}
 use Rattle.std.proofs.lemmas.Nat.{mul-le}
 use Rattle.std.proofs.lemmas.Bool.{cases_eq, cases_lt}
 use Rattle.std.proofs.lemmas.List.{length-set, get_or-set_same, get_or-set_other, get_or_default, length_push, get_or_push, get_or_append_left, take-append-le}
@@ -18,13 +16,14 @@ use Rattle.teg_net.specs.Circuits.{place_at, no_place, IsPathBetween, from_of}
 use Rattle.teg_net.specs.Ratios.{Fraction}
 use Rattle.teg_parts.specs.Partitions.{AreStrong}
 use Rattle.teg_net.specs.Parts.{IsMember, IsPlaceOfPart, Reaches, to_of}
-use Rattle.teg_howard.specs.Policies.{Policy, IsPolicy, step_back, LeadsBack, first_id, IsRouted, Joins, JoinsNext, IsRouting, AreSums, offer_of}
+use Rattle.policy_rounds.specs.Policies.{Policy, IsPolicy, step_back, LeadsBack, first_id, IsRouted, Joins, JoinsNext, IsRouting, AreSums, offer_of}
 use Rattle.teg_net.specs.ReducedTimes.{reduced_time, IsMagnitudeWithin}
 use Rattle.teg_net.specs.Limits.{greatest_scaled_potential, greatest_circuit_time, greatest_hold, most_circuit_tokens}
-use Rattle.teg_howard.specs.FoundCircuits.{policy_of, value_or_zero, value_held, potentials, IsCircuitRatio, IsFollower, AreRouted}
+use Rattle.teg_howard.specs.FoundCircuits.{value_or_zero, value_held, potentials, IsFollower, AreRouted}
+use Rattle.policy_rounds.specs.PolicyLists.{IsCircuitRatio, policy_of}
 use Rattle.teg_howard.specs.Following.{step_bound, filled, HasRootAlone, Valued, Followed}
 use Rattle.teg_howard.proofs.NextJoins.{IsJoin, IsNextJoin}
-use Rattle.teg_howard.proofs.Back.{back_add}
+use Rattle.policy_rounds.proofs.Back.{back_add}
 
 pub cases_option : (o : Option ℤ) → (o ≡ None) ⊎ ((z : ℤ) × (o ≡ Some z))
 cases_option None = inl refl
@@ -346,9 +345,6 @@ followed_start net parts part a b s π vs m h =
       };
       home = λ t z e. (0, only t z e);
     }
-
-pub fits_within : (z : ℤ) → IsMagnitudeWithin greatest_scaled_potential z → SFits w128 z
-fits_within z h = let l = h.low in let k = h.high in omega (arith, ints)
 
 -- a value is what it counts as
 value_is : (vs : List (Option ℤ)) (t : ℕ) → value_held vs t ≢ None → value_held vs t ≡ Some (potentials vs t)

@@ -3,7 +3,7 @@ use Rattle.std.specs.Prelude.{ℕ, ◌<◌, ◌≤◌, ◌≡◌, ◌≢◌, Lis
 use Rattle.teg_net.specs.Nets.{NetLists}
 use Rattle.teg_net.specs.Parts.{IsMember}
 use Rattle.teg_parts.specs.Components.{IsMarked}
-use Rattle.teg_howard.specs.Policies.{Policy, step_back, LeadsBack}
+use Rattle.policy_rounds.specs.Policies.{Policy, step_back, LeadsBack}
 
 -- the transition comes again by following the policy backwards, within so many steps
 pub record ComesAgain (net : NetLists) (policy : Policy) (n t : ℕ) : Type 0 where

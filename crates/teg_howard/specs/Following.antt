@@ -7,8 +7,9 @@ use Rattle.teg_net.specs.Ratios.{Fraction}
 use Rattle.teg_net.specs.Parts.{IsMember}
 use Rattle.teg_net.specs.ReducedTimes.{reduced_time, IsMagnitudeWithin}
 use Rattle.teg_howard.specs.declared.following.Followers.{Followers}
-use Rattle.teg_howard.specs.Policies.{Policy, IsPolicy, LeadsBack}
-use Rattle.teg_howard.specs.FoundCircuits.{policy_of, value_held, IsCircuitRatio}
+use Rattle.policy_rounds.specs.Policies.{Policy, IsPolicy, LeadsBack}
+use Rattle.teg_howard.specs.FoundCircuits.{value_held}
+use Rattle.policy_rounds.specs.PolicyLists.{IsCircuitRatio, policy_of}
 
 -- a member, not the root, whose place starts at x
 pub record IsFollowerOf (net : NetLists) (parts : List ℕ) (part : ℕ) (policy : Policy) (root x t : ℕ) : Type 0 where

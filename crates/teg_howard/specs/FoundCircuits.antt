@@ -1,5 +1,5 @@
 -- Working definitions of what the searches of a round find: policies as lists, and circuits with their sums.
-use Rattle.std.specs.Prelude.{ℕ, ℤ, pos, ◌*◌, ◌<◌, ◌≤◌, ◌≡◌, ◌≢◌, ◌⊎◌, ⊤, List, length, All, Any, AllPairs, Option, Some, None, Bool, slice_index_or}
+use Rattle.std.specs.Prelude.{ℕ, ℤ, pos, ◌*◌, ◌<◌, ◌≤◌, ◌≡◌, ◌≢◌, ◌⊎◌, ⊤, List, length, All, Any, Option, Some, None, Bool, slice_index_or}
 use Rattle.teg_net.specs.declared.entries.PlaceId.{PlaceId}
 use Rattle.teg_net.specs.Nets.{NetLists, IsNet}
 use Rattle.teg_net.specs.Circuits.{IsCircuit, time_of, tokens_of, from_of}
@@ -10,15 +10,12 @@ use Rattle.teg_howard.specs.declared.settling.RoundState.{RoundState}
 use Rattle.teg_parts.specs.Partitions.{AreStrong}
 use Rattle.teg_net.specs.Parts.{IsMember, to_of}
 use Rattle.teg_net.specs.ReducedTimes.{IsMagnitudeWithin}
-use Rattle.teg_howard.specs.Policies.{Policy, IsPolicy, Enters, IsPolicyCircuit, IsBestCircuit, IsRouting, AreSums, Improves, IsImprovement, step_back, first_id}
+use Rattle.policy_rounds.specs.Policies.{Policy, IsPolicy, IsPolicyCircuit, IsBestCircuit, IsRouting, AreSums, Improves, IsImprovement, first_id}
 use Rattle.teg_net.specs.PartAnswers.{first_transition_of}
 use Rattle.teg_net.specs.Limits.{greatest_scaled_potential, greatest_circuit_time, most_circuit_tokens}
 use Rattle.teg_parts.specs.Components.{IsMarked}
-use Rattle.teg_howard.specs.PolicyRounds.{IsLowestInto, choice_of_member}
-
--- the policy that a list gives by transition
-abbrev pub policy_of : List PlaceId → Policy
-policy_of ps t = slice_index_or ps t first_id
+use Rattle.policy_rounds.specs.PolicyRounds.{choice_of_member}
+use Rattle.policy_rounds.specs.PolicyLists.{policy_of, ListsChoices, IsCircuitRatio}
 
 -- the list gives a policy of places of the net
 pub record ListsPolicy (net : NetLists) (parts : List ℕ) (part : ℕ) (ps : List PlaceId) : Type 0 where
@@ -26,26 +23,12 @@ pub record ListsPolicy (net : NetLists) (parts : List ℕ) (part : ℕ) (ps : Li
   pub is_policy : IsPolicy net parts part (policy_of ps)
   pub in_range : All (λ p. p.index < length net.places) ps
 
--- the list gives each transition its lowest numbered place of the part, and place 0 where none enters it
-pub record AreLowest (net : NetLists) (parts : List ℕ) (part : ℕ) (ps : List PlaceId) : Type 0 where
-  pub count : length ps ≡ length parts
-  pub lowest : (t : ℕ) (p : PlaceId) → Enters net parts part t p → IsLowestInto net parts part t (policy_of ps t)
-  pub others : (t : ℕ) → ((p : PlaceId) → Enters net parts part t p → ⊥) → policy_of ps t ≡ first_id
-
 -- the list gives a policy of the part, to begin with, and place 0 to each other transition
 pub record IsBeginning (net : NetLists) (parts : List ℕ) (part : ℕ) (ps : List PlaceId) : Type 0 where
   pub count : length ps ≡ length parts
   pub is_policy : IsPolicy net parts part (policy_of ps)
   pub in_range : All (λ p. p.index < length net.places) ps
   pub outside : (t : ℕ) → (IsMember parts part t → ⊥) → policy_of ps t ≡ first_id
-
--- following the policy backwards stays among transitions that have a place
-pub record IsOnPolicy (net : NetLists) (policy : Policy) (start : ℕ) : Type 0 where
-  pub parts : List ℕ
-  pub part : ℕ
-  pub count : length parts ≡ length net.transitions
-  pub member : IsMember parts part start
-  pub kept : IsPolicy net parts part policy
 
 -- a circuit of the policy's places that begins at start, with its sums
 pub record IsFoundAt (net : NetLists) (policy : Policy) (start : ℕ) (f : FoundCircuit) : Type 0 where
@@ -56,11 +39,6 @@ pub record IsFoundAt (net : NetLists) (policy : Policy) (start : ℕ) (f : Found
   pub tokens : f.tokens ≡ tokens_of net f.places.items
   pub time_in : f.time ≤ greatest_circuit_time
   pub tokens_in : f.tokens ≤ most_circuit_tokens
-
--- following the policy backwards from start for up to n places comes below start before it comes back
-abbrev pub GoesBelow : NetLists → Policy → ℕ → ℕ → Type 0
-GoesBelow net policy start n =
-    (k : ℕ) → 0 < k → k ≤ n → step_back net policy k start ≡ start → (j : ℕ) × (j < k) × (step_back net policy j start < start)
 
 -- whether a circuit with these sums has a greater ratio than the best so far
 abbrev pub IsAbove : FoundCircuit → Option FoundCircuit → Type 0
@@ -85,11 +63,6 @@ pub record IsBestFound (net : NetLists) (parts : List ℕ) (part : ℕ) (policy 
   pub tokens : f.tokens ≡ tokens_of net f.places.items
   pub time_in : f.time ≤ greatest_circuit_time
   pub tokens_in : f.tokens ≤ most_circuit_tokens
-
--- the time and the tokens of a ratio keep the bounds of a circuit's
-pub record IsCircuitRatio (r : Fraction) : Type 0 where
-  pub time_in : r.time ≤ greatest_circuit_time
-  pub tokens_in : r.tokens ≤ most_circuit_tokens
 
 -- the value that the list gives a transition, if any
 abbrev pub value_held : List (Option ℤ) → ℕ → Option ℤ
@@ -119,12 +92,6 @@ pub record IsFirstOn (net : NetLists) (values : List (Option ℤ)) (ids : List P
 abbrev pub value_or_zero : Option ℤ → ℤ
 value_or_zero None = pos 0
 value_or_zero (Some z) = z
-
--- one choice for each member, in order
-pub record ListsChoices (parts : List ℕ) (part : ℕ) (cs : List Choice) : Type 0 where
-  pub only : All (λ c. IsMember parts part c.transition.index) cs
-  pub order : AllPairs (λ c d. c.transition.index < d.transition.index) cs
-  pub all : (t : ℕ) → IsMember parts part t → choice_of_member cs t ≢ None
 
 -- choices that have the places and the values of the members
 pub record AreChoicesMade (parts : List ℕ) (part : ℕ) (policy : Policy) (values : List (Option ℤ)) (cs : List Choice) : Type 0 where

@@ -4,7 +4,7 @@ use Rattle.teg_net.specs.declared.entries.PlaceId.{PlaceId}
 use Rattle.teg_net.specs.Nets.{NetLists}
 use Rattle.teg_net.specs.Circuits.{from_of}
 use Rattle.teg_net.specs.Parts.{IsPlaceOfPart}
-use Rattle.teg_howard.specs.Policies.{first_id}
+use Rattle.policy_rounds.specs.Policies.{first_id}
 
 -- the list has each place of the part once, in order of number
 pub record ListsPlaces (net : NetLists) (parts : List ℕ) (part : ℕ) (ids : List PlaceId) : Type 0 where

@@ -1,5 +1,3 @@
-pub mod Policies
-pub mod PolicyRounds
 pub mod PolicyRuns
 pub mod OnePolicyRun
 pub mod FoundCircuits
@@ -8,5 +6,6 @@ pub mod Following
 pub mod CircuitStarts
 pub mod InnerPlaces
 pub use Rattle.teg_net.specs as teg_net
+pub use Rattle.policy_rounds.specs as policy_rounds
 pub use Rattle.teg_check.specs as teg_check
 pub use Rattle.teg_parts.specs as teg_parts

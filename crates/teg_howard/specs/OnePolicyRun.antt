@@ -3,7 +3,7 @@ use Rattle.std.specs.Prelude.{ℕ, ◌<◌, ◌≡◌, List, length, slice_index
 use Rattle.teg_net.specs.declared.rounds.Round.{Round}
 use Rattle.teg_net.specs.Nets.{NetLists}
 use Rattle.teg_net.specs.Circuits.{IsLive}
-use Rattle.teg_howard.specs.PolicyRounds.{chosen, potential, IsPolicyRun}
+use Rattle.policy_rounds.specs.PolicyRounds.{chosen, potential, IsPolicyRun}
 
 -- the rounds have the same choices, and so the same places and potentials of each transition, the same circuit and the
 -- same ratio

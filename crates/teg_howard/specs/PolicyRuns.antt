@@ -10,8 +10,8 @@ use Rattle.teg_net.specs.Nets.{NetLists}
 use Rattle.teg_net.specs.Parts.{IsPlaceOfPart}
 use Rattle.teg_net.specs.ReducedTimes.{IsMagnitudeWithin}
 use Rattle.teg_net.specs.Limits.{most_transitions, greatest_circuit_time, most_circuit_tokens, greatest_scaled_potential}
-use Rattle.teg_howard.specs.Policies.{Policy, IsImprovement, IsChanged}
-use Rattle.teg_howard.specs.PolicyRounds.{chosen, potential, last_policy_round, IsRoundOf, KeepsCircuit, IsPolicyRun}
+use Rattle.policy_rounds.specs.Policies.{Policy, IsImprovement, IsChanged}
+use Rattle.policy_rounds.specs.PolicyRounds.{chosen, potential, last_policy_round, IsRoundOf, KeepsCircuit, IsPolicyRun}
 
 -- some place has both ends in the part; a strong part has a circuit exactly then
 abbrev pub HasInnerPlace : NetLists → List ℕ → ℕ → Type 0

@@ -10,13 +10,14 @@ use Rattle.teg_parts.specs.Components.{IsMarked}
 use Rattle.teg_howard.specs.InnerPlaces.{AreInner}
 use Rattle.teg_parts.specs.Partitions.{AreStrong}
 use Rattle.teg_net.specs.Parts.{IsMember, IsPlaceOfPart}
-use Rattle.teg_howard.specs.Policies.{Policy, IsPolicy, IsPolicyCircuit, LeadsBack, AreSums, Improves, first_id}
+use Rattle.policy_rounds.specs.Policies.{Policy, IsPolicy, IsPolicyCircuit, LeadsBack, AreSums, Improves, first_id}
 use Rattle.teg_net.specs.ReducedTimes.{IsMagnitudeWithin}
 use Rattle.teg_net.specs.PartAnswers.{first_transition_of}
-use Rattle.teg_howard.specs.PolicyRounds.{chosen, potential, BeginsBy, FollowsRound}
+use Rattle.policy_rounds.specs.PolicyRounds.{chosen, potential, BeginsBy, FollowsRound, IsLastRound}
 use Rattle.teg_net.specs.Ratios.{Fraction, IsRatioOf}
 use Rattle.teg_net.specs.Limits.{greatest_scaled_potential}
-use Rattle.teg_howard.specs.FoundCircuits.{policy_of, potentials, value_held, value_or_zero, IsCircuitRatio, ListsChoices, CanSettle, IsSettled, IsBetterPolicy}
+use Rattle.teg_howard.specs.FoundCircuits.{potentials, value_held, value_or_zero, CanSettle, IsSettled, IsBetterPolicy}
+use Rattle.policy_rounds.specs.PolicyLists.{IsCircuitRatio, policy_of, ListsChoices}
 
 -- a round stands on the policy that the list gives
 pub record IsRoundState (net : NetLists) (parts : List ℕ) (part : ℕ) (policy : List PlaceId) (st : RoundState) : Type 0 where
@@ -78,10 +79,6 @@ pub record IsNextRoundState (net : NetLists) (parts : List ℕ) (part : ℕ) (po
   pub standing : IsRoundState net parts part policy next
   pub follows : FollowsRound net parts part st.round next.round
   pub rises : Rises st.round next.round
-
--- no place improves
-abbrev pub IsLastRound : NetLists → List ℕ → ℕ → Round → Type 0
-IsLastRound net parts part r = (t : ℕ) (p : PlaceId) → Improves net parts part r.ratio.time r.ratio.tokens (potential r) t p → ⊥
 
 -- the rounds stand at one that stands
 pub record IsIteration (net : NetLists) (parts : List ℕ) (part : ℕ) (at : Iteration) : Type 0 where

@@ -1,6 +1,7 @@
 //! Where the circuits of a policy begin, by one walk that marks what it has passed.
 ghost use Rattle.std.specs.Prelude.{ℕ, ◌≡◌, ◌↔◌, ◌<◌, length, IsTrue, IfOk, IfSome, IfNone, Some};
-ghost use Rattle.teg_howard.specs.FoundCircuits.{policy_of, ListsPolicy, IsOnPolicy};
+ghost use Rattle.teg_howard.specs.FoundCircuits.{ListsPolicy};
+ghost use Rattle.policy_rounds.specs.PolicyLists.{policy_of, IsOnPolicy};
 ghost use Rattle.teg_howard.specs.CircuitStarts.{ComesAgain, IsLowestBack, HasWalkPassed, AreStarts, walk_at};
 
 use crate::inside::Part;

@@ -1,7 +1,8 @@
 //! Potentials along a policy: each member from which following backwards leads to the root gets its
 //! own.
 ghost use Rattle.std.specs.Prelude.{◌≡◌, ◌<◌, ◌++◌, ℕ, length, slice_index_or, All, IfOk, OnOk, None};
-ghost use Rattle.teg_howard.specs.FoundCircuits.{policy_of, IsFollower};
+ghost use Rattle.teg_howard.specs.FoundCircuits.{IsFollower};
+ghost use Rattle.policy_rounds.specs.PolicyLists.{policy_of};
 ghost use Rattle.teg_howard.specs.Following.{AreFollowers, HasRootAlone, Followed, CanFollow, listed_member};
 
 use crate::inside::Part;

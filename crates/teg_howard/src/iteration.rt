@@ -1,11 +1,12 @@
 //! The rounds of a part, from the first to the one that no place improves.
 ghost use Rattle.std.specs.Prelude.{◌≡◌, ◌≢◌, ◌++◌, ◌∷◌, [], IfOk, IfSome, IfNone, map};
 ghost use Rattle.teg_net.specs.PartAnswers.{IsPartAnswer};
-ghost use Rattle.teg_howard.specs.PolicyRounds.{BeginsBy, IsFirstRound, IsPolicyRun};
+ghost use Rattle.policy_rounds.specs.PolicyRounds.{BeginsBy, IsFirstRound, IsPolicyRun, IsLastRound};
 ghost use Rattle.teg_howard.specs.PolicyRuns.{potential_of, IsAnswerOf, IsAnswerOfLast, EndsRun, KeepsLimits, AllRise, RiseByCase};
-ghost use Rattle.teg_howard.specs.FoundCircuits.{IsBeginning, policy_of};
+ghost use Rattle.teg_howard.specs.FoundCircuits.{IsBeginning};
+ghost use Rattle.policy_rounds.specs.PolicyLists.{policy_of};
 ghost use Rattle.teg_howard.specs.InnerPlaces.{AreInner};
-ghost use Rattle.teg_howard.specs.RoundStates.{IsRoundState, HasCircuit, SettlesTo, IsFirstState, IsImproved, IsNextRoundState, IsLastRound, IsIteration, GoesOn, StaysAtLast};
+ghost use Rattle.teg_howard.specs.RoundStates.{IsRoundState, HasCircuit, SettlesTo, IsFirstState, IsImproved, IsNextRoundState, IsIteration, GoesOn, StaysAtLast};
 
 use crate::beginnings::policy_after;
 use crate::inside::{InnerPlaces, Part, inner_places};

@@ -4,8 +4,9 @@ ghost use Rattle.teg_net.specs.Circuits.{from_of};
 ghost use Rattle.teg_net.specs.Parts.{to_of};
 ghost use Rattle.teg_net.specs.ReducedTimes.{IsMagnitudeWithin};
 ghost use Rattle.teg_net.specs.Limits.{greatest_scaled_potential, greatest_hold};
-ghost use Rattle.teg_howard.specs.Policies.{offer_of};
-ghost use Rattle.teg_howard.specs.FoundCircuits.{value_held, potentials, IsCircuitRatio};
+ghost use Rattle.policy_rounds.specs.Policies.{offer_of};
+ghost use Rattle.teg_howard.specs.FoundCircuits.{value_held, potentials};
+ghost use Rattle.policy_rounds.specs.PolicyLists.{IsCircuitRatio};
 
 use teg_net::{Net, Place, PlaceId, Ratio};
 

@@ -3,7 +3,7 @@ ghost use Rattle.std.specs.Prelude.{◌≡◌, ◌≢◌, IfOk};
 ghost use Rattle.teg_net.specs.PartAnswers.{IsPartAnswer};
 ghost use Rattle.teg_check.specs.Ranks.{IsRanking};
 ghost use Rattle.teg_parts.specs.Partitions.{AreParts};
-ghost use Rattle.teg_howard.specs.PolicyRounds.{IsPolicyRun};
+ghost use Rattle.policy_rounds.specs.PolicyRounds.{IsPolicyRun};
 ghost use Rattle.teg_howard.specs.RoundStates.{HasCircuit};
 ghost use Rattle.teg_howard.specs.PolicyRuns.{HasInnerPlace, IsAnswerOfLast, EndsRun, KeepsLimits, AllRise, RiseByCase};
 

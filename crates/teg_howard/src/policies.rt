@@ -3,7 +3,8 @@
 ghost use Rattle.std.specs.Prelude.{◌≡◌, ◌≢◌, ◌<◌, ◌↔◌, ℕ, length, None, IsTrue, IfOk};
 ghost use Rattle.teg_parts.specs.Components.{IsMarked};
 ghost use Rattle.teg_howard.specs.InnerPlaces.{ListsPlaces};
-ghost use Rattle.teg_howard.specs.FoundCircuits.{AreLowest, IsBar, CanImprove, IsBetterPolicy, value_held, potentials};
+ghost use Rattle.teg_howard.specs.FoundCircuits.{IsBar, CanImprove, IsBetterPolicy, value_held, potentials};
+ghost use Rattle.policy_rounds.specs.PolicyLists.{AreLowest};
 
 use crate::inside::{Part, is_inside};
 use crate::offers::{end_of, offer_from};

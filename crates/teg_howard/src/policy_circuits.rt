@@ -2,10 +2,11 @@
 ghost use Rattle.std.specs.Prelude.{◌≡◌, ◌<◌, ◌↔◌, List, length, Any, IsTrue, IfOk, IfSome, IfNone, Some};
 ghost use Rattle.teg_net.specs.Circuits.{IsLive, AreInRange};
 ghost use Rattle.teg_net.specs.Parts.{to_of};
-ghost use Rattle.teg_howard.specs.Policies.{IsPolicyCircuit};
+ghost use Rattle.policy_rounds.specs.Policies.{IsPolicyCircuit};
 ghost use Rattle.teg_net.specs.declared.entries.PlaceId.{PlaceId};
 ghost use Rattle.teg_parts.specs.Components.{IsMarked};
-ghost use Rattle.teg_howard.specs.FoundCircuits.{policy_of, ListsPolicy, IsOnPolicy, IsFoundAt, IsAbove, IsFoundSmall, IsBetterOf, IsBestFound, GoesBelow};
+ghost use Rattle.teg_howard.specs.FoundCircuits.{ListsPolicy, IsFoundAt, IsAbove, IsFoundSmall, IsBetterOf, IsBestFound};
+ghost use Rattle.policy_rounds.specs.PolicyLists.{policy_of, IsOnPolicy, GoesBelow};
 
 use crate::circuit_starts::circuit_starts;
 use crate::inside::Part;

@@ -7,7 +7,8 @@ ghost use Rattle.teg_net.specs.PartAnswers.{first_transition_of};
 ghost use Rattle.teg_parts.specs.Partitions.{AreStrong};
 ghost use Rattle.teg_howard.specs.InnerPlaces.{AreInner};
 ghost use Rattle.teg_howard.specs.Following.{CanFollow};
-ghost use Rattle.teg_howard.specs.FoundCircuits.{policy_of, value_held, LeadsOn, NoneLeadsOn, IsFirstOn, AreChoicesMade, CanSettle, AreRouted, IsSettled};
+ghost use Rattle.teg_howard.specs.FoundCircuits.{value_held, LeadsOn, NoneLeadsOn, IsFirstOn, AreChoicesMade, CanSettle, AreRouted, IsSettled};
+ghost use Rattle.policy_rounds.specs.PolicyLists.{policy_of};
 
 use crate::following::follow;
 use crate::inside::Part;

@@ -1,7 +1,7 @@
 //! One step back along a policy.
 ghost use Rattle.std.specs.Prelude.{◌≡◌, length};
 ghost use Rattle.teg_net.specs.Circuits.{place_at};
-ghost use Rattle.teg_howard.specs.FoundCircuits.{policy_of, IsOnPolicy};
+ghost use Rattle.policy_rounds.specs.PolicyLists.{policy_of, IsOnPolicy};
 
 use teg_net::{Net, Place, PlaceId};
 

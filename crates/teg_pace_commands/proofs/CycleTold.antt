@@ -18,7 +18,7 @@ use Rattle.teg_net.specs.Parts.{IsMember}
 use Rattle.teg_net.specs.PartAnswers.{ArePartAnswers}
 use Rattle.teg_parts.specs.Partitions.{AreParts, PartLists}
 use Rattle.teg_cycle.specs.LastRounds.{AreRunsFrom, rounds_of_runs}
-use Rattle.teg_howard.specs.PolicyRounds.{IsRound, IsPolicyRun, choice_of_member, chosen_place}
+use Rattle.policy_rounds.specs.PolicyRounds.{IsRound, IsPolicyRun, choice_of_member, chosen_place}
 use Rattle.teg_report.specs.teg_lines.CycleMeanings.{cycle_lists, part_lists, round_lists, runs_lists}
 use Rattle.teg_report.specs.teg_lines.RoundLines.{RoundLists, IsRoundIn, IsRunIn, IsRunKept, AreRoundsTold, AreRunsTold, circuits_in}
 use Rattle.teg_report.specs.teg_text.Lines.{written}

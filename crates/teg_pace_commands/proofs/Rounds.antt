@@ -2,7 +2,7 @@
 use Rattle.std.proofs.Common.{◌≡◌, ℕ, zero, suc, ◌<◌, ◌==◌, true, false, List, [], ◌∷◌, AllPairs, Some, length, get_or, refl, arith, eq-eqb, ne_eqb}
 use Rattle.std.proofs.lemmas.List.{get_or-map, length-map}
 use Rattle.teg_net.specs.declared.rounds.Choice.{Choice}
-use Rattle.teg_howard.specs.PolicyRounds.{choice_of_member, chosen_for}
+use Rattle.policy_rounds.specs.PolicyRounds.{choice_of_member, chosen_for}
 
 -- the choice for the transition of a choice is this one
 pub choice_at : (cs : List Choice) → AllPairs (λ t u. t < u) (chosen_for cs) → (i : ℕ) (d : Choice) → i < length cs →

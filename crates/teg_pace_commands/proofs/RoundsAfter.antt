@@ -16,7 +16,7 @@ use Rattle.teg_net.specs.Ratios.{Fraction}
 use Rattle.teg_parts.specs.Partitions.{PartsAreOne, PartLists as Partition}
 use Rattle.teg_howard.specs.OnePolicyRun.{PolicyRunsAreOne, AreSameRounds, AreSameRuns}
 use Rattle.teg_howard.specs.PolicyRuns.{IsAnswerOf, IsAnswerOfLast, potential_of}
-use Rattle.teg_howard.specs.PolicyRounds.{last_policy_round}
+use Rattle.policy_rounds.specs.PolicyRounds.{last_policy_round}
 use Rattle.teg_cycle.specs.LastRounds.{AreLastOfRuns, AreRunsFrom, IsLastOfRun}
 use Rattle.teg_report.specs.teg_lines.CycleLines.{CycleLists, ToldPart, NoCircuitIn, BestOf, cycle_lines}
 use Rattle.teg_report.specs.teg_lines.CycleMeanings.{cycle_lists, part_lists, round_lists}

@@ -10,6 +10,7 @@ pub mod Reaching
 pub mod Transferring
 mod PartTold
 pub mod Showing
+mod SpreadOut
 mod Steps
 pub use Rattle.periodic_laws.proofs.number_laws_proofs as number_laws_proofs
 pub use Rattle.dioid.proofs as dioid_proofs

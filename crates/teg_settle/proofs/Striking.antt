@@ -12,7 +12,6 @@ use Rattle.date_rows.specs.DateTables.{TableDates, date_at}
 use Rattle.teg_settle.specs.declared.releases.Releases.{Releases}
 use Rattle.teg_settle.specs.ComparedRows.{IsReady, AreRowsOf, IsRefuted, read_step}
 use Rattle.teg_settle.specs.Prefixes.{AreCommonPrefixes, IsAgreeing, IsCommonPrefix, HasMoves, moved_by, move_back}
-use Rattle.teg_settle.specs.Witnesses.{AreTested, tested_period}
 use Rattle.teg_settle.specs.Struck.{AreStruck}
 use Rattle.teg_settle.proofs.Copying.{more}
 use Rattle.teg_settle.proofs.Tested.{refuted, window_of}

@@ -1,5 +1,5 @@
 -- One date of a net's least dating.
-use Rattle.std.specs.Prelude.{ℕ, ◌<◌, ◌≤◌, ◌≡◌}
+use Rattle.std.specs.Prelude.{ℕ, ◌<◌, ◌≡◌}
 use Rattle.dioid.specs.declared.dates.Date.{Date}
 use Rattle.teg_net.specs.Nets.{NetLists}
 use Rattle.periodic_laws.specs.teg_model.Datings.{IsLeastDating, listed_releases, system_of}

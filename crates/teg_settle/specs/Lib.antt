@@ -12,6 +12,8 @@ pub mod Alone
 pub mod LeastDates
 pub mod Steps
 pub mod SlopesOfNets
+pub mod SpreadForms
+pub mod WalksFound
 pub use Rattle.dioid.specs as dioid
 pub use Rattle.periodic_laws.specs.dioid_matrix as dioid_matrix
 pub use Rattle.periodic_laws.specs.series_laws as series_laws

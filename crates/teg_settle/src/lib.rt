@@ -7,7 +7,8 @@
 //! has a number, a period, and for each transition the dates up to the end of the first period past
 //! that number and a step; contracts see it as a `SettledForm`. It tells the date of every number.
 //! [`settle_dates`] and [`settle_dates_within`] answer the same form as the rows that show it, for
-//! callers that ask for some of its dates: [`SettledDates`] takes a quarter of the memory.
+//! callers that ask for some of its dates: [`SettledDates`] takes a quarter of the memory. So does
+//! [`WalkDates`], that [`transfer_dates`] answers.
 //! [`date_of`] answers one date, by the rows alone where they go so far, and [`date_within`] by so
 //! many rows at most, or these rows. [`shown_form`] is the step of the search for rows of one's
 //! own: it takes no memory, and so many rows as the lists of the net tell always show a form.
@@ -65,15 +66,17 @@ mod settled;
 mod shown;
 mod step;
 mod struck;
+mod walk_dates;
 mod window;
 mod witness;
 
 pub use endless::{settle, settle_dates};
-pub use limited::{settle_dates_within, settle_within, transfer};
+pub use limited::{settle_dates_within, settle_within, transfer, transfer_dates};
 pub use one_date::{DateOrRows, date_of, date_within};
 pub use refusals::SettleRefusal;
 pub use releases::{Releases, Repetition};
 pub use settled_forms::Settled;
 pub use shown::SettledDates;
 pub use step::{own_releases, shown_form};
+pub use walk_dates::WalkDates;
 pub use walk_times::{transfers_are_one, walk_times_settle};

@@ -7,6 +7,7 @@ ghost use Rattle.teg_settle.specs.Asked.{IsAsked};
 ghost use Rattle.teg_settle.specs.LimitRefusals.{IsRightSettleRefusal, greatest_limit};
 ghost use Rattle.teg_settle.specs.ShortestForms.{IsFound};
 ghost use Rattle.teg_settle.specs.SlopesOfNets.{HasSlopes};
+ghost use Rattle.teg_settle.specs.WalksFound.{AreWalksFound};
 ghost use Rattle.walk_times.specs.Transfers.{IsTransferOf, TransferSettlesPast};
 ghost use Rattle.teg_settle.specs.ComparedRows.{LeastSettlesPast};
 
@@ -16,12 +17,13 @@ use crate::releases::Releases;
 use crate::search::{Found, search};
 use crate::settled::settled_of;
 use crate::shown::SettledDates;
+use crate::walk_dates::WalkDates;
 use date_rows::Rows;
 use settled_forms::Settled;
 use std::alloc::Global;
 use teg_check::{Live, ranks_of};
 use teg_net::{Net, OutOfMemory, TransitionId};
-use walk_times::part_from;
+use walk_times::{Part, part_from};
 
 // Rows that show the shortest form of the least dating of the net with these releases, if its
 // length is within the limit: rows of twice the limit and the tokens of a place show each form of
@@ -110,6 +112,54 @@ pub fn settle_dates_within(
     Ok(SettledDates::of_found(alloc, net, &releases, found)?)
 }
 
+// The part of a net that the walks from an input reach, the input alone as its releases, and rows
+// that show the shortest form of their times there.
+#[derive(Drop)]
+struct WalksFound {
+    part: Part,
+    releases: Releases,
+    found: Found,
+}
+
+// Rows that show the shortest form of the times of walks from the input, if its length is within
+// the limit.
+fn walks_found(
+    alloc: Global,
+    net: &Net,
+    _live: &Live,
+    input: TransitionId,
+    limit: u32,
+) -> Result<WalksFound, SettleRefusal>
+    requires stands { IsRanking net.now _live.now }
+    requires input { IsInput net.now input.index }
+    requires few { limit ≤ greatest_limit }
+    ensures walks { IfOk result (AreWalksFound net.now input.index) }
+    ensures within { IfOk result (λ w. w.found.form.after + w.found.form.period ≤ limit) }
+    ensures too_long { IfErr result (IsRightSettleRefusal (TransferSettlesPast net.now input.index
+        limit)
+        limit) }
+{
+    let part = part_from(alloc, net, input)?;
+    let own = TransitionId {
+        index: part.new[input.index as usize],
+    };
+    let live = ranks_of(alloc, &part.net)?;
+    let releases = Releases::of_input(alloc, &part.net, own)?;
+    let most = ready_tokens(&part.net, &live, &releases);
+    let asked = Asked {
+        net: &part.net,
+        live: &live,
+        releases: &releases,
+        most,
+    };
+    let found = found_within(alloc, &asked, limit)?;
+    Ok(WalksFound {
+        part,
+        releases,
+        found,
+    })
+}
+
 /// The shortest settled form of the greatest times of walks from the first firing of this input to
 /// each firing of each transition (chapters 2 and 3); a firing to which no such walk leads has the
 /// date `Early`. Its number and its period are both least over all transitions. `limit` is at most
@@ -133,20 +183,34 @@ pub fn transfer(
         limit)
         limit) }
 {
-    let part = part_from(alloc, net, input)?;
-    let own = TransitionId {
-        index: part.new[input.index as usize],
-    };
-    let live = ranks_of(alloc, &part.net)?;
-    let releases = Releases::of_input(alloc, &part.net, own)?;
-    let most = ready_tokens(&part.net, &live, &releases);
-    let asked = Asked {
-        net: &part.net,
-        live: &live,
-        releases: &releases,
-        most,
-    };
-    let found = found_within(alloc, &asked, limit)?;
-    let form = settled_of(alloc, &part.net, &releases, &found)?;
+    let walks = walks_found(alloc, net, _live, input, limit)?;
+    let part = walks.part;
+    let form = settled_of(alloc, &part.net, &walks.releases, &walks.found)?;
     Ok(form.spread(alloc, &part.marks, &part.new)?)
+}
+
+/// The form of [`transfer`], for callers that ask for the dates of some transitions: it keeps the
+/// rows of the search in the part that is reached, eight bytes a date where dates are below 2^63 -
+/// 1, and makes no other table of them.
+pub fn transfer_dates(
+    alloc: Global,
+    net: &Net,
+    _live: &Live,
+    input: TransitionId,
+    limit: u32,
+) -> Result<WalkDates, SettleRefusal>
+    requires stands { IsRanking net.now _live.now }
+    requires input { IsInput net.now input.index }
+    requires few { limit ≤ greatest_limit }
+    ensures form { IfOk result (IsTransferOf net.now input.index) }
+    ensures within { IfOk result (λ form. settled_length form ≤ limit) }
+    ensures too_long { IfErr result (IsRightSettleRefusal (TransferSettlesPast net.now input.index
+        limit)
+        limit) }
+{
+    let walks = walks_found(alloc, net, _live, input, limit)?;
+    let found = walks.found;
+    let part = walks.part;
+    let dates = SettledDates::of_found(alloc, &part.net, &walks.releases, found)?;
+    Ok(WalkDates::new(dates, part.marks, part.new))
 }

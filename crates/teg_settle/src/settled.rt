@@ -33,7 +33,7 @@ fn no_dates(alloc: Global, width: usize, count: u64) -> Result<Vec<Vec<Date>>, A
 }
 
 // Adds the dates of the transition after these, up to number `count`.
-fn add_dates(
+pub(crate) fn add_dates(
     dates: &mut Vec<Date>,
     rows: &Rows,
     transition: TransitionId,

@@ -1,13 +1,14 @@
 //! A settled form by the rows of dates that show it.
-ghost use Rattle.std.specs.Prelude.{◌≡◌, ◌<◌, ◌≤◌, ◌+◌, IfOk, length};
+ghost use Rattle.std.specs.Prelude.{◌≡◌, ◌<◌, ◌≤◌, ◌+◌, IfOk, IsTrue, length};
 ghost use Rattle.teg_net.specs.Limits.{greatest_firing_number};
-ghost use Rattle.periodic_laws.specs.settled_laws.SettledForms.{settled_date, row_date, settled_length, step_of_form};
+ghost use Rattle.periodic_laws.specs.settled_laws.SettledForms.{settled_date, row_date, row_of, settled_length, step_of_form};
 ghost use Rattle.settled_forms.specs.KeptForms.{IsFormKept};
 ghost use Rattle.teg_settle.specs.ComparedRows.{IsLeastForm};
 ghost use Rattle.teg_settle.specs.ShortestForms.{IsFound};
 
 use crate::releases::{Releases, Repetition};
 use crate::search::Found;
+use crate::settled::add_dates;
 use crate::window::steps_of;
 use date_rows::Rows;
 use dioid::Date;
@@ -18,7 +19,7 @@ use teg_net::{Net, TransitionId};
 
 /// A settled form (chapter 3), for callers that ask for some of its dates: the rows of the search
 /// are kept as they are, and no other table is made. Contracts see the same form as of a
-/// [`Settled`](crate::Settled). No call takes memory.
+/// [`Settled`](crate::Settled). No call but [`row`](SettledDates::row) takes memory.
 #[derive(Debug, Drop)]
 pub struct SettledDates {
     form: Repetition,
@@ -80,6 +81,36 @@ impl SettledDates {
         ensures value { result ≡ step_of_form self.now transition.index }
     {
         self.steps[transition.index as usize]
+    }
+
+    /// The dates of this transition from number 1 to the end of the first period, as a list.
+    /// `AllocError` comes only where no memory is found for it.
+    pub fn row(&self, alloc: Global, transition: TransitionId) -> Result<Vec<Date>, AllocError>
+        requires transition { transition.index < length self.now.rows }
+        ensures row { IfOk result (λ row. row.items ≡ row_of self.now transition.index) }
+    {
+        let count = self.form.after + self.form.period;
+        let mut row = Vec::with_capacity(alloc, count as usize)?;
+        add_dates(&mut row, &self.rows, transition, count)?;
+        Ok(row)
+    }
+
+    /// Whether two transitions have the same dates up to there. It takes time of the order of their
+    /// count at most.
+    pub fn has_same_row(&self, first: TransitionId, other: TransitionId) -> bool
+        requires first { first.index < length self.now.rows }
+        requires other { other.index < length self.now.rows }
+        ensures { IsTrue result → row_of self.now first.index ≡ row_of self.now other.index }
+    {
+        let count = self.form.after + self.form.period;
+        for number in 1..count + 1 {
+            let date = self.rows.date(first, number);
+            let twin = self.rows.date(other, number);
+            if date != twin {
+                return false;
+            }
+        }
+        true
     }
 
     // One of the dates of the rows, up to the end of the first period.

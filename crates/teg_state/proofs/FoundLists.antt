@@ -16,7 +16,7 @@ use Rattle.teg_net.proofs.InputDates.{found_rules, IsInputDates-list_date, IsInp
 use Rattle.teg_model.specs.Datings.{as_date}
 use Rattle.run_laws.specs.declared.fired.Fired.{Fired}
 use Rattle.state_laws.specs.NetsLeft.{IsNetAfter, count_in, place_after}
-use Rattle.teg_state.specs.LeftLists.{AreListsLeft, IsListOf, left_date, left_dates, list_with}
+use Rattle.teg_state.specs.LeftLists.{AreListsLeft, AreNear, AreWithinLimits, IsFarInput, IsListOf, again_by_list, left_date, left_dates, list_with}
 
 -- ---- the list of an input
 
@@ -40,8 +40,8 @@ list_tells net t l ok i e =
     let rules : IsInputOf net l = found_rules net net.inputs t l ok.each_input e in
     let own : IsInputDates l (input_date net t) = subst (λ o. IsInputDates l (date_by_list o)) e (IsInputDates-list_date l rules.again) in
     record {
-      is_input = rules.is_input;
-      rule = rules.again;
+      listed = subst (λ j. list_of_input net j ≡ Some l) (sym (found_is net.inputs t l e)) (sym e);
+      rules = rules;
       dates = subst (λ j. IsInputDates l (input_date net j)) (sym (found_is net.inputs t l e)) own;
     }
 
@@ -53,7 +53,20 @@ told_of net run now transition l dates e h =
     let m : InputList = record { transition = transition; dates = dates; again = l.again } in
     subst (λ j. IsInputDates m (left_dates net run now j)) e (record { listed = h.listed; past = h.past })
 
+-- a list that is so shows that the input is not far
+pub near_by : (net : NetLists) (run : List Fired) (now t : ℕ) (l : InputList) (o : Option InputList) → o ≡ list_of_input net t → l.again ≡ again_by_list o → AreWithinLimits l.again l.dates
+    → IsInputDates l (left_dates net run now t) → IsFarInput net run now t → ⊥
+near_by net run now t l o e again within told far = far.no_list l (again ∙ ap again_by_list e) within told
+
 -- ---- one transition after the other
+
+-- none of one more transition is far
+pub near_more : (net : NetLists) (run : List Fired) (now i : ℕ) → AreNear net run now i → (IsFarInput net run now i → ⊥) → AreNear net run now (i + 1)
+near_more net run now i h here t m =
+    ⊎_elim
+    (λ (q : t < i). h t q)
+    (λ (q : i ≤ t). let is : t ≡ i = omega (arith, m, q) in rw is here)
+    (cases_lt t i)
 
 pub lists_more : (net : NetLists) (run : List Fired) (now i : ℕ) (lists : List InputList) (l : InputList) → AreListsLeft net run now i lists → l.transition.index ≡ i
     → IsInputDates l (left_dates net run now i) → AreListsLeft net run now (i + 1) (lists ++ l ∷ [])

@@ -1,15 +1,17 @@
 -- A list whose first dates tell all that follow has the dates of the firings to come.
 use Rattle.std.proofs.Common.{ℕ, zero, suc, max, ◌+◌, ◌-◌, ◌<◌, ◌≤◌, ◌≡◌, List, [], ◌∷◌, ◌++◌, Option, Some, None, length, refl, sym, ap, ◌∙◌, arith, inl, inr, ⊎_elim}
-use Rattle.std.specs.Prelude.{◌⊎◌}
+use Rattle.std.specs.Prelude.{All, IfSome, ◌⊎◌}
 use Rattle.std.proofs.lemmas.Bool.{cases_lt}
 use Rattle.std.proofs.lemmas.List.{length_push, get_or_append_left, get_or_push}
+use Rattle.std.proofs.lemmas.List.Elements.{All-push}
 use Rattle.teg_net.specs.declared.entries.Again.{Again}
 use Rattle.teg_net.specs.declared.entries.InputList.{InputList}
 use Rattle.teg_net.specs.Inputs.{moved_by, GoOnBy, IsInputDates, input_date}
+use Rattle.teg_net.specs.Limits.{greatest_input_date, most_input_dates}
 use Rattle.teg_net.specs.Nets.{NetLists, EndsOrGoesOn}
 use Rattle.run_laws.specs.declared.fired.Fired.{Fired}
 use Rattle.state_laws.specs.NetsLeft.{count_in}
-use Rattle.teg_state.specs.LeftLists.{left_date, left_dates, list_with, IsListOf, IsJoined, IsClear, AreBegun}
+use Rattle.teg_state.specs.LeftLists.{left_date, left_dates, list_with, AreWithinLimits, IsListOf, IsJoined, IsClear, AreBegun}
 
 -- a gap moves the later of a date and now as it moves the date, where the date is not before now, or there is no gap
 moved_left : (now gap : ℕ) (o : Option ℕ) → ((gap ≡ 0) ⊎ IsClear now o) → left_date now (moved_by gap o) ≡ moved_by gap (left_date now o)
@@ -69,18 +71,28 @@ pub joined_dates : (net : NetLists) (run : List Fired) (now : ℕ) (l : InputLis
     → IsInputDates (list_with l dates) (left_dates net run now l.transition.index)
 joined_dates net run now l dates clear is begun joined = record {
   listed = begun.told;
-  past = past_of net run now l is dates clear begun l.again is.rule is.dates.past joined;
+  past = past_of net run now l is dates clear begun l.again is.rules.again is.dates.past joined;
 }
 
--- ---- one more date
+-- ---- no dates, and one more
+
+pub not_begun : (net : NetLists) (run : List Fired) (now t : ℕ) (dates : List ℕ) → dates ≡ [] → AreBegun net run now t dates 0
+not_begun net run now t dates e =
+    let none : length dates ≡ 0 = ap length e in
+    record {
+      told = λ k o l. absurd (omega (arith, o, l, none));
+      early = λ k d l. absurd (omega (arith, l, none));
+      few = omega arith;
+      late = λ k o l m. absurd (omega (arith, l, m));
+    }
 
 cases_lt' : (k n : ℕ) → (k ≤ n) ⊎ (n < k)
 cases_lt' k n = ⊎_elim (λ (l : n < k). inr l) (λ (l : k ≤ n). inl l) (cases_lt n k)
 
 pub begun_more : (net : NetLists) (run : List Fired) (now t : ℕ) (dates : List ℕ) (clear more date : ℕ) → AreBegun net run now t dates clear
-    → input_date net t (count_in run t + length dates + 1) ≡ Some date → ((more ≡ 0) ⊎ ((more ≡ clear + 1) × (now ≤ date)))
+    → input_date net t (count_in run t + length dates + 1) ≡ Some date → max now date ≤ greatest_input_date → ((more ≡ 0) ⊎ ((more ≡ clear + 1) × (now ≤ date)))
     → AreBegun net run now t (dates ++ max now date ∷ []) more
-begun_more net run now t dates clear more date b e either =
+begun_more net run now t dates clear more date b e near either =
     let longer = length_push dates (max now date) in
     record {
       told = λ k o l.
@@ -93,6 +105,7 @@ begun_more net run now t dates clear more date b e either =
           let at' : count_in run t + k ≡ count_in run t + length dates + 1 = omega (arith, l, q, longer) in
           rw (get_or_push dates (max now date) 0 (k - 1) is, at', e) refl)
           (cases_lt' k (length dates));
+      early = All-push (λ d. d ≤ greatest_input_date) dates (max now date) b.early near;
       few = ⊎_elim (λ (z : more ≡ 0). omega (arith, z)) (λ (z : (more ≡ clear + 1) × (now ≤ date)). omega (arith, z.0, b.few, longer)) either;
       late = λ k o l m.
           ⊎_elim
@@ -115,10 +128,23 @@ pub joined_at : (net : NetLists) (run : List Fired) (now : ℕ) (l : InputList) 
 joined_at net run now l dates clear long fired count is begun a b e joined = joined_dates net run now l dates clear is begun (rw (a, b, ← e) at joined)
 
 pub begun_at : (net : NetLists) (run : List Fired) (now t fired count : ℕ) (dates : List ℕ) (clear more date : ℕ) → AreBegun net run now t dates clear → fired ≡ count_in run t
-    → length dates ≡ count → Some date ≡ input_date net t (fired + count + 1) → ((more ≡ 0) ⊎ ((more ≡ clear + 1) × (now ≤ date)))
+    → length dates ≡ count → Some date ≡ input_date net t (fired + count + 1) → max now date ≤ greatest_input_date → ((more ≡ 0) ⊎ ((more ≡ clear + 1) × (now ≤ date)))
     → (length (dates ++ max now date ∷ []) ≡ count + 1) × (more ≤ count + 1) × AreBegun net run now t (dates ++ max now date ∷ []) more
-begun_at net run now t fired count dates clear more date b a e is either =
+begun_at net run now t fired count dates clear more date b a e is near either =
     let at' : fired + count + 1 ≡ count_in run t + length dates + 1 = omega (arith, a, e) in
-    let next = begun_more net run now t dates clear more date b (sym (is ∙ ap (input_date net t) at')) either in
+    let next = begun_more net run now t dates clear more date b (sym (is ∙ ap (input_date net t) at')) near either in
     let longer : length (dates ++ max now date ∷ []) ≡ count + 1 = omega (arith, length_push dates (max now date), e) in
     (longer, omega (arith, next.few, longer), next)
+
+-- dates that tell all keep the limits of a list
+enough : (o : Option Again) (long next count clear n : ℕ) → n ≡ count → IsJoined o long next count clear → IfSome o (λ a. a.every ≤ n)
+enough None long next count clear n e joined = tt
+enough (Some a) long next count clear n e joined = omega (arith, e, joined.1)
+
+pub within_at : (again : Option Again) (dates : List ℕ) (long next count clear : ℕ) → length dates ≡ count → count ≤ most_input_dates
+    → All (λ d. d ≤ greatest_input_date) dates → IsJoined again long next count clear → AreWithinLimits again dates
+within_at again dates long next count clear e few early joined = record {
+  few = omega (arith, e, few);
+  early = early;
+  enough = enough again long next count clear (length dates) e joined;
+}

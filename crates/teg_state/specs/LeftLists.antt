@@ -1,9 +1,10 @@
 -- The dates of inputs from their next firings on, none before now, as lists.
-use Rattle.std.specs.Prelude.{ℕ, ◌+◌, ◌<◌, ◌≤◌, ◌≡◌, ◌⊎◌, List, Option, Some, None, option_map, max, slice_index, length, All, Any, ◌-◌}
+use Rattle.std.specs.Prelude.{ℕ, ◌+◌, ◌<◌, ◌≤◌, ◌≡◌, ◌⊎◌, List, Option, Some, None, IfSome, option_map, max, slice_index, length, All, Any, ◌-◌}
 use Rattle.teg_net.specs.declared.entries.Again.{Again}
 use Rattle.teg_net.specs.declared.entries.InputList.{InputList}
-use Rattle.teg_net.specs.Inputs.{IsInputDates, input_date}
-use Rattle.teg_net.specs.Nets.{NetLists, IsInput, EndsOrGoesOn}
+use Rattle.teg_net.specs.Inputs.{IsInputDates, input_date, list_of_input}
+use Rattle.teg_net.specs.Limits.{greatest_input_date, most_input_dates}
+use Rattle.teg_net.specs.Nets.{NetLists, IsInput, IsInputOf}
 use Rattle.run_laws.specs.declared.fired.Fired.{Fired}
 use Rattle.state_laws.specs.NetsLeft.{count_in}
 
@@ -19,10 +20,10 @@ left_dates net run now t k = left_date now (input_date net t (count_in run t + k
 abbrev pub list_with : InputList → List ℕ → InputList
 list_with l dates = record { transition = l.transition; dates = dates; again = l.again }
 
--- a list of an input of the net, which tells its dates
+-- a list of the net, which tells the dates of its input
 pub record IsListOf (net : NetLists) (l : InputList) : Type 0 where
-  pub is_input : IsInput net l.transition.index
-  pub rule : EndsOrGoesOn l.dates l.again
+  pub listed : list_of_input net l.transition.index ≡ Some l
+  pub rules : IsInputOf net l
   pub dates : IsInputDates l (input_date net l.transition.index)
 
 -- the first `count` dates, of which the last `clear` are not before now, tell all that follow: the list's own dates are past, and those that
@@ -35,9 +36,31 @@ IsJoined (Some a) long next count clear = (long ≤ next) × (a.every ≤ count)
 abbrev pub IsClear : ℕ → Option ℕ → Type 0
 IsClear now date = (d : ℕ) × (date ≡ Some d) × (now ≤ d)
 
--- the dates of the first firings to come, of which the last ones are not before now
+-- how the dates of an input go on: as its list does, and where it has none, each is as that before it
+abbrev pub again_by_list : Option InputList → Option Again
+again_by_list None = Some (record { every = 1; gap = 0 })
+again_by_list (Some l) = l.again
+
+-- no more dates than a list may have, none past the greatest, and as many as repeat
+pub record AreWithinLimits (again : Option Again) (dates : List ℕ) : Type 0 where
+  pub few : length dates ≤ most_input_dates
+  pub early : All (λ d. d ≤ greatest_input_date) dates
+  pub enough : IfSome again (λ a. a.every ≤ length dates)
+
+-- no list within the limits that goes on as the dates of the input do tells those from its next firing on, none before now
+pub record IsFarInput (net : NetLists) (run : List Fired) (now t : ℕ) : Type 0 where
+  pub is_input : IsInput net t
+  pub no_list :
+      (l : InputList) → l.again ≡ again_by_list (list_of_input net t) → AreWithinLimits l.again l.dates → IsInputDates l (left_dates net run now t) → ⊥
+
+-- none of the first inputs is so
+abbrev pub AreNear : NetLists → List Fired → ℕ → ℕ → Type 0
+AreNear net run now most = (t : ℕ) → t < most → IsFarInput net run now t → ⊥
+
+-- the dates of the first firings to come, within their limit, of which the last ones are not before now
 pub record AreBegun (net : NetLists) (run : List Fired) (now t : ℕ) (dates : List ℕ) (clear : ℕ) : Type 0 where
   pub told : (k : ℕ) → 1 ≤ k → k ≤ length dates → left_dates net run now t k ≡ Some (slice_index dates (k - 1))
+  pub early : All (λ d. d ≤ greatest_input_date) dates
   pub few : clear ≤ length dates
   pub late : (k : ℕ) → 1 ≤ k → k ≤ length dates → length dates < k + clear → IsClear now (input_date net t (count_in run t + k))
 

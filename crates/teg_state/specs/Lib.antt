@@ -1,3 +1,4 @@
 pub mod WhyNotLeft
 pub mod LeftLists
 pub mod Histories
+pub mod LeftRows

@@ -3,6 +3,7 @@ ghost use Rattle.std.specs.Prelude.{◌≡◌, ◌≤◌, ◌^◌, All, Any, Dec
 ghost use Rattle.teg_net.specs.Circuits.{IsLive};
 ghost use Rattle.state_laws.specs.Rests.{ArePaid};
 ghost use Rattle.state_laws.specs.NetsLeft.{IsFed, IsNetAfter, count_in};
+ghost use Rattle.teg_state.specs.LeftLists.{AreNear};
 ghost use Rattle.teg_state.specs.WhyNotLeft.{IsWhyNotLeft};
 
 use crate::refusal::NotLeft;
@@ -27,6 +28,7 @@ pub fn live_net_after(
     ensures net { IfOk result (IsNetAfter held.now run.now now) }
     ensures live { IfOk result IsLive }
     ensures paid { IfOk result (λ _. ArePaid (count_in run.now) held.now.places) }
+    ensures near { IfOk result (λ _. AreNear held.now run.now now (length held.now.transitions)) }
     ensures refusal { IfErr result (IsWhyNotLeft held.now run.now now) }
 {
     nets_go_on();

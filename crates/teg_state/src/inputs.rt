@@ -1,9 +1,10 @@
 //! The input lists that a run leaves.
-ghost use Rattle.std.specs.Prelude.{◌≡◌, ◌<◌, ◌≤◌, ◌^◌, IfOk, IfErr, option_copied, true, length};
-ghost use Rattle.teg_net.specs.Inputs.{IsInputDates, list_of_input};
+ghost use Rattle.std.specs.Prelude.{◌≡◌, ◌<◌, ◌≤◌, ◌^◌, All, Decides, IfErr, IfNone, IfOk, IfSome, None, Some, length, max, option_copied};
+ghost use Rattle.teg_net.specs.Inputs.{IsInputDates, input_date, list_of_input};
+ghost use Rattle.teg_net.specs.Limits.{greatest_firing_number, greatest_input_date};
 ghost use Rattle.teg_net.specs.Nets.{IsInput};
-ghost use Rattle.teg_state.specs.WhyNotLeft.{IsWhyNotLeft};
-ghost use Rattle.teg_state.specs.LeftLists.{AreListsLeft, IsJoined, IsListOf, left_dates, list_with};
+ghost use Rattle.teg_state.specs.WhyNotLeft.{HasTokensLeft, IsWhyNotLeft};
+ghost use Rattle.teg_state.specs.LeftLists.{AreListsLeft, AreNear, AreWithinLimits, IsFarInput, IsJoined, IsListOf, again_by_list, left_date, left_dates, list_with};
 
 use crate::history::History;
 use crate::refusal::NotLeft;
@@ -24,7 +25,7 @@ fn list_of(net: &Net, transition: TransitionId) -> Option<&InputList>
 
 // Whether so many dates, of which the last ones so many are not before now, tell all that follow.
 fn is_joined(again: Option<Again>, long: u64, next: u64, count: u64, clear: u64) -> bool
-    ensures { result ≡ true → IsJoined again long next count clear }
+    ensures { Decides result (IsJoined again long next count clear) }
 {
     if next < long {
         return false;
@@ -35,6 +36,24 @@ fn is_joined(again: Option<Again>, long: u64, next: u64, count: u64, clear: u64)
             let every = u64::from(again.every);
             every <= count && (again.gap == 0 || every <= clear)
         }
+    }
+}
+
+// The date of the firing of an input, where the later of it and now is one that a list may hold.
+fn near_date(net: &Net, transition: TransitionId, number: u64, now: u64) -> Option<u64>
+    requires input { IsInput net.now transition.index }
+    requires first { 1 ≤ number }
+    requires last { number ≤ greatest_firing_number }
+    ensures date { IfSome result (λ date. Some date ≡ input_date net.now transition.index number) }
+    ensures near { IfSome result (λ date. max now date ≤ greatest_input_date) }
+    ensures far { IfNone result (IfSome (left_date now
+        (input_date net.now transition.index number)) (λ date. greatest_input_date < date)) }
+{
+    let date = net.input_date(transition, number)?;
+    if u128::from(GREATEST_INPUT_DATE) < date || GREATEST_INPUT_DATE < now {
+        None
+    } else {
+        Some(date as u64)
     }
 }
 
@@ -49,8 +68,11 @@ fn dates_left(
     requires own { IsListOf net.now list.now }
     requires width { list.now.transition.index < history.now.width }
     requires few { length history.now.run ≤ 2 ^ 40 }
+    requires left { All (HasTokensLeft history.now.run) net.now.places }
+    requires near { AreNear net.now history.now.run now list.now.transition.index }
     ensures dates { IfOk result (λ dates. IsInputDates (list_with list.now dates.items)
         (left_dates net.now history.now.run now list.now.transition.index)) }
+    ensures limits { IfOk result (λ dates. AreWithinLimits list.now.again dates.items) }
     ensures refusal { IfErr result (IsWhyNotLeft net.now history.now.run now) }
 {
     let fired = history.fired(list.transition);
@@ -61,19 +83,47 @@ fn dates_left(
         if is_joined(list.again, long, fired + count, count, clear) {
             return Ok(dates);
         }
-        let date = match net.input_date(list.transition, fired + count + 1) {
-            Some(date) => date,
-            None => break,
+        let Some(date) = near_date(net, list.transition, fired + count + 1, now) else {
+            return Err(NotLeft::FarInput {
+                transition: list.transition,
+            });
         };
-        if u128::from(GREATEST_INPUT_DATE) < date {
-            break;
-        }
-        let date = date as u64;
         dates.push(now.max(date))?;
         clear = if now <= date { clear + 1 } else { 0 };
     }
     Err(NotLeft::FarInput {
         transition: list.transition,
+    })
+}
+
+// The list of an input that has none: from now on at any date.
+fn free_list(
+    alloc: Global,
+    net: &Net,
+    transition: TransitionId,
+    history: &History,
+    now: u64,
+) -> Result<InputList, NotLeft>
+    requires input { IsInput net.now transition.index }
+    requires free { list_of_input net.now transition.index ≡ None }
+    requires left { All (HasTokensLeft history.now.run) net.now.places }
+    requires near { AreNear net.now history.now.run now transition.index }
+    ensures transition { IfOk result (λ l. l.transition ≡ transition) }
+    ensures again { IfOk result (λ l. l.again ≡ again_by_list None) }
+    ensures dates { IfOk result (λ l. IsInputDates l
+        (left_dates net.now history.now.run now transition.index)) }
+    ensures limits { IfOk result (λ l. AreWithinLimits l.again l.dates) }
+    ensures refusal { IfErr result (IsWhyNotLeft net.now history.now.run now) }
+{
+    if GREATEST_INPUT_DATE < now {
+        return Err(NotLeft::FarInput { transition });
+    }
+    let mut dates = Vec::new(alloc);
+    dates.push(now)?;
+    Ok(InputList {
+        transition,
+        dates: DateList::new(dates),
+        again: Some(Again { every: 1, gap: 0 }),
     })
 }
 
@@ -88,9 +138,13 @@ fn list_left(
     requires input { IsInput net.now transition.index }
     requires width { transition.index < history.now.width }
     requires few { length history.now.run ≤ 2 ^ 40 }
+    requires left { All (HasTokensLeft history.now.run) net.now.places }
+    requires near { AreNear net.now history.now.run now transition.index }
     ensures transition { IfOk result (λ l. l.transition ≡ transition) }
     ensures dates { IfOk result (λ l. IsInputDates l
         (left_dates net.now history.now.run now transition.index)) }
+    ensures near { IfOk result
+        (λ _. IsFarInput net.now history.now.run now transition.index → ⊥) }
     ensures refusal { IfErr result (IsWhyNotLeft net.now history.now.run now) }
 {
     net.rules();
@@ -103,15 +157,7 @@ fn list_left(
                 again: list.again,
             })
         }
-        None => {
-            let mut dates = Vec::new(alloc);
-            dates.push(now)?;
-            Ok(InputList {
-                transition,
-                dates: DateList::new(dates),
-                again: Some(Again { every: 1, gap: 0 }),
-            })
-        }
+        None => free_list(alloc, net, transition, history, now),
     }
 }
 
@@ -124,8 +170,11 @@ pub(crate) fn lists_left(
 ) -> Result<Vec<InputList>, NotLeft>
     requires width { history.now.width ≡ length net.now.transitions }
     requires few { length history.now.run ≤ 2 ^ 40 }
+    requires left { All (HasTokensLeft history.now.run) net.now.places }
     ensures lists { IfOk result (λ lists. AreListsLeft net.now history.now.run now
         (length net.now.transitions) lists.items) }
+    ensures near { IfOk result
+        (λ _. AreNear net.now history.now.run now (length net.now.transitions)) }
     ensures refusal { IfErr result (IsWhyNotLeft net.now history.now.run now) }
 {
     let mut lists = Vec::new(alloc);

@@ -1,11 +1,11 @@
 //! The places that a run leaves, with their tokens.
-ghost use Rattle.std.specs.Prelude.{◌≡◌, ◌<◌, ◌≤◌, ◌+◌, ◌^◌, All, IfOk, IfErr, Some, length, map};
+ghost use Rattle.std.specs.Prelude.{◌≡◌, ◌<◌, ◌≤◌, ◌+◌, ◌^◌, All, IfOk, IfErr, Some, length, map, take};
 ghost use Rattle.std.specs.List.{range_with_len};
 ghost use Rattle.teg_net.specs.Circuits.{place_at};
 ghost use Rattle.teg_net.specs.Limits.{most_place_tokens};
 ghost use Rattle.state_laws.specs.Rests.{ArePaid};
 ghost use Rattle.state_laws.specs.NetsLeft.{count_in, not_before, place_after};
-ghost use Rattle.teg_state.specs.WhyNotLeft.{IsWhyNotLeft, token_date_by};
+ghost use Rattle.teg_state.specs.WhyNotLeft.{HasTokensLeft, IsWhyNotLeft, token_date_by};
 
 use crate::history::History;
 use crate::refusal::NotLeft;
@@ -80,9 +80,9 @@ fn place_left(
     requires width { history.now.width ≡ length net.now.transitions }
     requires dates { All (λ f. f.date ≤ 10 ^ 18) history.now.run }
     requires few { length history.now.run ≤ 2 ^ 40 }
+    requires before { All (HasTokensLeft history.now.run) (take id.index net.now.places) }
     ensures place { IfOk result (λ left. left ≡ place_after history.now.run now (place_at net.now id)) }
-    ensures paid { IfOk result (λ _. count_in history.now.run (place_at net.now id).to.index
-        ≤ (place_at net.now id).tokens + count_in history.now.run (place_at net.now id).from.index) }
+    ensures left { IfOk result (λ _. HasTokensLeft history.now.run (place_at net.now id)) }
     ensures refusal { IfErr result (IsWhyNotLeft net.now history.now.run now) }
 {
     net.rules();
@@ -122,6 +122,7 @@ pub(crate) fn places_left(
     ensures places { IfOk result (λ places. places.items
         ≡ map (place_after history.now.run now) net.now.places) }
     ensures paid { IfOk result (λ _. ArePaid (count_in history.now.run) net.now.places) }
+    ensures left { IfOk result (λ _. All (HasTokensLeft history.now.run) net.now.places) }
     ensures refusal { IfErr result (IsWhyNotLeft net.now history.now.run now) }
 {
     let mut places = Vec::new(alloc);

@@ -7,16 +7,17 @@ use std::error::Error;
 use std::fmt;
 use teg_net::{NetFault, PlaceId, TransitionId};
 
-/// Why a run leaves no net.
+/// Why a run leaves no net: the first place that is so, else the first input, else the rule.
 #[derive(Clone, Copy, Debug, PartialEq, Eq)]
 pub enum NotLeft {
     /// In the run this place gave more tokens than it had and got.
     Unpaid { place: PlaceId },
     /// More than 1,000 tokens are left in this place.
     ManyTokens { place: PlaceId },
-    /// The dates of this input from now on are no list of at most 100,000 dates up to 10^12.
+    /// The dates of this input from now on are no list of at most 100,000 dates up to 10^12 that goes
+    /// on as they did.
     FarInput { transition: TransitionId },
-    /// What is left breaks this rule of nets: a date is past 10^12.
+    /// What is left breaks this rule of nets: a token is ready past 10^12.
     NoNet { fault: NetFault },
     /// No memory was found.
     OutOfMemory,

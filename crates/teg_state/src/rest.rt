@@ -2,6 +2,7 @@
 ghost use Rattle.std.specs.Prelude.{◌≡◌, ◌≤◌, ◌^◌, All, IfOk, IfErr, length};
 ghost use Rattle.state_laws.specs.Rests.{ArePaid};
 ghost use Rattle.state_laws.specs.NetsLeft.{IsNetAfter, count_in};
+ghost use Rattle.teg_state.specs.LeftLists.{AreNear};
 ghost use Rattle.teg_state.specs.WhyNotLeft.{IsWhyNotLeft};
 
 use crate::history::History;
@@ -37,6 +38,8 @@ fn net_left(alloc: Global, net: &Net, history: &History, now: u64) -> Result<Net
     requires few { length history.now.run ≤ 2 ^ 40 }
     ensures net { IfOk result (IsNetAfter net.now history.now.run now) }
     ensures paid { IfOk result (λ _. ArePaid (count_in history.now.run) net.now.places) }
+    ensures near { IfOk result
+        (λ _. AreNear net.now history.now.run now (length net.now.transitions)) }
     ensures refusal { IfErr result (IsWhyNotLeft net.now history.now.run now) }
 {
     let transitions = transitions_copy(alloc, net.transitions())?;
@@ -63,17 +66,18 @@ fn net_left(alloc: Global, net: &Net, history: &History, now: u64) -> Result<Net
 /// `settle`, `size` and `latest_inputs` can be asked from now on. Latest inputs are found whatever
 /// the input lists say: a plan whose first date of an input is before now cannot be kept.
 ///
-/// The dates are at most 10^18 and the firings at most 2^40. It is refused where a place gave more
-/// tokens than it had and got, where more than 1,000 tokens are left in one, where no list of the
-/// dates of an input from now on of at most 100,000 dates up to 10^12 is found, and where a date of
-/// a token is past 10^12; `OutOfMemory` comes only where no memory is found. It takes time of order
-/// n + p + r for n transitions, p places and r firings, and a step for each token and each date that
-/// is left.
+/// The dates are at most 10^18 and the firings at most 2^40. It is refused, in this order, where a
+/// place gave more tokens than it had and got, or more than 1,000 tokens are left in it, with the
+/// first place; where the dates of an input from now on are no list of at most 100,000 dates up to
+/// 10^12 that goes on as its own does, with the first input; and where a token is ready past 10^12.
+/// `OutOfMemory` comes only where no memory is found. It takes time of order n + p + r for n
+/// transitions, p places and r firings, and a step for each token and each date that is left.
 pub fn net_after(alloc: Global, net: &Net, run: &[Fired], now: u64) -> Result<Net, NotLeft>
     requires dates { All (λ f. f.date ≤ 10 ^ 18) run.now }
     requires few { length run.now ≤ 2 ^ 40 }
     ensures net { IfOk result (IsNetAfter net.now run.now now) }
     ensures paid { IfOk result (λ _. ArePaid (count_in run.now) net.now.places) }
+    ensures near { IfOk result (λ _. AreNear net.now run.now now (length net.now.transitions)) }
     ensures refusal { IfErr result (IsWhyNotLeft net.now run.now now) }
 {
     let history = History::of(alloc, net, run)?;

@@ -15,7 +15,7 @@ use teg_check::LiveNet;
 use teg_lags::lag_between;
 use teg_net::{Net, OutOfMemory, PlaceEnd, PlacesOf, Role, TransitionId};
 use teg_report::{TransferFrom, TransferLine};
-use teg_settle::{SettleRefusal, Settled, transfer, walk_times_settle};
+use teg_settle::{SettleRefusal, WalkDates, transfer_dates, walk_times_settle};
 
 // Puts something at the end of a list.
 pub(crate) fn keep<T: Drop>(list: &mut Vec<T>, item: T) -> Result<(), AllocError>
@@ -52,12 +52,15 @@ pub(crate) fn those_of_role(
 }
 
 // Of a settled form what goes to one transition.
-fn times_in(alloc: Global, settled: &Settled, to: TransitionId) -> Result<TransferLine, OutOfMemory>
+fn times_in(
+    alloc: Global,
+    settled: &WalkDates,
+    to: TransitionId,
+) -> Result<TransferLine, OutOfMemory>
     requires { to.index < length settled.now.rows }
     ensures { IfOk result (λ line. times_to line ≡ times_in settled.now to) }
 {
-    let mut dates = Vec::new(alloc);
-    dates.extend_from_slice(settled.row(to))?;
+    let dates = settled.row(alloc, to)?;
     let step = settled.step(to);
     Ok(TransferLine { to, dates, step })
 }
@@ -65,7 +68,7 @@ fn times_in(alloc: Global, settled: &Settled, to: TransitionId) -> Result<Transf
 // Of a settled form what goes to each of these transitions.
 fn times_to_all(
     alloc: Global,
-    settled: &Settled,
+    settled: &WalkDates,
     those: &[TransitionId],
 ) -> Result<Vec<TransferLine>, OutOfMemory>
     requires { All (λ t. t.index < length settled.now.rows) those.now }
@@ -94,7 +97,7 @@ fn times_from(
     ensures times { IfOk result (λ from. IsTimesFrom net.now limit (times_from from)) }
     ensures too_long { IfErr result (IsRightSettleRefusal (TimesSettlePast net.now limit) limit) }
 {
-    let settled = transfer(alloc, net.net(), net.live(), input, limit)?;
+    let settled = transfer_dates(alloc, net.net(), net.live(), input, limit)?;
     let lines = times_to_all(alloc, &settled, outputs)?;
     Ok(TransferFrom {
         from: input,
@@ -283,7 +286,7 @@ pub(crate) fn next_times(
 /// over all transitions (chapter 5). `TooLong` comes exactly where such a form is longer than the
 /// limit, `OutOfMemory` only where no memory is found.
 ///
-/// One settled form at a time is held. It takes the time of the search for a form for each input but
+/// The rows that show one settled form at a time are held. It takes the time of the search for a form for each input but
 /// those from which all places are held so much longer than from one before, to the same transitions
 /// and with the same tokens: there each date is one of that input, moved.
 pub fn transfer_times(

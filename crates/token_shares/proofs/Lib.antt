@@ -7,3 +7,4 @@ pub mod Reaching
 pub mod Searching
 pub mod Trying
 pub mod Apart
+pub mod OneShare

@@ -1,3 +1,4 @@
 pub mod TokenShares
 pub mod BareNets
 pub mod KeptCuts
+pub mod OnePlace

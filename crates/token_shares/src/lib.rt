@@ -5,9 +5,10 @@
 //! numbers are enough, with a circuit that shows it; or that it takes more than a budget. To find
 //! the fewest over many places is as hard as to find the fewest arcs that meet each circuit of any
 //! graph, so places and budget are few. `size` of `teg_sizing` answers for one place without a
-//! budget; this crate stands on it for circuits above a target, on `teg_certificates` for how long
-//! circuits are, on `teg_loops` for those that pass a place, on `teg_check` for live nets and on
-//! `teg_net` for nets. No crate of the program stands on it. Its example stands in
+//! budget, and over one place both tell the same ([`shares_of_one_are_its_size`]). The crate stands
+//! on it for circuits above a target, on `teg_certificates` for how long circuits are, on
+//! `teg_loops` for those that pass a place, on `teg_check` for live nets and on `teg_net` for nets.
+//! No crate of the program stands on it. Its example stands in
 //! `library_examples`, in `chapters_states.rt`.
 //!
 //! ## How it works
@@ -23,6 +24,8 @@ mod bare;
 mod budgets;
 mod cuts;
 mod fewest;
+mod laws;
 mod trials;
 
 pub use fewest::{MOST_SHARED_TOKENS, MOST_SHARES, Shares, fewest_tokens};
+pub use laws::shares_of_one_are_its_size;

@@ -22,8 +22,43 @@ const LATE: &[u8] = b"late ship 2 due 20 least 22
 path material 1 by feed saw 1 by to_drill drill 1 by drill_free drill 2 by to_ship ship 2
 ";
 
+const ROUNDS: &[u8] = b"cycle time 5/1
+circuit ab ba
+part 1 ratio 5/1
+circuit ab ba
+potential a 0
+potential b 3
+part 1 round 1 ratio 5/1
+circuit ab ba
+choice a ba 0
+choice b ab 3
+";
+
+const OTHER_ROUNDS: &[u8] = b"cycle time 5/1
+circuit ab ba
+part 1 ratio 5/1
+circuit ab ba
+potential a 0
+potential b 3
+part 1 round 1 ratio 5/1
+circuit ab ba
+choice a ba 0
+choice b ab 4
+";
+
+const PART_OF_ROUNDS: &[u8] = b"cycle time 5/1
+circuit ab ba
+part 1 ratio 5/1
+circuit ab ba
+potential a 0
+potential b 3
+part 1 round 1 ratio 5/1
+circuit ab ba
+choice a ba 0
+";
+
 // The files of the shelf, by name.
-const FILES: [(&str, &[u8]); 33] = [
+const FILES: [(&str, &[u8]); 40] = [
     (
         "loop",
         b"transition = [{ name = \"a\" }, { name = \"b\" }]
@@ -87,6 +122,9 @@ place = [
         "cycle",
         b"cycle time 5/1\ncircuit ab ba\npart 1 ratio 5/1\ncircuit ab ba\npotential a 0\npotential b 3\n",
     ),
+    ("rounds", ROUNDS),
+    ("other rounds", OTHER_ROUNDS),
+    ("part of rounds", PART_OF_ROUNDS),
     (
         "dates",
         b"settled after 0 period 1\ntransition a 0 step 5\ntransition b 3 step 5\n",
@@ -113,6 +151,16 @@ place = [
     ),
     ("rows", b"ship,1,15\nship,2,20\n"),
     ("late", LATE),
+    ("orders", b"ship,2,15,30,35\n"),
+    (
+        "releases",
+        b"latest inputs forever\ninput material 13 20 period 2 step 15\n",
+    ),
+    (
+        "sooner releases",
+        b"latest inputs forever\ninput material 13 19 period 2 step 15\n",
+    ),
+    ("late order", b"late ship 17 due 126 least 127\n"),
     (
         "table",
         b"North,0\nCentre>North,3\nCentre>South,0\nSouth,15\nNorth,1,10\n",
@@ -142,7 +190,7 @@ place = [
 // The words of a call, how it ends, and what it writes.
 type Call<'a> = (&'a [&'a str], AuditStatus, &'a str);
 
-const CALLS: [Call<'static>; 44] = [
+const CALLS: [Call<'static>; 53] = [
     (&["loop", "live"], AuditStatus::Shown, "shown live\n"),
     (
         &["loop", "other counts"],
@@ -195,6 +243,31 @@ const CALLS: [Call<'static>; 44] = [
         AuditStatus::NoChecker,
         "no checker date b 2 8\n",
     ),
+    (
+        &["shop", "releases", "orders"],
+        AuditStatus::Shown,
+        "shown latest inputs forever\nshown input material 13 20 period 2 step 15\n",
+    ),
+    (
+        &["shop", "sooner releases", "orders"],
+        AuditStatus::NotShown,
+        "not shown latest inputs forever\nnot shown input material 13 19 period 2 step 15\n",
+    ),
+    (
+        &["shop", "releases", "more due"],
+        AuditStatus::NotRead,
+        "not read releases\n",
+    ),
+    (
+        &["shop", "releases"],
+        AuditStatus::NoChecker,
+        "no checker latest inputs forever\n",
+    ),
+    (
+        &["shop", "late order", "orders"],
+        AuditStatus::NoChecker,
+        "no checker late ship 17 due 126 least 127\n",
+    ),
     (&["plain", "none"], AuditStatus::Shown, "shown no circuit\n"),
     (
         &["loop", "none"],
@@ -210,6 +283,26 @@ const CALLS: [Call<'static>; 44] = [
         &["loop", "cycle"],
         AuditStatus::Shown,
         "shown cycle time 5/1\n",
+    ),
+    (
+        &["loop", "rounds"],
+        AuditStatus::Shown,
+        "shown cycle time 5/1\n",
+    ),
+    (
+        &["loop", "other rounds"],
+        AuditStatus::NotShown,
+        "not shown cycle time 5/1\n",
+    ),
+    (
+        &["loop", "part of rounds"],
+        AuditStatus::NotShown,
+        "not shown cycle time 5/1\n",
+    ),
+    (
+        &["dead", "rounds"],
+        AuditStatus::NotShown,
+        "not shown cycle time 5/1\n",
     ),
     (
         &["plain", "cycle"],

@@ -1,7 +1,7 @@
 //! Examples of the checkers of printed answers: texts of the guide that show that a net is live or
-//! not, paces, sizes, bounds, dates, latest dates, late rows, lists, slacks, delays that stay or die
-//! out, and releases without end, and the same texts with a digit changed, which show nothing; of
-//! `word_lines`, by texts that are read; of `release_nets`, by the dates of such a net; and whole
+//! not, paces, rounds, sizes, bounds, dates, latest dates, late rows, lists, slacks, delays that stay
+//! or die out, and releases without end, and the same texts with a digit changed, which show nothing;
+//! of `word_lines`, by texts that are read; of `release_nets`, by the dates of such a net; and whole
 //! calls of `answer_audit`. The crate has tests alone.
 #![tactic(auto)]
 
@@ -23,6 +23,8 @@ mod late_rows;
 mod planned_nets;
 #[cfg(test)]
 mod recovered_delays;
+#[cfg(test)]
+mod rounds_told;
 #[cfg(test)]
 mod settled_texts;
 #[cfg(test)]

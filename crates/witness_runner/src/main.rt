@@ -1,12 +1,12 @@
 //! Checks printed answers of `teg` by the net and the text alone.
 //!
 //! `witness_runner NET ANSWER [DUE | LIST | PERIOD TIMETABLE]` reads a net file, a file with all
-//! that `teg check`, `list`, `cycle`, `dates`, `date`, `slack`, `size`, `bound`, `jit` or `timetable`
-//! printed of it, for `jit` the due file, for `date` what `teg list` printed of at least as many
-//! firings, and for `timetable` its period and its file. It prints the first line of the answer, of a
-//! bound each line, of a table of latest dates each line that tells a date, of delays that are kept
-//! that line and the circuit, and of delays that die out the line that says so, each behind what is
-//! found of it: `shown`, `refuted`, `not shown` or `no checker`. Of a list or a table with a wrong line
+//! that `teg check`, `list`, `cycle`, `dates`, `date`, `slack`, `size`, `bound`, `jit`, `forever` or
+//! `timetable` printed of it, for `jit` and `forever` the due file, for `date` what `teg list` printed
+//! of at least as many firings, and for `timetable` its period and its file. It prints the first line
+//! of the answer, of a bound and of releases without end each line, of a table of latest dates each
+//! line that tells a date, of delays that are kept that line and the circuit, and of delays that die
+//! out the line that says so, each behind what is found of it: `shown`, `refuted`, `not shown` or `no checker`. Of a list or a table with a wrong line
 //! it prints the first line and the first that is wrong, of a table that does not go up to the greatest
 //! number that is due the first line alone. Further questions may follow, each behind `--`; of one
 //! whose file is not read, or says no net, text or rows, it prints `not read` and the name of the
@@ -22,7 +22,8 @@
 //! the pace of the net and the greatest ratios of its parts, or that it has no circuit; of `slack`,
 //! each slack; of `size`, that the number is the least that is enough; of `bound`, its number, and from
 //! when on dates repeat, or why there is none; of `dates`, that its form is the settled form; of latest dates, that the table is a plan, with a step that attains each date;
-//! of `late`, that its row is the first that comes late, and when; of `kept`, that the circuit keeps
+//! of releases without end, that they are the latest inputs that meet what is due; of `late`, that
+//! its row is the first that comes late, and when; of `kept`, that the circuit keeps
 //! delays, and of `recovered`, the least number after which none is left, both with the number, the
 //! period and all lines of delays. Of the other lines it tells nothing.
 //!

@@ -1,5 +1,5 @@
-use Rattle.std.proofs.Common.{◌+◌, ◌-◌, ◌≡◌, ◌<◌, ℕ, length, get_or, ap, sym, ◌∙◌, arith, rules}
-use Rattle.std.proofs.lemmas.List.Sorted.{All-permutation, Contains-permutation, IsNonDecreasingBy-from_sort_by_key, length_permutation}
+use Rattle.std.proofs.Common.{◌-◌, ◌≡◌, ◌<◌, length, arith, rules}
+use Rattle.std.proofs.lemmas.List.Sorted.{All-permutation, Contains-permutation, IsNonDecreasingBy-from_sort_by_key}
 use Rattle.teg_net.specs.declared.entries.PlaceId.{PlaceId}
 use Rattle.teg_net.specs.Circuits.{from_of, place_at}
 use Rattle.teg_net.proofs.Reading.{read_place}

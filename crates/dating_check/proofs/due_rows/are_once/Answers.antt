@@ -1,29 +1,37 @@
-use Rattle.std.proofs.Common.{ℕ, ◌≡◌, ◌<◌, ◌∙◌, true, length, get_or, ap, sym, subst, arith, false}
-use Rattle.std.proofs.lemmas.List.{get_or_default}
-use Rattle.csv_records.specs.Seen.{is_seen}
+use Rattle.std.proofs.Common.{ℕ, ◌≡◌, ◌≢◌, ◌<◌, ◌∙◌, length, get_or, sym, subst, arith, ⊎_elim, inl, inr}
+use Rattle.std.proofs.lemmas.Bool.{cases_eq}
 use Rattle.teg_due.specs.declared.rows.DueRow.{DueRow}
+use Rattle.teg_due.specs.RowRules.{AreApart}
 use Rattle.teg_due.proofs.DueOnce.{no_row}
-use Rattle.dating_check.proofs.FiringsOnce.{one_more_apart, one_more_only, one_more_seen, seen_twice}
+use Rattle.seen_rows.proofs.RowsOnce.{AreOther, HaveColumns, one_more, seen_twice}
 use Rattle.dating_check.proofs.due_rows.are_once.Goals as goal
+
+-- the transition of a row, by its number
+abbrev column : DueRow → ℕ
+column r = r.transition.index
+
+-- the number of its firing
+abbrev number : DueRow → ℕ
+number r = r.number
+
+-- rows that are not of one firing are apart
+apart : (r s : DueRow) → AreOther column number r s → AreApart r s
+apart r s other =
+    ⊎_elim
+    (λ (e : r.transition.index ≡ s.transition.index). inr (other e))
+    (λ (e : r.transition.index ≢ s.transition.index). inl e)
+    (cases_eq r.transition.index s.transition.index)
 
 pub loop-index-preserved : goal.loop-index-preserved
 loop-index-preserved c =
     let rows = c.args.rows.now in
     let n : ℕ = c.loop-index.index in
     let seen = c.loop-index.seen in
-    let row : DueRow = get_or rows n no_row in
-    let (wide, marked, only, apart) = c.loop-index.invariant in
+    let (wide, once) = c.loop-index.invariant in
     let inside : n < length rows = omega (arith, c.loop-index-test.true, c.loop-index.auto.index-end) in
-    let unseen : is_seen seen row.transition.index row.number ≡ false = sym c.has.ensures ∙ c.if-has.false in
-    let fresh = λ (d : DueRow). subst (λ (r : DueRow). is_seen seen r.transition.index r.number ≡ false) (get_or_default rows n no_row d inside) unseen in
-    let within = λ (i : ℕ) (d : DueRow) (l : i < length rows). subst (λ (w : ℕ). (get_or rows i d).transition.index < w) (sym wide) (c.requires i d l).in_range in (
+    let within : HaveColumns column number seen rows = λ i d l. subst (λ (w : ℕ). (get_or rows i d).transition.index < w) (sym wide) (c.requires i d l).in_range in (
       c.add.ensures.width ∙ wide,
-      one_more_seen rows n seen c.add.new.self row.transition.index row.number
-          (λ d l. (ap (λ (r : DueRow). r.transition.index) (get_or_default rows n d no_row l), ap (λ (r : DueRow). r.number) (get_or_default rows n d no_row l)))
-          within c.add.ensures.more inside marked,
-      one_more_only rows n seen c.add.new.self row.transition.index row.number c.add.ensures.width
-          (λ d. (ap (λ (r : DueRow). r.transition.index) (get_or_default rows n d no_row inside), ap (λ (r : DueRow). r.number) (get_or_default rows n d no_row inside))) c.add.ensures.more only,
-      one_more_apart rows n seen marked fresh apart,
+      one_more column number rows n no_row seen c.add.new.self inside within c.add.ensures.width c.add.ensures.more (sym c.has.ensures ∙ c.if-has.false) once,
     )
 
 pub returns-then-has-clause-all : goal.returns-then-has-clause-all
@@ -31,10 +39,12 @@ returns-then-has-clause-all c =
     let rows = c.args.rows.now in
     let n : ℕ = c.loop-index.index in
     let seen = c.loop-index.seen in
-    let (wide, marked, only, apart) = c.loop-index.invariant in
+    let (wide, once) = c.loop-index.invariant in
     let inside : n < length rows = omega (arith, c.loop-index-test.true, c.loop-index.auto.index-end) in
-    let within : (get_or rows n no_row).transition.index < seen.width = subst (λ (w : ℕ). (get_or rows n no_row).transition.index < w) (sym wide) (c.requires n no_row inside).in_range in
-    λ all. absurd (seen_twice seen rows n no_row inside within only (sym c.has.ensures ∙ c.if-has.true) all)
+    let within : HaveColumns column number seen rows = λ i d l. subst (λ (w : ℕ). (get_or rows i d).transition.index < w) (sym wide) (c.requires i d l).in_range in
+    let there = seen_twice column number rows n no_row seen inside within once (sym c.has.ensures ∙ c.if-has.true) in
+    let own = there.2 no_row in
+    λ all. absurd (⊎_elim (λ other. other own.0) (λ other. other own.1) (all there.0 n no_row there.1 inside))
 
 pub returns-clause-once : goal.returns-clause-once
-returns-clause-once c = λ _ i j d l m. (let (wide, marked, only, apart) = c.loop-index.invariant in apart i j d l (omega (arith, m, c.loop-index-test.false)))
+returns-clause-once c = λ _ i j d l m. (let (wide, once) = c.loop-index.invariant in apart (get_or c.args.rows.now i d) (get_or c.args.rows.now j d) (once.2 i j d l (omega (arith, m, c.loop-index-test.false))))

@@ -1,4 +1,4 @@
-use Rattle.std.proofs.Common.{rules, ◌≡◌, ℕ, ◌≤◌, IsTrue, subst, sym}
+use Rattle.std.proofs.Common.{rules, ◌≡◌, ◌≤◌, subst, sym}
 use Rattle.dating_certificates.proofs.WholeRows.{same_count}
 use Rattle.dating_check.proofs.first_late.are_least.Goals as goal
 

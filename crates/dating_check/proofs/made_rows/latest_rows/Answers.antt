@@ -1,4 +1,4 @@
-use Rattle.std.proofs.Common.{ℕ, Vec, Global, arith}
+use Rattle.std.proofs.Common.{arith}
 use Rattle.dating_check.proofs.BackOrder.{some_numbers}
 use Rattle.dating_check.proofs.BegunRows.{made_latest}
 use Rattle.dating_check.proofs.made_rows.latest_rows.Goals as goal

@@ -1,4 +1,4 @@
-use Rattle.std.proofs.Common.{ℕ, ◌≡◌, ◌+◌, ◌*◌, ◌<◌, ◌≤◌, List, length, get_or, sym, ap, subst, ◌∙◌, arith}
+use Rattle.std.proofs.Common.{ℕ, ◌≡◌, ◌+◌, ◌<◌, List, length, get_or, sym, ap, subst, ◌∙◌, arith}
 use Rattle.std.proofs.lemmas.List.{length-set}
 use Rattle.dioid.specs.declared.dates.Date.{Date}
 use Rattle.dioid.specs.declared.dates.Date.TheVariants.{Early}
@@ -24,9 +24,9 @@ loop-index-preserved c =
     record {
       full = ap length new ∙ (length-set dates (date_index w i k) (earlier_of (get_or dates (date_index w i k) Early) d) ∙ kept.full);
       made = λ rows y latest h. subst (λ (ds : List Date). IsMade net rows n k (i + 1) y ds) (sym new)
-          (next_passed net rows n k i y dates kept.full c.requires.number c.requires.within c.transitions-width.ensures.rules latest i_in (kept.made rows y latest h));
+          (next_passed net rows n k i y dates kept.full c.requires.number.first c.requires.number.last c.transitions-width.ensures.rules latest i_in (kept.made rows y latest h));
       from = λ fall h. subst (AreFrom fall) (sym new)
-          (lowered_from w n dates fall i k d kept.full i_in c.requires.number c.requires.within (kept.from fall h) (up_to_from w n dates fall i (k + 1) kept.full i_in (omega arith) (kept.from fall h)));
+          (lowered_from w n dates fall i k d kept.full i_in c.requires.number.first c.requires.number.last (kept.from fall h) (up_to_from w n dates fall i (k + 1) kept.full i_in (omega arith) (kept.from fall h)));
     }
 
 pub returns-clause-made : goal.returns-clause-made

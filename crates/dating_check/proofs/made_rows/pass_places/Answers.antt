@@ -1,4 +1,4 @@
-use Rattle.std.proofs.Common.{ℕ, ◌≡◌, ◌+◌, ◌-◌, ◌*◌, ◌<◌, ◌≤◌, List, length, get_or, sym, ap, subst, ◌∙◌, arith}
+use Rattle.std.proofs.Common.{ℕ, ◌≡◌, ◌+◌, ◌-◌, ◌*◌, List, length, get_or, sym, ap, subst, ◌∙◌, arith}
 use Rattle.std.proofs.lemmas.List.{get_or_default, length-set}
 use Rattle.dioid.specs.declared.dates.Date.{Date}
 use Rattle.dioid.specs.declared.dates.Date.TheVariants.{Early}
@@ -30,15 +30,15 @@ hold_before-requires-clause-date c =
     let ok = c.places-places.ensures.rules in
     let o : Placed = get_or c.args.order.now i none_placed in
     let p : Place = place_at net o.place in
-    let known = c.requires.order.2.known i none_placed l in
+    let known = c.requires.order.back.known i none_placed l in
     let item : c.index-places-index.result ≡ p = read_place net c.places-places.result.now o.place c.index-places-index.result c.places-places.ensures.value known.in_range (rw c.index.ensures at c.index-places-index.is) in
     let rules : IsPlaceOf net p = ok.each_place o.place.index no_place known.in_range in
     let onward : c.date_of-onward.result ≡ date_up_to n w dates p.to.index (k + p.tokens) =
     rw (c.index-in-loop-placed.ensures, c.from.ensures, c.from-in-loop-placed.ensures, c.transitions-width.ensures.value, item) at c.date_of-onward.ensures in
     let room = c.requires.from in
     let few = ok.few_places in
-    rw onward (room_for (room.0 + i * 1000000000) greatest_fall (date_up_to n w dates p.to.index (k + p.tokens)) (omega (arith, room.1, few, l, c.requires.few))
-    (up_to_from w n dates (room.0 + i * 1000000000) p.to.index (k + p.tokens) kept.full rules.to_in (omega (arith, c.requires.number)) (kept.from room.0 room.2)))
+    rw onward (room_for (room.0 + i * 1000000000) greatest_fall (date_up_to n w dates p.to.index (k + p.tokens)) (omega (arith, room.1, few, l, c.requires.order.few))
+    (up_to_from w n dates (room.0 + i * 1000000000) p.to.index (k + p.tokens) kept.full rules.to_in (omega (arith, c.requires.number.first)) (kept.from room.0 room.2)))
 
 pub loop-placed-preserved : goal.loop-placed-preserved
 loop-placed-preserved c =
@@ -54,7 +54,7 @@ loop-placed-preserved c =
     let ok = c.places-places.ensures.rules in
     let o : Placed = get_or order i none_placed in
     let p : Place = place_at net o.place in
-    let known = c.requires.order.2.known i none_placed l in
+    let known = c.requires.order.back.known i none_placed l in
     let item : c.index-places-index.result ≡ p = read_place net c.places-places.result.now o.place c.index-places-index.result c.places-places.ensures.value known.in_range (rw c.index.ensures at c.index-places-index.is) in
     let rules : IsPlaceOf net p = ok.each_place o.place.index no_place known.in_range in
     let onward : c.date_of-onward.result ≡ date_up_to n w dates p.to.index (k + p.tokens) =
@@ -66,16 +66,16 @@ loop-placed-preserved c =
     record {
       full = ap length new ∙ (length-set dates (date_index w p.from.index k) (earlier_of (get_or dates (date_index w p.from.index k) Early) d) ∙ kept.full);
       made = λ rows y latest h. subst (λ (ds : List Date). IsMade net rows n k w y ds × AreKept net order n k (i + 1) y ds) (sym new)
-          (place_passed net rows c.requires.order.0 order n k i y dates o d kept.full c.requires.number c.requires.within ok latest c.requires.order.1 c.requires.order.2 l
+          (place_passed net rows c.requires.order.ranks order n k i y dates o d kept.full c.requires.number.first c.requires.number.last ok latest c.requires.order.rises c.requires.order.back l
           (λ e. get_or_default order i e none_placed l) held (kept.made rows y latest h));
       from = λ fall h.
           let more : fall + i * 1000000000 + 1000000000 ≡ fall + (i + 1) * 1000000000 = omega arith in
           let old : AreFrom (fall + i * 1000000000) dates = kept.from fall h in
           subst (AreFrom (fall + (i + 1) * 1000000000)) (sym new)
-          (lowered_from w n dates (fall + (i + 1) * 1000000000) p.from.index k d kept.full rules.from_in c.requires.number c.requires.within
+          (lowered_from w n dates (fall + (i + 1) * 1000000000) p.from.index k d kept.full rules.from_in c.requires.number.first c.requires.number.last
           (all_weaker (fall + i * 1000000000) (fall + (i + 1) * 1000000000) dates (omega arith) old)
           (rw (← more) (held_from (fall + i * 1000000000) p.hold d (date_up_to n w dates p.to.index (k + p.tokens)) held rules.hold_in
-          (up_to_from w n dates (fall + i * 1000000000) p.to.index (k + p.tokens) kept.full rules.to_in (omega (arith, c.requires.number)) old))));
+          (up_to_from w n dates (fall + i * 1000000000) p.to.index (k + p.tokens) kept.full rules.to_in (omega (arith, c.requires.number.first)) old))));
     }
 
 pub returns-clause-made : goal.returns-clause-made
@@ -88,11 +88,11 @@ returns-clause-made c = λ rows y latest h.
     let dates = c.loop-placed.dates in
     let end : c.loop-placed.placed-index ≡ length order = omega (arith, c.loop-placed-test.false, c.loop-placed.auto.placed-index-end) in
     let both = c.loop-placed.invariant.made rows y latest h in
-    number_passed net rows c.requires.order.0 order n k y dates c.loop-placed.invariant.full c.requires.number c.requires.within c.places-places.ensures.rules latest c.requires.order.2
+    number_passed net rows c.requires.order.ranks order n k y dates c.loop-placed.invariant.full c.requires.number.first c.requires.number.last c.places-places.ensures.rules latest c.requires.order.back
     (both.0, subst (λ (i : ℕ). AreKept net order n k i y dates) end both.1)
 
 pub returns-clause-from : goal.returns-clause-from
 returns-clause-from c = λ fall h.
     let few = c.places-places.ensures.rules.few_places in
     let i = c.loop-placed.placed-index in
-    all_weaker (fall + i * 1000000000) (fall + 4000000000000) c.loop-placed.dates (omega (arith, few, c.requires.few, c.loop-placed.auto.placed-index-end)) (c.loop-placed.invariant.from fall h)
+    all_weaker (fall + i * 1000000000) (fall + 4000000000000) c.loop-placed.dates (omega (arith, few, c.requires.order.few, c.loop-placed.auto.placed-index-end)) (c.loop-placed.invariant.from fall h)

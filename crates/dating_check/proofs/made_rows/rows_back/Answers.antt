@@ -1,4 +1,4 @@
-use Rattle.std.proofs.Common.{ℕ, ◌≡◌, ◌+◌, ◌-◌, ◌*◌, ◌<◌, ◌≤◌, List, length, sym, ap, subst, ◌∙◌, arith}
+use Rattle.std.proofs.Common.{ℕ, ◌≡◌, ◌+◌, ◌-◌, ◌*◌, List, sym, subst, arith}
 use Rattle.dioid.specs.declared.dates.Date.{Date}
 use Rattle.teg_net.proofs.Reading.{written_back}
 use Rattle.dating_check.specs.MadeRows.{AreFrom, IsMade}

@@ -1,4 +1,4 @@
-use Rattle.std.proofs.Common.{ℕ, ◌<◌, ◌≤◌, ◌≡◌, ◌≢◌, length, get_or}
+use Rattle.std.proofs.Common.{ℕ, ◌<◌, ◌≤◌, ◌≡◌, ◌≢◌, get_or}
 use Rattle.std.specs.Prelude.{Any}
 use Rattle.teg_due.specs.declared.rows.DueRow.{DueRow}
 use Rattle.dating_check.proofs.rows.greatest_number.Given as goal

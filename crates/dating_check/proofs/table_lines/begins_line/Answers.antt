@@ -1,5 +1,4 @@
-use Rattle.std.proofs.Common.{rules, ◌≡◌, Bor, List, ℕ, [], Some, length, map, slice_index_or, sym, ◌∙◌, arith}
-use Rattle.std.specs.Fmt.{decimal}
+use Rattle.std.proofs.Common.{rules, ◌≡◌, Bor, List, ℕ, Some, map, sym, ◌∙◌, arith}
 use Rattle.std.proofs.lemmas.List.{length-map}
 use Rattle.dating_check.proofs.table_lines.begins_line.Goals as goal
 

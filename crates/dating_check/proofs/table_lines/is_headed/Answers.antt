@@ -1,4 +1,4 @@
-use Rattle.std.proofs.Common.{rules, ◌≡◌, List, ℕ, [], ◌∷◌, ◌++◌, sym, ◌∙◌, string_bytes}
+use Rattle.std.proofs.Common.{rules, ◌≡◌, [], sym, ◌∙◌, string_bytes}
 use Rattle.teg_text.specs.Lines.{line_then, phrase}
 use Rattle.word_lines.proofs.Parts.{line_phrase}
 use Rattle.dating_check.specs.TableTexts.{table_head}

@@ -1,4 +1,4 @@
-use Rattle.std.proofs.Common.{◌≡◌, sym, ◌∙◌, arith}
+use Rattle.std.proofs.Common.{arith}
 use Rattle.dating_check.proofs.TableLines.{lines_fit}
 use Rattle.dating_check.proofs.table_lines.numbers_of.Goals as goal
 

@@ -1,4 +1,4 @@
-use Rattle.std.proofs.Common.{ℕ, ◌<◌, ◌≤◌}
+use Rattle.std.proofs.Common.{ℕ, ◌<◌}
 use Rattle.dating_check.specs.ShownTables.{IsAttained}
 use Rattle.dating_check.proofs.ways.are_attained_at.Given as goal
 

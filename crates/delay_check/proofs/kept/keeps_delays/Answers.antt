@@ -1,4 +1,4 @@
-use Rattle.std.proofs.Common.{◌≤◌, get_or, refl, arith}
+use Rattle.std.proofs.Common.{refl, arith}
 use Rattle.teg_net.specs.Circuits.{from_of}
 use Rattle.delay_check.proofs.kept.keeps_delays.Goals as goal
 

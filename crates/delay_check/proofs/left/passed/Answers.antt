@@ -1,9 +1,7 @@
-use Rattle.std.proofs.Common.{rules, ℕ, ◌≡◌, ap, subst, sym, ◌∙◌}
-use Rattle.teg_net.specs.declared.entries.Place.{Place}
+use Rattle.std.proofs.Common.{rules, ◌≡◌}
 use Rattle.teg_net.specs.Circuits.{place_at, from_of, no_place}
 use Rattle.teg_net.proofs.Reading.{read_place}
 use Rattle.teg_model.specs.LiveRanks.{HasEndsInRange}
-use Rattle.delay_check.specs.ShownDelays.{IsSomewhereLeft}
 use Rattle.delay_check.proofs.Passing.{place_left}
 use Rattle.delay_check.proofs.left.passed.Goals as goal
 

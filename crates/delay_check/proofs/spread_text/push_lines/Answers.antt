@@ -1,4 +1,4 @@
-use Rattle.std.proofs.Common.{ℕ, ◌+◌, ◌≡◌, [], length, refl, ap, string_bytes, arith}
+use Rattle.std.proofs.Common.{◌+◌, ◌≡◌, [], length, refl, ap, string_bytes, arith}
 use Rattle.std.specs.List.{range_with_len}
 use Rattle.teg_text.specs.Lines.{line_then}
 use Rattle.teg_text.proofs.Joining.{lines_end}

@@ -11,7 +11,7 @@ returns-then-is_at_least c =
     let is : c.args.pieces.now.items ≡ c.pop.new.self.items ++ last ∷ [] = rw c.in-Some.is at popped in
     let before : ArePieces c.args.held.now c.args.place c.args.low c.args.piece.from (c.pop.new.self.items ++ last ∷ []) =
     subst (ArePieces c.args.held.now c.args.place c.args.low c.args.piece.from) is c.requires.before in
-    let all = gone_on c.args.held.now c.args.place c.args.low c.pop.new.self.items last c.args.piece c.requires.place before c.requires.piece c.requires.order
+    let all = gone_on c.args.held.now c.args.place c.args.low c.pop.new.self.items last c.args.piece c.requires.place before c.requires.piece.piece c.requires.piece.order
     (c.is_at_least.ensures.yes c.if-is_at_least.true) in
     subst (ArePieces c.args.held.now c.args.place c.args.low (c.args.piece.to + 1)) (sym c.in_ok-push-2.ensures.items) all
 
@@ -22,5 +22,5 @@ returns c =
     let is : c.args.pieces.now.items ≡ c.pop.new.self.items ++ last ∷ [] = rw c.in-Some.is at popped in
     let before : ArePieces c.args.held.now c.args.place c.args.low c.args.piece.from c.push-2.new.self.items =
     subst (ArePieces c.args.held.now c.args.place c.args.low c.args.piece.from) (is ∙ sym c.in_ok-push-3.ensures.items) c.requires.before in
-    let all = one_more c.args.held.now c.args.place c.args.low c.push-2.new.self.items c.args.piece before c.requires.piece c.requires.order in
+    let all = one_more c.args.held.now c.args.place c.args.low c.push-2.new.self.items c.args.piece before c.requires.piece.piece c.requires.piece.order in
     subst (ArePieces c.args.held.now c.args.place c.args.low (c.args.piece.to + 1)) (sym c.in_ok-push-4.ensures.items) all

@@ -1,6 +1,6 @@
 use Rattle.std.proofs.Common.{ℕ, ◌<◌, ◌≢◌, None}
 use Rattle.teg_net.specs.Parts.{IsMember}
-use Rattle.teg_howard.specs.PolicyRounds.{choice_of_member}
+use Rattle.policy_rounds.specs.PolicyRounds.{choice_of_member}
 use Rattle.round_check.proofs.choices.all_members.Given as goal
 
 abbrev pub invariant-loop-transition : goal.invariant-loop-transition

@@ -1,4 +1,4 @@
-use Rattle.teg_howard.proofs.Listing.{lists_members}
+use Rattle.policy_rounds.proofs.ListedChoices.{lists_members}
 use Rattle.round_check.proofs.Choosing.{lists_choices}
 use Rattle.round_check.proofs.choices.list_members.Goals as goal
 

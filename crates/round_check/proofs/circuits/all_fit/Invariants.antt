@@ -1,5 +1,5 @@
 use Rattle.std.proofs.Common.{ℕ, ◌<◌}
-use Rattle.teg_howard.specs.FoundCircuits.{policy_of}
+use Rattle.policy_rounds.specs.PolicyLists.{policy_of}
 use Rattle.teg_net.specs.Parts.{IsMember}
 use Rattle.round_check.specs.PolicyCircuits.{AreAtMost}
 use Rattle.round_check.proofs.circuits.all_fit.Given as goal

@@ -1,5 +1,5 @@
 use Rattle.teg_net.specs.Parts.{IsMember}
-use Rattle.teg_howard.specs.FoundCircuits.{policy_of}
+use Rattle.policy_rounds.specs.PolicyLists.{policy_of}
 use Rattle.round_check.proofs.Walking.{Walking}
 use Rattle.round_check.proofs.circuits.circuit_from.Given as goal
 

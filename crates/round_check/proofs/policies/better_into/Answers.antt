@@ -2,7 +2,7 @@ use Rattle.std.proofs.Common.{◌≡◌, length, arith}
 use Rattle.std.proofs.lemmas.Int.{to_z-of_z}
 use mir.Val.{to_z, of_z}
 use mir.Syntax.{w128}
-use Rattle.teg_howard.proofs.Values.{fits_within}
+use Rattle.policy_rounds.proofs.BestCircuits.{fits_within}
 use Rattle.round_check.specs.Offers.{values_at}
 use Rattle.round_check.proofs.Offering.{better_none, better_is}
 use Rattle.round_check.proofs.policies.better_into.Goals as goal

@@ -1,8 +1,8 @@
 use Rattle.std.proofs.Common.{ℕ, ◌+◌, ap, ◌∙◌, arith}
 use Rattle.std.proofs.lemmas.List.{length_push}
 use Rattle.teg_net.specs.declared.entries.PlaceId.{PlaceId}
-use Rattle.teg_howard.specs.Policies.{first_id}
-use Rattle.teg_howard.specs.FoundCircuits.{policy_of}
+use Rattle.policy_rounds.specs.Policies.{first_id}
+use Rattle.policy_rounds.specs.PolicyLists.{policy_of}
 use Rattle.round_check.specs.Offers.{IsBetterAt, values_at}
 use Rattle.round_check.proofs.Pushing.{pushed}
 use Rattle.round_check.proofs.Stepping.{improvement}

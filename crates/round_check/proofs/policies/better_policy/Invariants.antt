@@ -1,5 +1,5 @@
 use Rattle.std.proofs.Common.{ℕ, ◌<◌, ◌≡◌, length}
-use Rattle.teg_howard.specs.FoundCircuits.{policy_of}
+use Rattle.policy_rounds.specs.PolicyLists.{policy_of}
 use Rattle.round_check.specs.Offers.{IsBetterAt, values_at}
 use Rattle.round_check.proofs.policies.better_policy.Given as goal
 

@@ -1,8 +1,8 @@
 use Rattle.std.proofs.Common.{ℕ, ◌+◌, ◌≡◌, Bool, true, false, ap, ◌∙◌, arith}
 use Rattle.std.specs.Prelude.{◌↔◌}
 use Rattle.std.proofs.lemmas.List.{length_push}
-use Rattle.teg_howard.specs.Policies.{IsChanged}
-use Rattle.teg_howard.specs.FoundCircuits.{policy_of}
+use Rattle.policy_rounds.specs.Policies.{IsChanged}
+use Rattle.policy_rounds.specs.PolicyLists.{policy_of}
 use Rattle.round_check.proofs.Pushing.{pushed, marked_all}
 use Rattle.round_check.proofs.policies.changed.Goals as goal
 

@@ -1,7 +1,7 @@
 use Rattle.std.proofs.Common.{ℕ, ◌<◌, ◌≡◌, length}
 use Rattle.std.specs.Prelude.{◌↔◌}
-use Rattle.teg_howard.specs.Policies.{IsChanged}
-use Rattle.teg_howard.specs.FoundCircuits.{policy_of}
+use Rattle.policy_rounds.specs.Policies.{IsChanged}
+use Rattle.policy_rounds.specs.PolicyLists.{policy_of}
 use Rattle.teg_parts.specs.Components.{IsMarked}
 use Rattle.round_check.proofs.policies.changed.Given as goal
 

@@ -1,7 +1,7 @@
-use Rattle.std.proofs.Common.{ℕ, ◌<◌, ◌≤◌, ◌≡◌, length, refl, subst, arith, ⊎_elim}
+use Rattle.std.proofs.Common.{◌<◌, ◌≤◌, ◌≡◌, length, refl, subst, arith, ⊎_elim}
 use Rattle.std.proofs.lemmas.Bool.{cases_lt, iff_false}
 use Rattle.teg_net.specs.declared.entries.PlaceId.{PlaceId}
-use Rattle.teg_howard.specs.Policies.{Enters}
+use Rattle.policy_rounds.specs.Policies.{Enters}
 use Rattle.round_check.proofs.Offering.{below_next}
 use Rattle.round_check.proofs.policies.lowest_into.Goals as goal
 

@@ -1,6 +1,6 @@
-use Rattle.std.proofs.Common.{ℕ, ◌<◌}
+use Rattle.std.proofs.Common.{◌<◌}
 use Rattle.teg_net.specs.declared.entries.PlaceId.{PlaceId}
-use Rattle.teg_howard.specs.Policies.{Enters}
+use Rattle.policy_rounds.specs.Policies.{Enters}
 use Rattle.round_check.proofs.policies.lowest_into.Given as goal
 
 abbrev pub invariant-loop-index : goal.invariant-loop-index

@@ -2,8 +2,8 @@ use Rattle.std.proofs.Common.{ℕ, ◌+◌, ◌<◌, ◌≤◌, ◌≡◌, ap, �
 use Rattle.std.proofs.lemmas.Bool.{cases_lt}
 use Rattle.std.proofs.lemmas.List.{length_push, get_or_past}
 use Rattle.teg_net.specs.declared.entries.PlaceId.{PlaceId}
-use Rattle.teg_howard.specs.Policies.{Enters, first_id}
-use Rattle.teg_howard.specs.PolicyRounds.{IsLowestInto}
+use Rattle.policy_rounds.specs.Policies.{Enters, first_id}
+use Rattle.policy_rounds.specs.PolicyRounds.{IsLowestInto}
 use Rattle.round_check.proofs.Pushing.{pushed}
 use Rattle.round_check.proofs.Offering.{entered_member}
 use Rattle.round_check.proofs.policies.lowest_places.Goals as goal

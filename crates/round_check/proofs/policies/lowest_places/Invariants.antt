@@ -1,8 +1,8 @@
 use Rattle.std.proofs.Common.{ℕ, ◌<◌, ◌≡◌, length}
 use Rattle.teg_net.specs.declared.entries.PlaceId.{PlaceId}
-use Rattle.teg_howard.specs.Policies.{Enters, first_id}
-use Rattle.teg_howard.specs.PolicyRounds.{IsLowestInto}
-use Rattle.teg_howard.specs.FoundCircuits.{policy_of}
+use Rattle.policy_rounds.specs.Policies.{Enters, first_id}
+use Rattle.policy_rounds.specs.PolicyRounds.{IsLowestInto}
+use Rattle.policy_rounds.specs.PolicyLists.{policy_of}
 use Rattle.round_check.proofs.policies.lowest_places.Given as goal
 
 abbrev pub invariant-loop-transition : goal.invariant-loop-transition

@@ -1,6 +1,6 @@
-use Rattle.std.proofs.Common.{◌≤◌, length, arith}
+use Rattle.std.proofs.Common.{arith}
 use Rattle.round_check.specs.Offers.{values_at}
-use Rattle.round_check.proofs.Offering.{most_none, most_past}
+use Rattle.round_check.proofs.Offering.{most_past}
 use Rattle.round_check.proofs.policies.most_into.Goals as goal
 
 pub returns : goal.returns

@@ -2,7 +2,6 @@ use Rattle.std.proofs.Common.{◌*◌, ◌≤◌, ◌≡◌, arith}
 use Rattle.std.specs.Prelude.{pos, ◌-ℤ◌}
 use Rattle.std.proofs.lemmas.Int.{ints}
 use Rattle.std.proofs.lemmas.Nat.{mul-le}
-use Rattle.teg_net.specs.Limits.{greatest_hold, most_place_tokens}
 use Rattle.round_check.proofs.policies.reduced_at.Goals as goal
 
 pub returns-clause-within : goal.returns-clause-within

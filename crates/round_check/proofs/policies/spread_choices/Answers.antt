@@ -5,8 +5,8 @@ use Rattle.std.proofs.lemmas.List.{length_push}
 use mir.Val.{SFits, to_z, of_z}
 use mir.Syntax.{w128}
 use Rattle.teg_net.specs.declared.entries.PlaceId.{PlaceId}
-use Rattle.teg_howard.specs.Policies.{first_id}
-use Rattle.teg_howard.specs.PolicyRounds.{choice_of_member, chosen_place, value_in}
+use Rattle.policy_rounds.specs.Policies.{first_id}
+use Rattle.policy_rounds.specs.PolicyRounds.{choice_of_member, chosen_place, value_in}
 use Rattle.round_check.proofs.Pushing.{pushed}
 use Rattle.round_check.proofs.Offering.{spread_places, spread_values}
 use Rattle.round_check.proofs.policies.spread_choices.Goals as goal

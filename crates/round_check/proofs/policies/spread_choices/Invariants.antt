@@ -1,6 +1,6 @@
 use Rattle.std.proofs.Common.{ℕ, ◌<◌, ◌≡◌, length}
-use Rattle.teg_howard.specs.PolicyRounds.{choice_of_member, chosen_place, value_in}
-use Rattle.teg_howard.specs.FoundCircuits.{policy_of}
+use Rattle.policy_rounds.specs.PolicyRounds.{choice_of_member, chosen_place, value_in}
+use Rattle.policy_rounds.specs.PolicyLists.{policy_of}
 use Rattle.round_check.specs.Offers.{values_at}
 use Rattle.round_check.proofs.policies.spread_choices.Given as goal
 

@@ -1,4 +1,4 @@
-use Rattle.std.proofs.Common.{◌≡◌, refl, rules}
+use Rattle.std.proofs.Common.{refl, rules}
 use Rattle.std.proofs.lemmas.Bool.{iff_false}
 use Rattle.round_check.specs.Offers.{values_at}
 use Rattle.round_check.proofs.Offering.{most_skip, most_take}

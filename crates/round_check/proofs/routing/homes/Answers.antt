@@ -2,8 +2,8 @@ use Rattle.std.proofs.Common.{ℕ, ◌+◌, ◌≡◌, Bool, true, false, ap, �
 use Rattle.std.specs.Prelude.{◌↔◌}
 use Rattle.std.proofs.lemmas.List.{length_push}
 use Rattle.teg_net.specs.Parts.{IsMember}
-use Rattle.teg_howard.specs.Policies.{LeadsBack}
-use Rattle.teg_howard.specs.FoundCircuits.{policy_of}
+use Rattle.policy_rounds.specs.Policies.{LeadsBack}
+use Rattle.policy_rounds.specs.PolicyLists.{policy_of}
 use Rattle.round_check.proofs.Pushing.{pushed, marked_all}
 use Rattle.round_check.proofs.routing.homes.Goals as goal
 

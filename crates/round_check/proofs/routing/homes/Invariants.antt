@@ -1,8 +1,8 @@
 use Rattle.std.proofs.Common.{ℕ, ◌<◌, ◌≡◌, length}
 use Rattle.std.specs.Prelude.{◌↔◌}
 use Rattle.teg_net.specs.Parts.{IsMember}
-use Rattle.teg_howard.specs.Policies.{LeadsBack}
-use Rattle.teg_howard.specs.FoundCircuits.{policy_of}
+use Rattle.policy_rounds.specs.Policies.{LeadsBack}
+use Rattle.policy_rounds.specs.PolicyLists.{policy_of}
 use Rattle.teg_parts.specs.Components.{IsMarked}
 use Rattle.round_check.proofs.routing.homes.Given as goal
 

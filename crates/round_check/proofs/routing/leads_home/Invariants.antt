@@ -1,7 +1,7 @@
 use Rattle.std.proofs.Common.{ℕ, ◌<◌, ◌≡◌, ◌≢◌}
 use Rattle.teg_net.specs.Parts.{IsMember}
-use Rattle.teg_howard.specs.Policies.{step_back}
-use Rattle.teg_howard.specs.FoundCircuits.{policy_of}
+use Rattle.policy_rounds.specs.Policies.{step_back}
+use Rattle.policy_rounds.specs.PolicyLists.{policy_of}
 use Rattle.round_check.proofs.routing.leads_home.Given as goal
 
 abbrev pub invariant-back : goal.invariant-back

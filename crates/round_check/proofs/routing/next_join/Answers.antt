@@ -1,4 +1,4 @@
-use Rattle.std.proofs.Common.{ℕ, ◌<◌, ◌≤◌, ◌≡◌, length, refl, subst, arith, ⊎_elim}
+use Rattle.std.proofs.Common.{◌<◌, ◌≤◌, ◌≡◌, length, refl, subst, arith, ⊎_elim}
 use Rattle.std.proofs.lemmas.Bool.{cases_lt, iff_false}
 use Rattle.teg_net.specs.declared.entries.PlaceId.{PlaceId}
 use Rattle.round_check.specs.Routes.{Leads}

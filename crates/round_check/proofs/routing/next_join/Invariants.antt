@@ -1,4 +1,4 @@
-use Rattle.std.proofs.Common.{ℕ, ◌<◌}
+use Rattle.std.proofs.Common.{◌<◌}
 use Rattle.teg_net.specs.declared.entries.PlaceId.{PlaceId}
 use Rattle.round_check.specs.Routes.{Leads}
 use Rattle.round_check.proofs.routing.next_join.Given as goal

@@ -1,4 +1,4 @@
-use Rattle.std.proofs.Common.{arith, refl}
+use Rattle.std.proofs.Common.{arith}
 use Rattle.teg_net.proofs.PathLaws.{IsPathBetween-in_range}
 use Rattle.teg_certificates.proofs.Short.{circuit_sums}
 use Rattle.round_check.proofs.runs.bound_of.Goals as goal

@@ -1,6 +1,6 @@
 use Rattle.std.proofs.Common.{ℕ, ◌<◌, ◌≡◌}
 use Rattle.teg_net.specs.Parts.{IsMember}
-use Rattle.teg_howard.specs.FoundCircuits.{policy_of}
+use Rattle.policy_rounds.specs.PolicyLists.{policy_of}
 use Rattle.round_check.proofs.runs.has_places_of.Given as goal
 
 abbrev pub invariant-loop-member : goal.invariant-loop-member

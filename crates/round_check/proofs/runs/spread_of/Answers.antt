@@ -1,4 +1,4 @@
-use Rattle.teg_howard.proofs.Listing.{only_members}
+use Rattle.policy_rounds.proofs.ListedChoices.{only_members}
 use Rattle.round_check.proofs.runs.spread_of.Goals as goal
 
 pub spread_choices-requires : goal.spread_choices-requires

@@ -1,18 +1,16 @@
-use Rattle.std.proofs.Common.{◌+◌, ◌≡◌, arith}
+use Rattle.std.proofs.Common.{◌∙◌, arith}
 use Rattle.run_rows.proofs.by_jumps.go_on.Goals as goal
 
-pub loop-after-preserved : goal.loop-after-preserved
-loop-after-preserved c =
-    let found = c.in_ok-found.ensures in
-    let jump = rw c.in-Some.is at found.ends in
-    let to = jump.run.to in
+pub loop-reached-preserved : goal.loop-reached-preserved
+loop-reached-preserved c =
+    let up_to = rw c.in-Some.is at c.in_ok-found.ensures.up_to in
+    let past = c.in_ok-reached-in-Some.ensures in
+    let end = rw c.in-Some.is at past.end in
     let room = c.room_left-room.ensures in
-    let end_own = rw c.in-Some.is at c.end-end.ensures in
-    let end_is : c.end-end.result ≡ jump.end = omega (arith, end_own, to) in
     record {
-      runs = c.in_ok-runs-in-Some.ensures.late;
-      least = λ e. c.in_ok-runs-in-Some.ensures.all e (c.loop-after.invariant.least e);
-      few = omega (arith, end_is, jump.up_to);
+      reached = past.reached;
+      all = past.all ∙ c.loop-reached.invariant.all;
+      few = omega (arith, end, up_to);
       some = room.some;
       room = room.few;
     }

@@ -1,16 +1,16 @@
-use Rattle.std.proofs.Common.{◌-◌, ◌≤◌, IsTrue}
+use Rattle.std.proofs.Common.{◌-◌, ◌≡◌, ◌≤◌}
 use Rattle.teg_net.specs.Limits.{most_rows}
-use Rattle.run_rows.specs.LeastRuns.{AreLateRuns, AreLeastRuns}
+use Rattle.run_rows.specs.Stretches.{AreReached}
 use Rattle.run_rows.proofs.by_jumps.go_on.Given as goal
 
-abbrev pub invariant-loop-after : goal.invariant-loop-after
-invariant-loop-after l = record {
-  runs : AreLateRuns l.net l.most l.after l.runs.runs;
-  least : IsTrue l.all → AreLeastRuns l.net l.after l.runs.runs;
-  few : l.after ≤ l.number;
+abbrev pub invariant-loop-reached : goal.invariant-loop-reached
+invariant-loop-reached l = record {
+  reached : AreReached l.ranked.net.now l.ranked.most l.reached;
+  all : l.reached.all ≡ l.fn.from.all;
+  few : l.reached.after ≤ l.number;
   some : 1 ≤ l.room;
   room : l.room ≤ most_rows;
 }
 
-abbrev pub decreases-loop-after : goal.decreases-loop-after
-decreases-loop-after l = l.number - l.after
+abbrev pub decreases-loop-reached : goal.decreases-loop-reached
+decreases-loop-reached l = l.number - l.reached.after

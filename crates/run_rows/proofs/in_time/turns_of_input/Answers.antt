@@ -15,11 +15,11 @@ use Rattle.run_rows.proofs.in_time.turns_of_input.Goals as goal
 
 pub loop-number-preserved : goal.loop-number-preserved
 loop-number-preserved c =
-    let net = c.args.net.now in
+    let net = c.args.last.now.of.net.now in
     let t = c.args.input.index in
-    let rows = c.args.rows.now in
-    let last = c.args.last.now in
-    let after = c.args.after in
+    let rows = c.args.last.now.rows.now in
+    let last = c.args.last.now.run.now in
+    let after = c.args.last.now.after in
     let number = c.loop-number.number in
     let inv = c.loop-number.invariant in
     let own = c.turns_of_dates-turns.ensures in
@@ -27,7 +27,7 @@ loop-number-preserved c =
     let is : to_z w128 (of_z w128 c.step-step.result) ≡ c.step-step.result = to_z-of_z w128 c.step-step.result fits in
     let released = c.release-release.ensures ∙ at_input_is net t (listed_releases net t (after + number)) Early c.requires.input in
     let few : c.pace_of-pace.result < 2 ^ 127 = omega (arith, c.pace_of-pace.ensures.few) in
-    let turn_is : c.last.inside.turn ≡ last.turn = ap (λ (r : Run). r.turn) c.last.view_is in
+    let turn_is : c.run.inside.turn ≡ last.turn = ap (λ (r : Run). r.turn) c.run.view_is in
     let pace_is = to_z_pos w128 c.pace_of-pace.result few ∙ (c.pace_of-pace.ensures.value ∙ ap (λ z. pace_by_list z (list_of_input net t)) turn_is) in
     record {
       within = omega (arith, own.within, inv.within);

@@ -10,7 +10,7 @@ use Rattle.run_rows.proofs.in_time.turns_of_input.Given as goal
 abbrev pub invariant-loop-number : goal.invariant-loop-number
 invariant-loop-number l = record {
   within : l.turns ≤ l.most;
-  in_time : (k : ℕ) → IsInLastTurn l.rows l.last.turn k → k < l.number
-      → InTimeFor l.turns (pace_by_list l.last.turn (list_of_input l.net l.input.index)) (step_of l.last l.input.index (l.after + k))
-      (listed_releases l.net l.input.index (l.after + k)) (date_at l.rows l.input.index k);
+  in_time : (k : ℕ) → IsInLastTurn l.last.rows.now l.last.run.now.turn k → k < l.number
+      → InTimeFor l.turns (pace_by_list l.last.run.now.turn (list_of_input l.last.of.net.now l.input.index)) (step_of l.last.run.now l.input.index (l.last.after + k))
+      (listed_releases l.last.of.net.now l.input.index (l.last.after + k)) (date_at l.last.rows.now l.input.index k);
 }

@@ -19,6 +19,6 @@ loop-index-preserved c =
 
 pub returns-clause-in_time : goal.returns-clause-in_time
 returns-clause-in_time c = λ t input.
-    let inside = input_in c.args.net.now t input in
+    let inside = input_in c.args.last.now.of.net.now t input in
     let all = rw c.transitions-index-end.ensures.value at c.loop-index-test.false in
     c.loop-index.invariant.in_time t (omega (arith, inside, all)) input

@@ -6,5 +6,5 @@ use Rattle.run_rows.proofs.in_time.turns_of_inputs.Given as goal
 abbrev pub invariant-loop-index : goal.invariant-loop-index
 invariant-loop-index l = record {
   within : l.turns ≤ l.most;
-  in_time : (t : ℕ) → t < l.index → IsInput l.net t → IsReleaseInTime l.turns l.after l.net l.rows l.last t;
+  in_time : (t : ℕ) → t < l.index → IsInput l.last.of.net.now t → IsReleaseInTime l.turns l.last.after l.last.of.net.now l.last.rows.now l.last.run.now t;
 }

@@ -13,6 +13,6 @@ loop-place-preserved c =
     let below = rw c.places-place-items.ensures.value at c.loop-place-test.true in
     record {
       within = omega (arith, own.within, inv.within);
-      in_time = next_all (IsPlaceInTime r c.args.after c.args.rows.now c.args.last.now) c.args.net.now.places c.loop-place.place-index c.place-item.result below item (rw (way.from, way.to, way.tokens, way.hold) at own.in_time)
+      in_time = next_all (IsPlaceInTime r c.args.last.now.after c.args.last.now.rows.now c.args.last.now.run.now) c.args.last.now.of.net.now.places c.loop-place.place-index c.place-item.result below item (rw (way.from, way.to, way.tokens, way.hold) at own.in_time)
           (λ i d m. fewer_way _ r _ _ _ _ _ _ _ own.within (inv.in_time i d m));
     }

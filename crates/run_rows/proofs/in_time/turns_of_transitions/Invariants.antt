@@ -6,5 +6,5 @@ use Rattle.run_rows.proofs.in_time.turns_of_transitions.Given as goal
 abbrev pub invariant-loop-index : goal.invariant-loop-index
 invariant-loop-index l = record {
   within : l.turns ≤ l.most;
-  in_time : (t : ℕ) → t < l.index → IsPlaceInTime l.turns l.after l.rows l.last (implicit_place t);
+  in_time : (t : ℕ) → t < l.index → IsPlaceInTime l.turns l.last.after l.last.rows.now l.last.run.now (implicit_place t);
 }

@@ -10,10 +10,10 @@ use Rattle.run_rows.proofs.in_time.turns_of_way.Goals as goal
 
 pub loop-number-preserved : goal.loop-number-preserved
 loop-number-preserved c =
-    let rows = c.args.rows.now in
-    let last = c.args.last.now in
+    let rows = c.args.last.now.rows.now in
+    let last = c.args.last.now.run.now in
+    let after = c.args.last.now.after in
     let way = c.args.way in
-    let after = c.args.after in
     let inv = c.loop-number.invariant in
     let own = c.turns_of_dates-turns.ensures in
     let fits : FitsSigned w128 c.step-step.result = search rules in

@@ -1,4 +1,4 @@
-use Rattle.std.proofs.Common.{rules, arith, to_z, of_z}
+use Rattle.std.proofs.Common.{rules, arith}
 use Rattle.std.specs.Prelude.{FitsSigned, ◌<ℤ◌}
 use Rattle.std.specs.Int.{w128}
 use Rattle.std.proofs.lemmas.Int.{ints, to_z-of_z}

@@ -1,8 +1,7 @@
-use Rattle.std.proofs.Common.{rules, ◌+◌, ◌-◌, ◌≡◌, ap, arith, to_z, of_z}
+use Rattle.std.proofs.Common.{rules, ◌≡◌, to_z, of_z}
 use Rattle.std.specs.Prelude.{FitsSigned}
 use Rattle.std.specs.Int.{w128}
 use Rattle.std.proofs.lemmas.Int.{to_z-of_z}
-use Rattle.jump_laws.specs.Runs.{Run}
 use Rattle.run_rows.proofs.late.late_way.Goals as goal
 
 pub returns-then-comes_late : goal.returns-then-comes_late

@@ -14,6 +14,6 @@ loop-number-preserved c = λ k a b.
     let here : k ≡ c.loop-number.number = omega (arith, m, b) in
     let fits : FitsSigned w128 c.step-step.result = search rules in
     let is : to_z w128 (of_z w128 c.step-step.result) ≡ c.step-step.result = to_z-of_z w128 c.step-step.result fits in
-    let turn_is : c.last.inside.turn ≡ c.args.last.now.turn = ap (λ (r : Run). r.turn) c.last.view_is in
+    let turn_is : c.run.inside.turn ≡ c.args.last.now.run.now.turn = ap (λ (r : Run). r.turn) c.run.view_is in
     rw here (rw (is, c.date-late.ensures, c.step-step.ensures, c.date.ensures, turn_is) at (c.is_moved.ensures c.if-not-is_moved.false)))
     (cases_lt k c.loop-number.number)

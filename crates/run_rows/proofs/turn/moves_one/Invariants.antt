@@ -7,4 +7,4 @@ use Rattle.run_rows.proofs.turn.moves_one.Given as goal
 abbrev pub invariant-loop-number : goal.invariant-loop-number
 invariant-loop-number l =
     (k : ℕ) → l.from ≤ k → k < l.number
-    → date_at l.rows l.transition.index (k + l.last.turn) ≡ move (step_of l.last l.transition.index (l.after + k)) (date_at l.rows l.transition.index k)
+    → date_at l.last.rows.now l.transition.index (k + l.last.run.now.turn) ≡ move (step_of l.last.run.now l.transition.index (l.last.after + k)) (date_at l.last.rows.now l.transition.index k)

@@ -8,6 +8,6 @@ returns c = λ yes.
     let step : c.step.result ≡ c.step-2.result =
     sym (to_z-of_z w128 c.step.result (record { sfits = c.step.type_inv })) ∙ (ap (to_z w128) c.if-step.false ∙ to_z-of_z w128 c.step-2.result (record { sfits = c.step-2.type_inv })) in
     record {
-      row = sym c.row.ensures.value ∙ (c.are_same.ensures yes ∙ c.row-2.ensures.value);
+      row = c.has_same_row.ensures yes;
       step = sym c.step.ensures.value ∙ (step ∙ c.step-2.ensures.value);
     }

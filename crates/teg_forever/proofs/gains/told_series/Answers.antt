@@ -16,8 +16,8 @@ pub from_list-requires-clause-rising : goal.from_list-requires-clause-rising
 from_list-requires-clause-rising c =
     let f = c.args.settled.now in
     let t = c.args.transition.index in
-    let e = same c.row.result.now (row_of f t) c.period.result f.period (to_z w128 (of_z w128 c.step.result))
-    (step_of_form f t) c.row.ensures.value c.period.ensures.value
+    let e = same c.as_slice.result.now (row_of f t) c.period.result f.period (to_z w128 (of_z w128 c.step.result))
+    (step_of_form f t) (c.as_slice.ensures.value ∙ c.in-Ok.ensures.row) c.period.ensures
     (to_z-of_z w128 c.step.result (record { sfits = c.step.type_inv }) ∙ c.step.ensures.value) in
     subst (λ (z : Form). Rising (value_at z)) (sym e) c.requires.rising
 
@@ -25,9 +25,9 @@ pub returns : goal.returns
 returns c =
     let f = c.args.settled.now in
     let t = c.args.transition.index in
-    let e = same c.row.result.now (row_of f t) c.period.result f.period (to_z w128 (of_z w128 c.step.result))
-    (step_of_form f t) c.row.ensures.value c.period.ensures.value
+    let e = same c.as_slice.result.now (row_of f t) c.period.result f.period (to_z w128 (of_z w128 c.step.result))
+    (step_of_form f t) (c.as_slice.ensures.value ∙ c.in-Ok.ensures.row) c.period.ensures
     (to_z-of_z w128 c.step.result (record { sfits = c.step.type_inv }) ∙ c.step.ensures.value) in
-    let long = ap length c.row.ensures.value in
+    let long = ap length (c.as_slice.ensures.value ∙ c.in-Ok.ensures.row) in
     subst (λ (n : ℕ). AnswersOf (λ r. HasValues r (value_at (told_form f t))) n n c.from_list.result) long
-    (subst (λ (z : Form). AnswersOf (λ r. HasValues r (value_at z)) (length c.row.result.now) (length c.row.result.now) c.from_list.result) e c.from_list.ensures)
+    (subst (λ (z : Form). AnswersOf (λ r. HasValues r (value_at z)) (length c.as_slice.result.now) (length c.as_slice.result.now) c.from_list.result) e c.from_list.ensures)

@@ -1,8 +1,8 @@
 use Rattle.std.proofs.Common.{◌≡◌, length, ap, subst, arith}
 use Rattle.teg_net.specs.Parts.{IsMember}
-use Rattle.teg_howard.specs.FoundCircuits.{policy_of}
+use Rattle.policy_rounds.specs.PolicyLists.{policy_of}
 use Rattle.teg_howard.specs.CircuitStarts.{ComesAgain}
-use Rattle.teg_howard.proofs.Back.{back_member}
+use Rattle.policy_rounds.proofs.Back.{back_member}
 use Rattle.teg_net.proofs.Reading.{written_back}
 use Rattle.teg_howard.proofs.Passing.{started_outside, started_old, started_new, end_member, end_fresh, end_old}
 use Rattle.teg_howard.proofs.circuit_starts.circuit_starts.Goals.{then-parts-start+in-Some, then-parts-start+in_default, else-parts-start}

@@ -1,4 +1,4 @@
-use Rattle.teg_howard.specs.FoundCircuits.{policy_of}
+use Rattle.policy_rounds.specs.PolicyLists.{policy_of}
 use Rattle.teg_howard.proofs.Passing.{Started}
 use Rattle.teg_howard.proofs.circuit_starts.circuit_starts.Given as goal
 

@@ -1,7 +1,7 @@
 use Rattle.std.proofs.Common.{◌<◌, arith}
 use Rattle.teg_net.specs.Circuits.{from_of}
-use Rattle.teg_howard.specs.FoundCircuits.{policy_of}
-use Rattle.teg_howard.proofs.Back.{on_back}
+use Rattle.policy_rounds.specs.PolicyLists.{policy_of}
+use Rattle.policy_rounds.proofs.Back.{on_back}
 use Rattle.teg_howard.proofs.Passing.{lowering_more, lowering_done, leads_next}
 use Rattle.teg_howard.proofs.circuit_starts.lowest_back.Goals.{then-at-lowest, else-at-lowest}
 use Rattle.teg_howard.proofs.circuit_starts.lowest_back.Goals as goal

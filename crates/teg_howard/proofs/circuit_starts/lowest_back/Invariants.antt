@@ -1,4 +1,4 @@
-use Rattle.teg_howard.specs.FoundCircuits.{policy_of, IsOnPolicy}
+use Rattle.policy_rounds.specs.PolicyLists.{policy_of, IsOnPolicy}
 use Rattle.teg_howard.proofs.Passing.{Lowering}
 use Rattle.teg_howard.proofs.circuit_starts.lowest_back.Given as goal
 

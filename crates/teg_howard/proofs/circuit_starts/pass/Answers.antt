@@ -1,9 +1,9 @@
 use Rattle.std.proofs.Common.{◌≡◌, None, arith}
 use Rattle.std.proofs.lemmas.List.{length-set}
 use Rattle.teg_parts.proofs.Marks.{none_by, some_by}
-use Rattle.teg_howard.specs.FoundCircuits.{policy_of}
+use Rattle.policy_rounds.specs.PolicyLists.{policy_of}
 use Rattle.teg_howard.specs.CircuitStarts.{walk_at}
-use Rattle.teg_howard.proofs.Back.{on_back}
+use Rattle.policy_rounds.proofs.Back.{on_back}
 use Rattle.teg_howard.proofs.Passing.{passing_less, passing_more, passing_done}
 use Rattle.teg_howard.proofs.circuit_starts.pass.Goals as goal
 

@@ -1,5 +1,5 @@
 use Rattle.std.proofs.Common.{◌<◌, length, count_by, is_none}
-use Rattle.teg_howard.specs.FoundCircuits.{policy_of, IsOnPolicy}
+use Rattle.policy_rounds.specs.PolicyLists.{policy_of, IsOnPolicy}
 use Rattle.teg_howard.proofs.Passing.{Passing}
 use Rattle.teg_howard.proofs.circuit_starts.pass.Given as goal
 

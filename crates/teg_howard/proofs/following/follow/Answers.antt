@@ -4,8 +4,9 @@ use Rattle.std.proofs.lemmas.Int.{to_z-of_z}
 use mir.Val.{SFits}
 use mir.Syntax.{w128}
 use Rattle.teg_net.specs.Circuits.{from_of}
-use Rattle.teg_howard.specs.Policies.{offer_of}
-use Rattle.teg_howard.specs.FoundCircuits.{policy_of, potentials}
+use Rattle.policy_rounds.specs.Policies.{offer_of}
+use Rattle.teg_howard.specs.FoundCircuits.{potentials}
+use Rattle.policy_rounds.specs.PolicyLists.{policy_of}
 use Rattle.teg_howard.specs.Following.{Followed}
 use Rattle.teg_howard.proofs.Values.{followed_start, follow_step, held_at}
 use Rattle.teg_howard.proofs.Spreading.{Spreading, Waits, spread_less, spread_last, spread_start, spread_more, waits_follows}

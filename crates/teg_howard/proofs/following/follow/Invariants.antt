@@ -1,5 +1,5 @@
 use Rattle.std.proofs.Common.{count_by, is_none}
-use Rattle.teg_howard.specs.FoundCircuits.{policy_of}
+use Rattle.policy_rounds.specs.PolicyLists.{policy_of}
 use Rattle.teg_howard.proofs.Spreading.{Spreading}
 use Rattle.teg_howard.proofs.following.follow.Given as goal
 

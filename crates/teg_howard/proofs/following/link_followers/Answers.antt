@@ -2,8 +2,8 @@ use Rattle.std.proofs.Common.{◌≡◌, ◌<◌, None, length, get_or, refl, ar
 use Rattle.std.proofs.lemmas.List.{get_or_read, get_or_default}
 use Rattle.teg_net.specs.Circuits.{no_place, from_of}
 use Rattle.teg_net.specs.Parts.{IsMember}
-use Rattle.teg_howard.specs.Policies.{first_id}
-use Rattle.teg_howard.specs.FoundCircuits.{policy_of}
+use Rattle.policy_rounds.specs.Policies.{first_id}
+use Rattle.policy_rounds.specs.PolicyLists.{policy_of}
 use Rattle.teg_howard.proofs.Spreading.{linked_skip, linked_more}
 use Rattle.teg_howard.proofs.following.link_followers.Goals.{then-parts-member+then-member-root, else-parts-member}
 use Rattle.teg_howard.proofs.following.link_followers.Goals.{else-parts-member-via-then-parts-member+else-member-root}

@@ -1,4 +1,4 @@
-use Rattle.teg_howard.specs.FoundCircuits.{policy_of}
+use Rattle.policy_rounds.specs.PolicyLists.{policy_of}
 use Rattle.teg_howard.proofs.Spreading.{LinkedTo}
 use Rattle.teg_howard.proofs.following.link_followers.Given as goal
 

@@ -1,10 +1,11 @@
 use Rattle.std.proofs.Common.{true, ◌≡◌, length, ◌∙◌, rules}
 use lib.ListN.{replicate}
 use Rattle.teg_net.specs.Parts.{to_of}
-use Rattle.teg_howard.specs.Policies.{step_back}
-use Rattle.teg_howard.specs.FoundCircuits.{policy_of, IsBestFound}
+use Rattle.policy_rounds.specs.Policies.{step_back}
+use Rattle.teg_howard.specs.FoundCircuits.{IsBestFound}
+use Rattle.policy_rounds.specs.PolicyLists.{policy_of}
 use Rattle.teg_howard.proofs.Exits.{some_by, all_marked, any_marked}
-use Rattle.teg_howard.proofs.Back.{to_a_circuit, trail}
+use Rattle.policy_rounds.proofs.Back.{to_a_circuit, trail}
 use Rattle.teg_howard.proofs.RoundStates.{can_settle, settled_stands, first_stands}
 use Rattle.teg_howard.proofs.iteration.first_circuit.Goals as goal
 

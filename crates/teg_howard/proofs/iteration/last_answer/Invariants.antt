@@ -1,6 +1,6 @@
 use Rattle.std.proofs.Common.{List, ◌++◌, ◌∷◌, []}
 use Rattle.teg_net.specs.declared.rounds.Round.{Round}
-use Rattle.teg_howard.specs.PolicyRounds.{IsRunTo}
+use Rattle.policy_rounds.specs.PolicyRounds.{IsRunTo}
 use Rattle.teg_howard.specs.RoundStates.{IsIteration}
 use Rattle.teg_howard.proofs.Ending.{left_of}
 use Rattle.teg_howard.proofs.iteration.last_answer.Given as goal

@@ -1,6 +1,7 @@
 use Rattle.std.proofs.Common.{◌≡◌, ◌∙◌, rules}
 use Rattle.std.proofs.lemmas.List.Elements.{same_from_all_zip}
-use Rattle.teg_howard.specs.FoundCircuits.{policy_of, IsBestFound}
+use Rattle.teg_howard.specs.FoundCircuits.{IsBestFound}
+use Rattle.policy_rounds.specs.PolicyLists.{policy_of}
 use Rattle.teg_howard.proofs.RoundStates.{step_policy, ready_new, goes_new, ready_same, goes_same}
 use Rattle.teg_howard.proofs.iteration.next_circuit.Goals as goal
 

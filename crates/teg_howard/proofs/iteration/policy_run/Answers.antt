@@ -3,7 +3,7 @@ use Rattle.std.specs.Prelude.{IfOk}
 use Rattle.std.proofs.lemmas.Result.{IfOk-weaker}
 use Rattle.teg_net.specs.declared.rounds.Round.{Round}
 use Rattle.teg_howard.specs.declared.settling.RoundState.{RoundState}
-use Rattle.teg_howard.specs.PolicyRounds.{IsPolicyRun}
+use Rattle.policy_rounds.specs.PolicyRounds.{IsPolicyRun}
 use Rattle.teg_howard.specs.RoundStates.{GoesOn, StaysAtLast}
 use Rattle.teg_howard.specs.PolicyRuns.{IsAnswerOf, IsAnswerOfLast, AllRise, RiseByCase}
 use Rattle.teg_howard.proofs.Runs.{run_more, run_all, rise_more, last_answers, last_keeps, last_pushed}

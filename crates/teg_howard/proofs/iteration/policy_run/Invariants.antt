@@ -1,5 +1,5 @@
 use Rattle.std.proofs.Common.{◌++◌, ◌∷◌, []}
-use Rattle.teg_howard.specs.PolicyRounds.{IsRunTo}
+use Rattle.policy_rounds.specs.PolicyRounds.{IsRunTo}
 use Rattle.teg_howard.specs.PolicyRuns.{AllRise}
 use Rattle.teg_howard.specs.RoundStates.{IsIteration}
 use Rattle.teg_howard.proofs.Ending.{left_of}

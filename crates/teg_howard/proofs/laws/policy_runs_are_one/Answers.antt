@@ -3,9 +3,9 @@ use Rattle.std.specs.Prelude.{ℤ}
 use Rattle.teg_net.specs.declared.rounds.Round.{Round}
 use Rattle.teg_net.specs.Nets.{NetLists}
 use Rattle.teg_net.specs.Circuits.{IsLive}
-use Rattle.teg_howard.specs.Policies.{Policy}
+use Rattle.policy_rounds.specs.Policies.{Policy}
 use Rattle.teg_net.specs.Parts.{ListsMembers}
-use Rattle.teg_howard.specs.PolicyRounds.{chosen_for, IsPolicyRun}
+use Rattle.policy_rounds.specs.PolicyRounds.{chosen_for, IsPolicyRun}
 use Rattle.teg_howard.specs.OnePolicyRun.{AreSameRounds}
 use Rattle.teg_howard.proofs.Listing.{same_choices}
 use Rattle.teg_howard.proofs.Rising.{each_round}

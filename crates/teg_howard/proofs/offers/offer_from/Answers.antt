@@ -9,7 +9,8 @@ use Rattle.teg_net.specs.Circuits.{no_place, place_at, from_of}
 use Rattle.teg_net.specs.ReducedTimes.{reduced_time, IsMagnitudeWithin}
 use Rattle.teg_net.specs.Limits.{greatest_scaled_potential}
 use Rattle.teg_howard.specs.FoundCircuits.{value_held, value_or_zero}
-use Rattle.teg_howard.proofs.Values.{fits_within, some_of}
+use Rattle.teg_howard.proofs.Values.{some_of}
+use Rattle.policy_rounds.proofs.BestCircuits.{fits_within}
 use Rattle.teg_howard.proofs.offers.offer_from.Goals as goal
 
 pub unwrap-value-requires : goal.unwrap-value-requires

@@ -8,8 +8,9 @@ use mir.Syntax.{w128}
 use Rattle.teg_net.specs.declared.entries.PlaceId.{PlaceId}
 use Rattle.teg_net.specs.Circuits.{from_of}
 use Rattle.teg_net.specs.Parts.{IsPlaceOfPart, to_of}
-use Rattle.teg_howard.specs.Policies.{first_id, offer_of}
-use Rattle.teg_howard.specs.FoundCircuits.{policy_of, IsBar, potentials}
+use Rattle.policy_rounds.specs.Policies.{first_id, offer_of}
+use Rattle.teg_howard.specs.FoundCircuits.{IsBar, potentials}
+use Rattle.policy_rounds.specs.PolicyLists.{policy_of}
 use Rattle.teg_howard.proofs.InnerPlaces.{number_at, none_first, none_between, rises_at, past_all}
 use Rattle.teg_howard.proofs.Improving.{Improving, improving_none, improving_far, improving_take, improving_keep, improving_all}
 use Rattle.teg_howard.proofs.Exits.{no_mark}

@@ -1,4 +1,5 @@
-use Rattle.teg_howard.specs.FoundCircuits.{policy_of, potentials}
+use Rattle.teg_howard.specs.FoundCircuits.{potentials}
+use Rattle.policy_rounds.specs.PolicyLists.{policy_of}
 use Rattle.teg_howard.proofs.InnerPlaces.{number_at}
 use Rattle.teg_howard.proofs.Improving.{Improving}
 use Rattle.teg_howard.proofs.policies.improve.Given as goal

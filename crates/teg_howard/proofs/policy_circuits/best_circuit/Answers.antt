@@ -4,8 +4,9 @@ use Rattle.std.specs.Prelude.{IfSome, IfNone}
 use Rattle.teg_net.specs.declared.entries.PlaceId.{PlaceId}
 use Rattle.teg_howard.specs.declared.policy_circuits.FoundCircuit.{FoundCircuit}
 use Rattle.teg_net.specs.Parts.{IsMember}
-use Rattle.teg_howard.specs.Policies.{IsPolicy, IsPolicyCircuit, Policy}
-use Rattle.teg_howard.specs.FoundCircuits.{policy_of, IsFoundAt, IsBestFound}
+use Rattle.policy_rounds.specs.Policies.{IsPolicy, IsPolicyCircuit, Policy}
+use Rattle.teg_howard.specs.FoundCircuits.{IsFoundAt, IsBestFound}
+use Rattle.policy_rounds.specs.PolicyLists.{policy_of}
 use Rattle.teg_net.specs.Nets.{NetLists, IsNet}
 use Rattle.teg_net.specs.Circuits.{IsLive}
 use Rattle.teg_howard.proofs.Best.{Passes, BestTo, best_skip, skip_unmarked, skip_none, best_of, best_all, none_all, found_circuit}

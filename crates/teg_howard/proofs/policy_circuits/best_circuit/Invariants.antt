@@ -1,4 +1,4 @@
-use Rattle.teg_howard.specs.FoundCircuits.{policy_of}
+use Rattle.policy_rounds.specs.PolicyLists.{policy_of}
 use Rattle.teg_howard.proofs.Best.{BestTo}
 use Rattle.teg_howard.proofs.policy_circuits.best_circuit.Given as goal
 

@@ -2,9 +2,10 @@ use Rattle.std.proofs.Common.{ℕ, List, ◌<◌, ◌+◌, ◌^◌, length, ap, 
 use Rattle.teg_net.specs.Nets.{NetLists, IsNet, IsPlaceOf}
 use Rattle.teg_net.specs.declared.entries.PlaceId.{PlaceId}
 use Rattle.teg_net.specs.Circuits.{place_at, no_place}
-use Rattle.teg_howard.specs.FoundCircuits.{policy_of, IsOnPolicy}
-use Rattle.teg_howard.proofs.Back.{on_back}
-use Rattle.teg_howard.proofs.Walks.{Walked, walked_more, walked_round, walked_below, trail_sums}
+use Rattle.policy_rounds.specs.PolicyLists.{policy_of, IsOnPolicy}
+use Rattle.policy_rounds.proofs.Back.{on_back}
+use Rattle.teg_howard.proofs.Walks.{Walked, walked_more, walked_round, walked_below}
+use Rattle.policy_rounds.proofs.PolicyCircuits.{trail_sums}
 use Rattle.teg_howard.proofs.policy_circuits.circuit_through.Goals as goal
 
 -- the place at the policy's index keeps the limits

@@ -1,4 +1,4 @@
-use Rattle.teg_howard.specs.FoundCircuits.{policy_of, IsOnPolicy}
+use Rattle.policy_rounds.specs.PolicyLists.{policy_of, IsOnPolicy}
 use Rattle.teg_howard.proofs.Walks.{Walked}
 use Rattle.teg_howard.proofs.policy_circuits.circuit_through.Given as goal
 

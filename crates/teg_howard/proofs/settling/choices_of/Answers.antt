@@ -4,7 +4,8 @@ use mir.Val.{SFits, to_z, of_z}
 use mir.Syntax.{w128}
 use Rattle.std.proofs.Common.{◌++◌, ◌∷◌, [], ◌≡◌, ◌+◌, ap, subst, rules}
 use Rattle.teg_net.specs.Parts.{IsMember}
-use Rattle.teg_howard.specs.FoundCircuits.{policy_of, value_or_zero, value_held}
+use Rattle.teg_howard.specs.FoundCircuits.{value_or_zero, value_held}
+use Rattle.policy_rounds.specs.PolicyLists.{policy_of}
 use Rattle.teg_howard.proofs.Choices.{Listed, listed_more, listed_skip}
 use Rattle.teg_howard.proofs.settling.choices_of.Goals.{then-parts-member+in_ok-push, else-parts-member}
 use Rattle.teg_howard.proofs.settling.choices_of.Goals as goal

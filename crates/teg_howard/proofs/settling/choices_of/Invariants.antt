@@ -1,4 +1,4 @@
-use Rattle.teg_howard.specs.FoundCircuits.{policy_of}
+use Rattle.policy_rounds.specs.PolicyLists.{policy_of}
 use Rattle.teg_howard.proofs.Choices.{Listed}
 use Rattle.teg_howard.proofs.settling.choices_of.Given as goal
 

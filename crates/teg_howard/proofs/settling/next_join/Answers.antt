@@ -2,7 +2,7 @@ use Rattle.std.proofs.Common.{arith}
 use borrow.Author.Count.{below_more}
 use Rattle.std.proofs.lemmas.Bool.{iff_false}
 use Rattle.std.proofs.Common.{get_or}
-use Rattle.teg_howard.specs.Policies.{first_id}
+use Rattle.policy_rounds.specs.Policies.{first_id}
 use Rattle.teg_howard.specs.FoundCircuits.{LeadsOn}
 use Rattle.teg_howard.proofs.settling.next_join.Goals as goal
 

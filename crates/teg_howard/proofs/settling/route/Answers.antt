@@ -6,8 +6,9 @@ use mir.Syntax.{w128}
 use Rattle.teg_net.specs.declared.entries.PlaceId.{PlaceId}
 use Rattle.teg_net.specs.Circuits.{from_of}
 use Rattle.teg_net.specs.Parts.{to_of}
-use Rattle.teg_howard.specs.Policies.{first_id, offer_of}
-use Rattle.teg_howard.specs.FoundCircuits.{policy_of, potentials, IsFirstOn}
+use Rattle.policy_rounds.specs.Policies.{first_id, offer_of}
+use Rattle.teg_howard.specs.FoundCircuits.{potentials, IsFirstOn}
+use Rattle.policy_rounds.specs.PolicyLists.{policy_of}
 use Rattle.teg_howard.proofs.Values.{route_step, routed_all, routed_none, held_at}
 use Rattle.teg_howard.proofs.NextJoins.{IsNextJoin, none_before_next, first_is_next, none_is_join}
 use Rattle.teg_howard.proofs.settling.route.Goals as goal

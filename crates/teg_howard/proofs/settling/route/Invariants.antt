@@ -1,7 +1,8 @@
 use Rattle.std.proofs.Common.{List, ◌<◌, length, count_by, is_none}
 use Rattle.std.specs.Prelude.{All}
 use Rattle.teg_net.specs.declared.entries.PlaceId.{PlaceId}
-use Rattle.teg_howard.specs.FoundCircuits.{policy_of, NoneLeadsOn}
+use Rattle.teg_howard.specs.FoundCircuits.{NoneLeadsOn}
+use Rattle.policy_rounds.specs.PolicyLists.{policy_of}
 use Rattle.teg_howard.proofs.Values.{Routed}
 use Rattle.teg_howard.proofs.settling.route.Given as goal
 

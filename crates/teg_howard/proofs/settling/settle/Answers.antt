@@ -1,7 +1,7 @@
 use Rattle.std.proofs.Common.{◌≡◌, refl}
 use Rattle.teg_net.specs.PartAnswers.{first_transition_of}
-use Rattle.teg_howard.specs.FoundCircuits.{policy_of}
-use Rattle.teg_howard.proofs.Turns.{root_member}
+use Rattle.policy_rounds.specs.PolicyLists.{policy_of}
+use Rattle.policy_rounds.proofs.Turns.{root_member}
 use Rattle.teg_howard.proofs.settling.settle.Goals as goal
 
 pub root_of-root-requires-clause-not_empty : goal.root_of-root-requires-clause-not_empty

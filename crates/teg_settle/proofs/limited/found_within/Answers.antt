@@ -1,4 +1,4 @@
-use Rattle.std.proofs.Common.{◌+◌, ◌*◌, ◌≡◌, ap, refl, arith}
+use Rattle.std.proofs.Common.{◌≡◌, ap, refl, arith}
 use Rattle.date_rows.specs.DateTables.{TableDates}
 use Rattle.teg_settle.proofs.Limiting.{past_unseen, past_seen}
 use Rattle.teg_settle.proofs.limited.found_within.Goals as goal

@@ -1,4 +1,4 @@
-use Rattle.std.proofs.Common.{ℕ, ◌+◌, ◌-◌, ◌<◌, ◌≤◌}
+use Rattle.std.proofs.Common.{◌+◌, ◌-◌, ◌<◌}
 use Rattle.teg_settle.specs.Prefixes.{IsAgreeing, move_back}
 use Rattle.teg_settle.proofs.prefixes.common_from.Given as goal
 

@@ -1,4 +1,4 @@
-use Rattle.std.proofs.Common.{ℕ, ◌-◌, get_or, arith}
+use Rattle.std.proofs.Common.{◌-◌, get_or, arith}
 use Rattle.teg_settle.specs.Prefixes.{move_back}
 use Rattle.teg_settle.proofs.Striking.{first_length, length_more, known_agree}
 use Rattle.teg_settle.proofs.prefixes.common_lengths.Goals as goal

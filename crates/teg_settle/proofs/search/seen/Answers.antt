@@ -1,8 +1,7 @@
-use Rattle.std.proofs.Common.{ℕ, ◌≡◌, ◌<◌, ◌≤◌, ◌∙◌, length, sym, ap, false, arith, ⊎_elim}
+use Rattle.std.proofs.Common.{◌≡◌, ◌<◌, ◌≤◌, ◌∙◌, length, sym, ap, false, arith, ⊎_elim}
 use Rattle.std.proofs.lemmas.Bool.{cases_lt}
 use Rattle.std.proofs.lemmas.List.{get_or_read}
 use Rattle.teg_net.proofs.Reading.{written_back}
-use Rattle.teg_settle.proofs.Striking.{none_struck}
 use Rattle.teg_settle.proofs.Tested.{seen_is_least, window_of}
 use Rattle.teg_settle.proofs.search.seen.Goals as goal
 

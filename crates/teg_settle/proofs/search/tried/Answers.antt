@@ -1,4 +1,4 @@
-use Rattle.std.proofs.Common.{ℕ, Result, Ok, Err, MatchResult}
+use Rattle.std.proofs.Common.{Result, Ok, Err, MatchResult}
 use Rattle.teg_settle.specs.ComparedRows.{IsRefuted, IsSeenFrom}
 use Rattle.teg_settle.proofs.Tested.{refuted, seen_from}
 use Rattle.teg_settle.proofs.search.tried.Goals as goal

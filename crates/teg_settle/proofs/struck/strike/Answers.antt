@@ -1,6 +1,5 @@
-use Rattle.std.proofs.Common.{ℕ, ◌<◌, ◌≤◌, ◌≡◌, ◌∙◌, length, length-set, ap, arith}
+use Rattle.std.proofs.Common.{◌∙◌, length, length-set, ap, arith}
 use Rattle.std.proofs.lemmas.List.{get_or_read}
-use Rattle.teg_settle.specs.Prefixes.{move_back}
 use Rattle.teg_settle.proofs.Striking.{moves_of, short_is_refuted, struck_more}
 use Rattle.teg_settle.proofs.struck.strike.Goals as goal
 

@@ -11,9 +11,14 @@ returns-in-Ok-clause-net c =
     (rw c.in-Ok.ensures.net c.in_ok-inputs.ensures.lists)
 
 pub returns-in-Err-clause-refusal : goal.returns-in-Err-clause-refusal
-returns-in-Err-clause-refusal c = record {
-  rest = lists_of c.in_ok-transitions.transitions.items c.in_ok-places.places.items c.in_ok-inputs.inputs.items;
-  transitions = c.in_ok-transitions.ensures ∙ c.transitions.ensures.value;
-  places = c.in_ok-places.ensures.places;
-  is = c.in-Err.ensures.fault;
-}
+returns-in-Err-clause-refusal c = (
+  c.in_ok-places.ensures.left,
+  c.in_ok-inputs.ensures.near,
+  record {
+    rest = lists_of c.in_ok-transitions.transitions.items c.in_ok-places.places.items c.in_ok-inputs.inputs.items;
+    transitions = c.in_ok-transitions.ensures ∙ c.transitions.ensures.value;
+    places = c.in_ok-places.ensures.places;
+    inputs = c.in_ok-inputs.ensures.lists;
+    is = c.in-Err.ensures.fault;
+  },
+)

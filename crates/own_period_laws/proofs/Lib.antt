@@ -1,0 +1,3 @@
+pub mod OwnForms
+pub mod Worths
+pub mod OwnPeriods

@@ -1,0 +1,2 @@
+pub mod OwnPeriods
+pub mod OwnForms

@@ -1,0 +1,6 @@
+use Rattle.std.proofs.Common.{ℕ, ◌+◌, ◌<◌}
+use Rattle.own_periods.specs.OwnRows.{IsMetIn}
+use Rattle.own_periods.proofs.meets.are_met.Given as goal
+
+abbrev pub invariant-loop-at : goal.invariant-loop-at
+invariant-loop-at l = (a : ℕ) → a < l.at → IsMetIn l.net l.rows l.owns l.transition.index (5001 + a)

@@ -1,0 +1,182 @@
+//! The number and the period of the shortest form of a net whose transitions go on by periods of
+//! their own: the period is their least common multiple, however long that is.
+ghost use Rattle.std.specs.Prelude.{ℕ, ◌≡◌, ◌+◌, ◌<◌, ◌≤◌, ◌⊎◌, IfOk, IfSome, IsTrue, length};
+ghost use Rattle.teg_check.specs.Ranks.{IsRanking};
+ghost use Rattle.teg_net.specs.Nets.{IsInput};
+ghost use Rattle.date_rows.specs.DateTables.{HasLeastDates};
+ghost use Rattle.own_period_laws.specs.OwnForms.{IsLeastCommon};
+ghost use Rattle.own_periods.specs.OwnNumbers.{AreLeastNumbers};
+ghost use Rattle.own_periods.specs.OwnRows.{AreOwn, AreShortRows, GoOnInRows, IsLatestStart, IsLeastMultiple, IsOwn, IsPace, IsStart, period_in};
+
+use crate::meets::all_met;
+use crate::periods::{OwnPeriod, is_moved, own_periods};
+use crate::slack::{all_keep_slack, have_one_pace};
+use date_rows::{Table, first_dates};
+use std::alloc::{AllocError, Global};
+use teg_check::Live;
+use teg_net::{Net, OutOfMemory, TransitionId};
+
+// How many rows are made.
+const ROWS: u32 = 10_000;
+
+// Past which number dates come again.
+const FROM: u64 = 4_000;
+
+/// From when on the dates of a net are periodic: the number and the period of its least dating's
+/// shortest form.
+#[derive(Clone, Copy, Debug, Drop)]
+pub struct OwnNumbers {
+    /// The number past which the dates go on by steps, 0 or more.
+    pub after: u64,
+    /// In how many numbers they do, at least 1.
+    pub period: u64,
+}
+
+// The least number past which the dates of the transition go on by its period.
+fn own_start(rows: &Table, transition: TransitionId, own: OwnPeriod) -> u64
+    requires rows { AreShortRows rows.now }
+    requires transition { transition.index < rows.now.width }
+    requires own { IsOwn rows.now transition.index own }
+    ensures { IsStart rows.now transition.index own result }
+{
+    let mut after = 0;
+    for number in 1..FROM + 1 {
+        if !is_moved(rows, transition, number, own) {
+            after = number;
+        }
+    }
+    after
+}
+
+// The later of two numbers.
+fn later(a: u64, b: u64) -> u64
+    ensures first { a ≤ result }
+    ensures second { b ≤ result }
+    ensures which { (result ≡ a) ⊎ (result ≡ b) }
+{
+    if a < b { b } else { a }
+}
+
+// The least past which those of all do.
+fn latest_start(rows: &Table, owns: &[OwnPeriod]) -> u64
+    requires rows { AreShortRows rows.now }
+    requires owns { AreOwn rows.now owns.now }
+    ensures { IsLatestStart rows.now owns.now (length owns.now) result }
+{
+    // The table keeps its limits.
+    let _count = rows.count();
+    let mut after = 0;
+    for index in 0..owns.len() {
+        let id = TransitionId {
+            index: index as u32,
+        };
+        after = later(after, own_start(rows, id, owns[index]));
+    }
+    after
+}
+
+// The least common multiple of two numbers, if it is below 2^64.
+fn least_multiple(a: u64, b: u64) -> Option<u64>
+    requires first { 1 ≤ a }
+    requires second { 1 ≤ b }
+    ensures { IfSome result (IsLeastMultiple a b) }
+{
+    let mut whole = a;
+    'multiples: for times in 0..b {
+        if whole % b == 0 {
+            return Some(whole);
+        }
+        whole = whole.checked_add(a)?;
+    }
+    None
+}
+
+// That of all periods.
+fn whole_period(_rows: &Table, owns: &[OwnPeriod]) -> Option<u64>
+    requires owns { AreOwn _rows.now owns.now }
+    ensures { IfSome result (IsLeastCommon (length owns.now) (period_in owns.now)) }
+{
+    let mut whole = 1;
+    for own in owns {
+        whole = least_multiple(whole, own.period)?;
+    }
+    Some(whole)
+}
+
+// Whether the rows tell that all transitions go on by their periods.
+fn go_on(
+    alloc: Global,
+    net: &Net,
+    rows: &Table,
+    pace: OwnPeriod,
+    owns: &[OwnPeriod],
+) -> Result<bool, AllocError>
+    requires rows { AreShortRows rows.now }
+    requires width { rows.now.width ≡ length net.now.transitions }
+    requires owns { AreOwn rows.now owns.now }
+    requires pace { IsPace pace }
+    ensures { IfOk result (λ go. IsTrue go → GoOnInRows net.now rows.now pace owns.now) }
+{
+    if !have_one_pace(rows, pace, owns) {
+        return Ok(false);
+    }
+    if !all_keep_slack(net, rows, pace, owns) {
+        return Ok(false);
+    }
+    let met = all_met(alloc, net, rows, owns)?;
+    Ok(met)
+}
+
+// The number and the period, if the rows and the periods of the transitions tell them.
+fn told_numbers(
+    alloc: Global,
+    net: &Net,
+    _live: &Live,
+    rows: &Table,
+    owns: &[OwnPeriod],
+) -> Result<Option<OwnNumbers>, OutOfMemory>
+    requires stands { IsRanking net.now _live.now }
+    requires alone { (t : ℕ) → IsInput net.now t → ⊥ }
+    requires some { 0 < length net.now.transitions }
+    requires rows { AreShortRows rows.now }
+    requires width { rows.now.width ≡ length net.now.transitions }
+    requires least { HasLeastDates net.now rows.now }
+    requires owns { AreOwn rows.now owns.now }
+    ensures { IfOk result (λ found. IfSome found (AreLeastNumbers net.now)) }
+{
+    // The net keeps its rules.
+    net.rules();
+    let go = go_on(alloc, net, rows, owns[0], owns)?;
+    if !go {
+        return Ok(None);
+    }
+    match whole_period(rows, owns) {
+        None => Ok(None),
+        Some(period) => {
+            let after = latest_start(rows, owns);
+            Ok(Some(OwnNumbers { after, period }))
+        }
+    }
+}
+
+/// The number and the period of the shortest settled form of a live net without inputs that has a
+/// transition (chapter 3, cyclicity), if its first 10,000 rows tell it: each transition goes on
+/// from number 4,000 at the latest by a period of at most 4,000 of its own, and the period of the
+/// net is their least common multiple, below 2^64. `None` says nothing. It takes memory for the
+/// rows, 32 MB for 400 transitions, and time of order `r (n + p)` for r rows, n transitions and p
+/// places; where a transition has many places, a firing is asked of those that lead on by its
+/// period. `OutOfMemory` comes only where no memory is found.
+pub fn own_numbers(alloc: Global, net: &Net, live: &Live) -> Result<Option<OwnNumbers>, OutOfMemory>
+    requires stands { IsRanking net.now live.now }
+    requires alone { (t : ℕ) → IsInput net.now t → ⊥ }
+    requires some { 0 < length net.now.transitions }
+    ensures { IfOk result (λ found. IfSome found (AreLeastNumbers net.now)) }
+{
+    // The net keeps its rules.
+    net.rules();
+    let rows = first_dates(alloc, net, live, ROWS)?;
+    match own_periods(alloc, &rows)? {
+        None => Ok(None),
+        Some(owns) => told_numbers(alloc, net, live, &rows, &owns),
+    }
+}
