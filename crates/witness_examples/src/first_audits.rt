@@ -1,8 +1,9 @@
 //! Whole audits of the answers that are asked first, over a shelf and a sink in memory: each kind, two
 //! that no checker reads, and several questions in one call.
 use crate::audits::{Call, FILES};
+use audit_calls::AuditStatus;
 use example_nets::{shelf_of, sink_of, words_of};
-use pace_audit::{AuditStatus, audit_first};
+use pace_audit::audit_first;
 use std::alloc::Global;
 use std::test::Fail;
 
