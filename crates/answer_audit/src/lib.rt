@@ -18,10 +18,10 @@
 //! examples stand in `witness_examples`.
 #![tactic(auto)]
 
-mod audit;
+mod all_answers;
 mod by_file;
 mod files;
 mod searched;
 
-pub use audit::audit;
+pub use all_answers::audit;
 pub use audit_calls::AuditStatus;
