@@ -3,7 +3,7 @@
 
     tools/forged_answers.py [--teg PATH] [--runner PATH]
 
-PATH is the built program, or that of the checker; where none is named it is the one that `rt ci` leaves. Sixteen nets, those of
+PATH is the built program, or that of the checker, as pace_runner; where none is named it is the one that `rt ci` leaves. Sixteen nets, those of
 examples/, drawn ones and one without a circuit, are asked some hundred and eighty questions of the commands that the checker
 reads. Of each answer a number, a name, a word or a line is changed, left out, doubled or moved, one at a time, and each text is
 handed to the checker.
@@ -15,7 +15,7 @@ line that the program does not print.
 
 For each command it tells how many texts were tried, how many were shown, and how many of these are what the program prints,
 have another witness, and are false. The last line is 'N passed, M failed', where a text fails that is shown and false, or an
-answer of `teg` that is not shown. The exit status is 0 where none failed.
+answer of `teg` that is not shown. What the checker does not read is passed over. The exit status is 0 where none failed.
 """
 import argparse
 import itertools

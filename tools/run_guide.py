@@ -1,7 +1,7 @@
 #!/usr/bin/env python3
 """Runs the guide for planners and the other documents: what they show is what the program prints.
 
-    tools/run_guide.py [--witnesses] [PROGRAM]
+    tools/run_guide.py [--witnesses [--runner PATH]] [PROGRAM]
 
 PROGRAM is the built teg; where none is named it is the one that `rt ci` leaves. The commands of README.md, of
 docs/GUIDE*.md, of tools/recipe_rows.md, which has what these commands make of other files, and of the other files of
@@ -21,10 +21,12 @@ does.
 With --witnesses each answer of `check`, `list`, `cycle`, `dates`, `slack`, `size`, `bound`, `jit` and `timetable` that a command of
 the guide asks for is handed to the program witness_runner that `rt ci` leaves, which has to tell it as shown, and then with
 one number of it made greater by one, or of a circuit that stands without numbers or keeps delays with the last place left
-out, which has to be told as not shown or refuted.
+out, which has to be told as not shown or refuted. PATH is another checker, as pace_runner: answers that it does not read are passed
+over and counted.
 
 A difference is told. The last line is 'N passed, M failed', and the exit status 0 where some passed and none failed.
 """
+import argparse
 import importlib.util
 import os
 import re
@@ -44,6 +46,7 @@ LISTED = "dates of "
 NO_CIRCUIT = "no circuit\n"
 SLACK = "\nplace "
 BOUND = "bound "
+NO_CHECKER = 4
 KEPT = re.compile(r"settled after .*\nkept\n")
 CLAIMS = ("live\n", "refused: token-free circuit ", "cycle time ", NO_CIRCUIT, "size ", BOUND, "no bound: ", "late ", SETTLED, LISTED, TABLE, FOREVER)
 
@@ -108,8 +111,20 @@ def changed(text):
             yield "".join([*lines[:at], other, *lines[at + 1 :]])
 
 
-def odd_witnesses(command, folder):
-    """Of each answer that the command asks for: its words, and how often the checker tells otherwise than it should."""
+class Checker:
+    """A checker of answers: the program, whether it has to read all, whether it told each answer as it should, and how many
+    it did not read."""
+
+    def __init__(self, program):
+        self.program = os.path.abspath(program)
+        self.reads_all = os.path.basename(program) == os.path.basename(WITNESS)
+        self.told = []
+        self.passed_over = 0
+
+
+def odd_witnesses(command, folder, checker):
+    """Of each answer that the command asks for: its words, and how often the checker tells otherwise than it should. What it
+    need not read is counted."""
     for asked in ASKS.findall(command):
         words = asked.split()
         text = run(words, folder)[1]
@@ -121,14 +136,18 @@ def odd_witnesses(command, folder):
         for other, is_shown in [(text, True), *((it, False) for it in changed(text))]:
             with open(f"{folder}/answer.txt", "w", encoding="utf-8") as file:
                 file.write(other)
-            status, told = run([WITNESS, *files], folder)
+            status, told = run([checker.program, *files], folder)
+            if status == NO_CHECKER and not checker.reads_all:
+                checker.passed_over += 1
+                break
             odd += not told.startswith({0: "shown ", 1: "refuted ", 3: "not shown "}.get(status, "?")) or is_shown != (status == 0)
-        yield asked, odd
+        else:
+            yield asked, odd
 
 
-def run_blocks(name, text, folder, witnesses=None):
-    """Runs the commands of a document, and tells for each whether it prints what the document shows. Where a list of
-    witnesses is given, whether each answer is shown is added to it."""
+def run_blocks(name, text, folder, checker=None):
+    """Runs the commands of a document, and tells for each whether it prints what the document shows. Where a
+    checker is given, it is told there whether each answer is shown."""
     for block in blocks_of(text):
         named = re.fullmatch(r"# (\w+)\.(toml|sed|awk|py)", block[2][0]) if block[2] else None
         if named and named[2] == block[1]:
@@ -141,9 +160,9 @@ def run_blocks(name, text, folder, witnesses=None):
             well = printed == wanted
             if not well:
                 print(f"{name}:{number}: {command}\n  it shows\n{indented(wanted)}  it prints\n{indented(printed)}", end="")
-            if witnesses is not None:
-                for asked, odd in odd_witnesses(command, folder):
-                    witnesses.append(not odd)
+            if checker is not None:
+                for asked, odd in odd_witnesses(command, folder, checker):
+                    checker.told.append(not odd)
                     if odd:
                         print(f"{name}:{number}: {asked}: {odd} texts are told otherwise than they should be")
             yield well
@@ -200,23 +219,29 @@ def furnish(folder, program):
         os.symlink(f"{TOP}/{name}", f"{folder}/{name}")
 
 
-def main(program, witnesses):
-    if not is_there(program) or witnesses is not None and not is_there(WITNESS):
+def main(program, checker):
+    if not is_there(program) or checker is not None and not is_there(checker.program):
         return summed_up(0, 1)
     texts = documents()
     guides = {name: text for name, text in texts.items() if name.startswith("docs/GUIDE")}
     with tempfile.TemporaryDirectory(prefix="teg-guide-") as folder:
         furnish(folder, program)
-        seen = {name: witnesses if name in guides else None for name in texts}
+        seen = {name: checker if name in guides else None for name in texts}
         shown = [well for name, text in texts.items() for well in run_blocks(name, text, folder, seen[name])]
         nets = list(run_nets(guides.values(), folder))
-    told = [*shown, *nets, *(witnesses or [])]
+    witnesses = checker.told if checker is not None else []
+    told = [*shown, *nets, *witnesses]
     print(f"documents: {len(shown)} commands, and {len(nets)} files of examples/")
-    if witnesses is not None:
-        print(f"witnesses: {len(witnesses)} answers, each as it is and with a number changed")
-    return summed_up(told.count(True) if shown and nets and witnesses != [] else 0, told.count(False))
+    if checker is not None:
+        passed_over = f", and {checker.passed_over} passed over" if checker.passed_over else ""
+        print(f"witnesses: {len(witnesses)} answers, each as it is and with a number changed{passed_over}")
+    return summed_up(told.count(True) if shown and nets and (checker is None or witnesses) else 0, told.count(False))
 
 
 if __name__ == "__main__":
-    words = [word for word in sys.argv[1:] if word != "--witnesses"]
-    sys.exit(main(words[0] if words else BUILT, [] if "--witnesses" in sys.argv else None))
+    words = argparse.ArgumentParser(usage=__doc__)
+    words.add_argument("--witnesses", action="store_true")
+    words.add_argument("--runner", default=WITNESS)
+    words.add_argument("program", nargs="?", default=BUILT)
+    asked = words.parse_args()
+    sys.exit(main(asked.program, Checker(asked.runner) if asked.witnesses else None))

@@ -1,16 +1,11 @@
 -- What is found of an answer, and when it is so.
-use Rattle.std.specs.Prelude.{ℕ, ◌+◌, ◌≡◌, ⊤, List}
+use Rattle.std.specs.Prelude.{ℕ, ◌≡◌, List}
 use Rattle.teg_net.specs.Nets.{NetLists}
-use Rattle.teg_net.specs.Circuits.{IsLive}
 use Rattle.teg_net.specs.Ratios.{Fraction}
 use Rattle.teg_net.specs.declared.entries.PlaceId.{PlaceId}
 use Rattle.teg_due.specs.declared.rows.Due.{Due}
 use Rattle.late_lines.specs.declared.late.LateFiring.{LateFiring}
 use Rattle.delay_laws.specs.declared.table.Timetable.{Timetable}
-use Rattle.witness_check.specs.Liveness.{TellsDeadlock, TellsLive}
-use Rattle.pace_check.specs.ShownCycles.{IsShownPace}
-use Rattle.pace_check.specs.ShownSizes.{IsShownSize}
-use Rattle.pace_check.specs.declared.sizes.ShownSize.{ShownSize}
 use Rattle.round_check.specs.ShownRounds.{IsShownRounds}
 use Rattle.dating_check.specs.FirstLate.{IsShownFirstLate}
 use Rattle.dating_check.specs.ShownForms.{IsShownSettled}
@@ -23,29 +18,17 @@ use Rattle.delay_check.specs.ShownDelays.{IsShownKept, IsShownRecovered}
 use Rattle.forever_check.specs.ShownReleases.{IsShownForever}
 use Rattle.bound_check.specs.ShownBounds.{IsShownBound}
 use Rattle.bound_check.specs.declared.bound.ShownBound.{ShownBound}
-use Rattle.answer_check.specs.NoCircuits.{IsShownNoCircuit}
-use Rattle.answer_check.specs.ShownDates.{IsShownDate}
-use Rattle.answer_check.specs.ShownLists.{IsListText, IsRefutedList, IsShownList}
-use Rattle.answer_check.specs.ShownSlacks.{IsShownSlack}
-use Rattle.answer_check.specs.declared.date.ShownDate.{ShownDate}
 use Rattle.answer_audit.specs.declared.files.EndlessDue.{EndlessDue}
-use Rattle.answer_audit.specs.declared.finding.Finding.{Finding}
-use Rattle.answer_audit.specs.declared.finding.Finding.TheVariants.{Shown, Refuted, WrongLine, NotShown, NoChecker}
-use Rattle.answer_audit.specs.declared.kinds.Alone.{Alone}
-use Rattle.answer_audit.specs.declared.kinds.Alone.TheVariants.{Live, Deadlock, Listed, NoCircuit, Slack, Cycle, Rounds, Settled, Size, Bound}
+use Rattle.audit_calls.specs.declared.finding.Finding.{Finding}
+use Rattle.audit_calls.specs.declared.finding.Finding.TheVariants.{Shown, Refuted, WrongLine, NotShown, NoChecker}
+use Rattle.audit_calls.specs.declared.kinds.Searched.{Searched}
+use Rattle.audit_calls.specs.declared.kinds.Searched.TheVariants.{Rounds, Settled, Bound}
 
 -- the text is an answer of this kind that is shown on the net alone
-abbrev pub IsShownAlone : NetLists → Alone → List ℕ → Type 0
-IsShownAlone net Live text = IsLive net × TellsLive net text
-IsShownAlone net Deadlock text = TellsDeadlock net text
-IsShownAlone net Listed text = (count : ℕ) × IsShownList net text count
-IsShownAlone net NoCircuit text = IsShownNoCircuit net text
-IsShownAlone net Slack text = (ratio : Fraction) × IsShownSlack net text ratio
-IsShownAlone net Cycle text = (ratio : Fraction) × IsShownPace net text ratio
-IsShownAlone net Rounds text = (ratio : Fraction) × IsShownRounds net text ratio
-IsShownAlone net Settled text = (shown : ShownSettled) × IsShownSettled net text shown
-IsShownAlone net Size text = (shown : ShownSize) × IsLive net × IsShownSize net text shown
-IsShownAlone net Bound text = (shown : ShownBound) × IsShownBound net text shown
+abbrev pub IsShownSearched : NetLists → Searched → List ℕ → Type 0
+IsShownSearched net Rounds text = (ratio : Fraction) × IsShownRounds net text ratio
+IsShownSearched net Settled text = (shown : ShownSettled) × IsShownSettled net text shown
+IsShownSearched net Bound text = (shown : ShownBound) × IsShownBound net text shown
 
 -- the text is the table of latest dates for these due dates
 abbrev pub IsShownPlanFor : NetLists → List ℕ → Due → Type 0
@@ -59,10 +42,6 @@ IsShownReleasesFor net text due = IsShownForever net due.rows.items text
 abbrev pub IsShownLateFor : NetLists → List ℕ → Due → Type 0
 IsShownLateFor net text due = (late : LateFiring) × IsShownFirstLate net due.rows.items text late
 
--- the text tells the date of a firing
-abbrev pub IsShownDateOf : NetLists → List ℕ → Type 0
-IsShownDateOf net text = (shown : ShownDate) × IsShownDate net text shown
-
 -- the text tells the delays that are left of this timetable, which departs again every `period`, and a circuit that keeps some
 abbrev pub IsShownKeptFor : NetLists → ℕ → List ℕ → Timetable → Type 0
 IsShownKeptFor net period text table = (circuit : List PlaceId) × IsShownKept net period table text circuit
@@ -71,23 +50,6 @@ IsShownKeptFor net period text table = (circuit : List PlaceId) × IsShownKept n
 -- is none
 abbrev pub IsShownRecoveredFor : NetLists → ℕ → List ℕ → Timetable → Type 0
 IsShownRecoveredFor net period text table = (last : ℕ) × IsShownRecovered net period table text last
-
--- what is found of an answer that says this is so: it is shown only where it is, and refuted only where the net is live and it is not
-abbrev pub IsFound : NetLists → Type 0 → Finding → Type 0
-IsFound net says Shown = says
-IsFound net says Refuted = IsLive net × (says → ⊥)
-IsFound net says (WrongLine line) = ⊥
-IsFound net says NotShown = ⊤
-IsFound net says NoChecker = ⊥
-
--- what is found of a list: it is shown only where it is that of the least dates, a line of it is wrong only where this is the first row
--- that does not tell the dates of the least dating, and neither is found only where the net is not live or the text is no list
-abbrev pub IsListFound : NetLists → List ℕ → Finding → Type 0
-IsListFound net text Shown = IsShownAlone net Listed text
-IsListFound net text Refuted = ⊥
-IsListFound net text (WrongLine line) = (row : ℕ) × (line ≡ row + 1) × IsRefutedList net text row × (IsShownAlone net Listed text → ⊥)
-IsListFound net text NotShown = IsLive net → (count : ℕ) (words : ℕ → ℕ → List ℕ) → IsListText net text count words → ⊥
-IsListFound net text NoChecker = ⊥
 
 -- the line by which this is told to be false in a table, counted from 0
 abbrev pub IsFaultLine : TableFault → ℕ → Type 0
@@ -106,8 +68,3 @@ IsPlanFound net text due (WrongLine line) =
     (fault : TableFault) × IsFaultLine fault line × IsFalseTable net due.rows.items text fault × (IsShownPlanFor net text due → ⊥)
 IsPlanFound net text due NotShown = IsRightIfTable net due.rows.items text
 IsPlanFound net text due NoChecker = ⊥
-
--- what is found of an answer of this kind, on the net alone
-abbrev pub IsFoundAlone : NetLists → Alone → List ℕ → Finding → Type 0
-IsFoundAlone net Listed text finding = IsListFound net text finding
-IsFoundAlone net kind text finding = IsFound net (IsShownAlone net kind text) finding

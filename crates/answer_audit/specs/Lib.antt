@@ -1,10 +1,3 @@
-pub mod AnswerWords
-pub mod Questions
 pub mod AnswerFindings
-pub mod AuditStatuses
-pub mod Claims
-pub mod AuditFiles
+pub mod RowFiles
 pub mod Audits
-pub mod AuditCalls
-pub mod AuditMeanings
-pub mod AuditWriting

@@ -1,14 +1,14 @@
 //! What is found of an answer that was asked with a file: a function for each kind.
 ghost use Rattle.std.specs.Prelude.{IfOk};
 ghost use Rattle.csv_records.specs.Records.{most_file_bytes};
-ghost use Rattle.answer_audit.specs.AnswerFindings.{IsFound, IsPlanFound, IsShownDateOf, IsShownKeptFor, IsShownLateFor, IsShownRecoveredFor, IsShownReleasesFor};
-ghost use Rattle.answer_audit.specs.AuditFiles.{SaysDue, SaysEndlessDue, SaysTable, SaysText, most_answer_bytes};
-ghost use Rattle.answer_audit.specs.Audits.{FindsByFile, FindsDate, FindsKept, FindsLate, FindsPlan, FindsRecovered, FindsReleases};
+ghost use Rattle.audit_calls.specs.AnswerAudits.{FindsByFile};
+ghost use Rattle.pace_audit.specs.PaceFindings.{IsFound};
+ghost use Rattle.answer_audit.specs.AnswerFindings.{IsPlanFound, IsShownKeptFor, IsShownLateFor, IsShownRecoveredFor, IsShownReleasesFor};
+ghost use Rattle.answer_audit.specs.Audits.{FindsKept, FindsLate, FindsPlan, FindsRecovered, FindsReleases};
+ghost use Rattle.answer_audit.specs.RowFiles.{SaysDue, SaysEndlessDue, SaysTable};
 
-use crate::files::{EndlessDue, open_due, open_endless, open_table, open_text};
-use crate::finding::Finding;
-use crate::question::Beside;
-use answer_check::shown_date;
+use crate::files::{EndlessDue, open_due, open_endless, open_table};
+use audit_calls::{Beside, Finding};
 use dating_check::{TableFault, shown_first_late, shown_table, table_fault};
 use delay_check::{shown_kept, shown_recovered};
 use delay_laws::Timetable;
@@ -174,51 +174,6 @@ pub(crate) fn find_late<S: Shelf>(
 {
     match beside {
         Beside::File { name } => late_by_file(alloc, net, name.as_str(), text, shelf),
-        _ => Ok(Some(Finding::NoChecker)),
-    }
-}
-
-// Of `date`, by the text of a list.
-fn date_finding(alloc: Global, net: &Net, list: &str, text: &str) -> Result<Finding, OutOfMemory>
-    ensures { IfOk result (IsFound net.now (IsShownDateOf net.now text.now)) }
-{
-    match shown_date(alloc, net, list, text)? {
-        Some(_) => Ok(Finding::Shown),
-        None => Ok(Finding::NotShown),
-    }
-}
-
-// The same by the file of this name, which has the list.
-fn date_by_file<S: Shelf>(
-    alloc: Global,
-    net: &Net,
-    name: &str,
-    text: &str,
-    shelf: &mut S,
-) -> Result<Option<Finding>, OutOfMemory>
-    ensures { IfOk result (FindsByFile SaysText (λ _. IsFound net.now (IsShownDateOf net.now text.now))
-        name.now most_answer_bytes (S.state shelf.old) (S.state shelf.new)) }
-{
-    let Some(list) = open_text(alloc, name, shelf)? else {
-        return Ok(None);
-    };
-    let finding = date_finding(alloc, net, list.as_str(), text)?;
-    Ok(Some(finding))
-}
-
-// The same by what it was asked with.
-pub(crate) fn find_date<S: Shelf>(
-    alloc: Global,
-    net: &Net,
-    beside: &Beside,
-    text: &str,
-    shelf: &mut S,
-) -> Result<Option<Finding>, OutOfMemory>
-    ensures { IfOk result (FindsDate net.now beside.now text.now
-        (S.state shelf.old) (S.state shelf.new)) }
-{
-    match beside {
-        Beside::File { name } => date_by_file(alloc, net, name.as_str(), text, shelf),
         _ => Ok(Some(Finding::NoChecker)),
     }
 }

@@ -58,7 +58,7 @@ choice a ba 0
 ";
 
 // The files of the shelf, by name.
-const FILES: [(&str, &[u8]); 40] = [
+pub(crate) const FILES: [(&str, &[u8]); 40] = [
     (
         "loop",
         b"transition = [{ name = \"a\" }, { name = \"b\" }]
@@ -188,7 +188,7 @@ place = [
 ];
 
 // The words of a call, how it ends, and what it writes.
-type Call<'a> = (&'a [&'a str], AuditStatus, &'a str);
+pub(crate) type Call<'a> = (&'a [&'a str], AuditStatus, &'a str);
 
 const CALLS: [Call<'static>; 53] = [
     (&["loop", "live"], AuditStatus::Shown, "shown live\n"),

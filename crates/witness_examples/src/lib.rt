@@ -2,7 +2,7 @@
 //! not, paces, rounds, sizes, bounds, dates, latest dates, late rows, lists, slacks, delays that stay
 //! or die out, and releases without end, and the same texts with a digit changed, which show nothing;
 //! of `word_lines`, by texts that are read; of `release_nets`, by the dates of such a net; and whole
-//! calls of `answer_audit`. The crate has tests alone.
+//! calls of `answer_audit` and of `pace_audit`, the auditors of `audit_calls`. The crate has tests alone.
 #![tactic(auto)]
 
 #[cfg(test)]
@@ -13,6 +13,8 @@ mod audits;
 mod bound_audits;
 #[cfg(test)]
 mod bounds;
+#[cfg(test)]
+mod first_audits;
 #[cfg(test)]
 mod forever;
 #[cfg(test)]

@@ -1,0 +1,9 @@
+pub mod AnswerWords
+pub mod Questions
+pub mod AuditStatuses
+pub mod Claims
+pub mod AuditFiles
+pub mod AnswerAudits
+pub mod AuditCalls
+pub mod AuditMeanings
+pub mod AuditWriting

@@ -1,0 +1,2 @@
+pub mod PaceFindings
+pub mod PaceAudits
