@@ -104,6 +104,8 @@ def questions(net, folder):
         yield ["jit", net, late], [late]
         orders = written(f"{base}.orders.csv", [f"{name},2,4000,9000,11000" for name in asked[-2:]])
         yield ["forever", net, orders], [orders]
+        rush = written(f"{base}.rush.csv", [f"{name},2,4,9000,9001" for name in asked[-2:]])
+        yield ["forever", net, rush], [rush]
     table = f"{TOP}/examples/railway_late.csv"
     if net.endswith("/railway.toml"):
         for period in ("24", "30", "32"):

@@ -32,7 +32,7 @@ number_below (At (negsuc m)) n low most = absurd (omega (arith, ints, low))
 number_below Never n low most = absurd most
 
 -- a step that is not at most a number is more than it
-step_cases : (s : ℤ) (n : ℕ) → (s ≤ℤ pos n) ⊎ ((m : ℕ) × (s ≡ pos m) × (n < m))
+pub step_cases : (s : ℤ) (n : ℕ) → (s ≤ℤ pos n) ⊎ ((m : ℕ) × (s ≡ pos m) × (n < m))
 step_cases (pos m) n = ⊎_elim (λ (l : n < m). inr (m, refl, l)) (λ (l : m ≤ n). inl (omega (arith, ints, l))) (cases_lt n m)
 step_cases (negsuc m) n = inl (omega (arith, ints))
 
@@ -54,7 +54,7 @@ module _ (net : NetLists) (u x : ℕ → ℕ → Date) (feasible : IsFeasibleUnd
       ap (λ (n : ℕ). z (k + n)) w.by_form
       ∙ rounds_on (length net.transitions) x f.after f.period (step_of_form f) stands.repeats r.transition.index k periods row.in_range (omega arith)
 
-  due_on : (k : ℕ) → past < k → due_number r (k + turn) ≡ due_number r k + fall
+  pub due_on : (k : ℕ) → past < k → due_number r (k + turn) ≡ due_number r k + fall
   due_on k l =
       let far = w.past_list in
       ap (λ (n : ℕ). due_number r (k + n)) w.by_list
@@ -92,7 +92,7 @@ module _ (net : NetLists) (u x : ℕ → ℕ → Date) (feasible : IsFeasibleUnd
 
   -- ---- no faster
 
-  number_on : (m a k j : ℕ) → rise ≡ pos m → past < k → z k ≡ At (pos a) → z (k + j * turn) ≡ At (pos (a + j * m))
+  pub number_on : (m a k j : ℕ) → rise ≡ pos m → past < k → z k ≡ At (pos a) → z (k + j * turn) ≡ At (pos (a + j * m))
   number_on m a k zero e l is =
       let same : k + 0 * turn ≡ k = omega arith in
       let none : a ≡ a + 0 * m = omega arith in

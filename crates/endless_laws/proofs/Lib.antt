@@ -1,3 +1,4 @@
 pub mod KeptRows
 pub mod KeptForms
+pub mod LateRows
 pub mod WalksToDues

@@ -1,5 +1,6 @@
 pub mod KeptRows
 pub mod KeptWindows
+pub mod LateRows
 pub mod WalksToDues
 pub use Rattle.dioid.specs as dioid
 pub use Rattle.teg_net.specs as teg_net

@@ -20,15 +20,15 @@ use teg_net::{Again, DateList, GREATEST_FIRING_NUMBER, InputList, Net, OutOfMemo
 // Past which number a form and a row go on together, in how many firings, which are so many periods
 // of the form, and by how much the due dates then rise.
 #[derive(Clone, Copy)]
-struct Window {
-    past: u64,
-    turn: u64,
+pub(crate) struct Window {
+    pub(crate) past: u64,
+    pub(crate) turn: u64,
     periods: u64,
     rise: u128,
 }
 
 // The due dates of the row as the list of an input, which tells each of them.
-fn list_of(alloc: Global, row: &EndlessRow) -> Result<InputList, AllocError>
+pub(crate) fn list_of(alloc: Global, row: &EndlessRow) -> Result<InputList, AllocError>
     ensures { IfOk result (IsListOf row.now) }
 {
     let dates = Vec::from_slice(alloc, row.dates.as_slice())?;
@@ -60,7 +60,7 @@ fn periods_of(period: u64, every: u64) -> u64
 }
 
 // The window of the form and the row.
-fn window_of(form: &Settled, row: &EndlessRow) -> Window
+pub(crate) fn window_of(form: &Settled, row: &EndlessRow) -> Window
     requires row { IsRowOfForm form.now row.now }
     requires dates { length row.now.dates ≤ most_endless_dates }
     ensures window { IsWindowOf form.now row.now result }
@@ -81,7 +81,7 @@ fn window_of(form: &Settled, row: &EndlessRow) -> Window
 }
 
 // A number from 0 on.
-fn natural(number: i128) -> u128
+pub(crate) fn natural(number: i128) -> u128
     requires { pos 0 ≤ℤ number }
     ensures { number ≡ pos result }
 {

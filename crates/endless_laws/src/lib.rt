@@ -1,19 +1,23 @@
-//! When the releases of a net meet endless due dates, and when they are the latest that do (chapters
-//! 3 and 5).
+//! When the releases of a net meet endless due dates, which firing comes late where they do not, and
+//! when they are the latest that do (chapters 3 and 5).
 //!
 //! The law [`windows_tell_kept`]: a window of a settled form tells whether its dates keep a row for
 //! every firing. [`keeps_due_rows`] asks it of the least dating of a net, as its input lists release
-//! it. The law [`walks_move_on`]: finitely many walks to due firings show the dates of releases
-//! without end; and [`shown_inputs_are_latest`]: such releases that meet what is due are the latest.
-//! Each law is the contract of a function that does nothing when it runs. The crate stands on
-//! `forever_laws`, `due_laws` and `latest_laws` for what is due and latest dates, on `endless_due`
-//! for rows, on `settled_forms` and `settled_laws` for settled forms, on `teg_model` for datings, on
-//! `teg_net` for nets and on `dioid` for dates; no search is below it. Its examples stand in
-//! `date_examples`, in `kept_orders.rt`.
+//! it; [`least_late`] tells whether a number is the first at which that dating comes late, by the
+//! start of the window and the turn before the number. The law [`walks_move_on`]: finitely many walks
+//! to due firings show the dates of releases without end; and [`shown_inputs_are_latest`]: such
+//! releases that meet what is due are the latest. Each law is the contract of a function that does
+//! nothing when it runs. The crate stands on `forever_laws`, `due_laws` and `latest_laws` for what is
+//! due and latest dates, on `endless_due` for rows, on `settled_forms` and `settled_laws` for settled
+//! forms, on `teg_model` for datings, on `teg_net` for nets and on `dioid` for dates; no search is
+//! below it. Its examples stand in `date_examples`, in `kept_orders.rt`, and in `witness_examples`, in
+//! `forever.rt`.
 #![tactic(auto)]
 
 mod kept_rows;
+mod late_rows;
 mod laws;
 
 pub use kept_rows::keeps_due_rows;
+pub use late_rows::{LateDates, least_late};
 pub use laws::{shown_inputs_are_latest, walks_move_on, windows_tell_kept};

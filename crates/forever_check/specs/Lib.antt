@@ -1,2 +1,3 @@
 pub mod ShownReleases
+pub mod ShownLate
 pub mod ReleaseWalks

@@ -80,7 +80,7 @@ fn form_in(alloc: Global, net: &Net, rows: &FoundRows<'_>) -> Result<Option<Sett
 }
 
 // The settled form of the net, where rows that are found show it.
-fn found_form(alloc: Global, net: &Net) -> Result<Option<Settled>, OutOfMemory>
+pub(crate) fn found_form(alloc: Global, net: &Net) -> Result<Option<Settled>, OutOfMemory>
     requires { IsLive net.now }
     ensures { IfOk result (λ some. IfSome some (IsSettledFormOf net.now)) }
 {
