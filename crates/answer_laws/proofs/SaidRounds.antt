@@ -18,7 +18,7 @@ use Rattle.teg_parts.specs.Partitions.{AreParts, PartLists}
 use Rattle.teg_loops.proofs.Through.{pass_back}
 use Rattle.teg_certificates.proofs.Inside.{circuit_in_part}
 use Rattle.teg_certificates.specs.BestRatios.{named_ratio}
-use Rattle.teg_howard.specs.PolicyRuns.{KeepsLimits}
+use Rattle.teg_howard.specs.policy_rounds.RunAnswers.{KeepsLimits}
 use Rattle.teg_cycle.proofs.Gathering.{certified}
 use Rattle.teg_cycle.proofs.Telling.{answer_certifies}
 use Rattle.teg_report.specs.teg_text.Lines.{written}

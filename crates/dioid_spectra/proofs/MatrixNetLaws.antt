@@ -20,7 +20,7 @@ use Rattle.teg_net.specs.Circuits.{IsLive, IsPathBetween, from_of, no_place, pla
 use Rattle.teg_net.specs.Parts.{IsMember, IsPlaceOfPart, Reaches, to_of}
 use Rattle.teg_net.specs.declared.answers.PartAnswer.TheVariants.{NoCircuit}
 use Rattle.teg_parts.specs.Partitions.{AreParts, PartLists}
-use Rattle.teg_howard.specs.PolicyRuns.{EndsRun}
+use Rattle.teg_howard.specs.policy_rounds.RunAnswers.{EndsRun}
 use Rattle.pace_laws.specs.TightPotentials.{AreTightPotentials}
 use Rattle.dioid_spectra.specs.declared.eigenvectors.EigenValue.{EigenValue}
 use Rattle.dioid_spectra.specs.Eigenvectors.{IsEigenOf, IsIrreducible, IsJust, IsNumber, IsWay, IsWithin, entry_at, number_at}

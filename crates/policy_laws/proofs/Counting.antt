@@ -12,10 +12,10 @@ use Rattle.teg_net.specs.Parts.{IsPlaceOfPart, ListsMembers}
 use Rattle.policy_rounds.specs.Policies.{IsChanged}
 use Rattle.policy_rounds.specs.PolicyRounds.{chosen, potential, IsRound, IsRoundOf, KeepsCircuit, FollowsRound, IsRunTo}
 use Rattle.policy_rounds.proofs.Turns.{greater_ratio}
-use Rattle.teg_howard.proofs.Optimum.{some_token}
+use Rattle.policy_rounds.proofs.Optimum.{some_token}
 use Rattle.teg_howard.proofs.RoundStates.{ratio_less}
 use Rattle.teg_howard.proofs.teg_certificates_proofs.Ratios.{ratio_trans_less}
-use Rattle.teg_howard.proofs.OneRun.{runs_agree}
+use Rattle.policy_rounds.proofs.OneRun.{runs_agree}
 use Rattle.teg_loops.proofs.Taking.{sum_most}
 use Rattle.policy_laws.specs.RoundCounts.{RoundsOfOneRatioAreFew, most_ratios, RoundsAreFew}
 use Rattle.policy_laws.proofs.RatioCounts.{ratios_up_to, ratios_rise, ratios_few}

@@ -42,3 +42,7 @@ pub record ListsChoices (parts : List ℕ) (part : ℕ) (cs : List Choice) : Typ
 pub record IsCircuitRatio (r : Fraction) : Type 0 where
   pub time_in : r.time ≤ greatest_circuit_time
   pub tokens_in : r.tokens ≤ most_circuit_tokens
+
+-- what a place counts at most
+abbrev pub step_bound : ℕ
+step_bound = 400000000000000

@@ -17,9 +17,8 @@ use Rattle.teg_net.specs.PartAnswers.{first_transition_of}
 use Rattle.teg_net.specs.Ratios.{Fraction, IsRatioOf}
 use Rattle.teg_net.specs.ReducedTimes.{IsMagnitudeWithin, reduced_time}
 use Rattle.policy_rounds.specs.Policies.{Policy, IsPolicy, IsChanged, IsRouting, LeadsBack, step_back}
-use Rattle.policy_rounds.specs.PolicyRounds.{FollowsRound, IsFirstRound, IsPolicyRun, IsRound, IsRoundOf, IsRunTo, KeepsCircuit, chosen, potential, value_in}
-use Rattle.policy_rounds.specs.PolicyLists.{AreLowest, IsCircuitRatio, policy_of}
-use Rattle.teg_howard.specs.Following.{step_bound}
+use Rattle.policy_rounds.specs.PolicyRounds.{FollowsRound, IsFirstRound, IsPolicyRun, IsRound, IsRoundOf, KeepsCircuit, chosen, potential, value_in}
+use Rattle.policy_rounds.specs.PolicyLists.{AreLowest, IsCircuitRatio, policy_of, step_bound}
 use Rattle.teg_parts.specs.Components.{IsMarked}
 use Rattle.teg_net.proofs.LowestTerms.{IsRatioOf-divided}
 use Rattle.teg_net.proofs.Reading.{same_id}
@@ -27,13 +26,12 @@ use Rattle.teg_certificates.proofs.OneRatio.{one_ratio}
 use Rattle.teg_certificates.proofs.Short.{circuit_sums}
 use Rattle.policy_rounds.proofs.Back.{back_add}
 use Rattle.policy_rounds.proofs.ListedChoices.{only_members}
-use Rattle.teg_howard.proofs.Optimum.{some_token}
-use Rattle.teg_howard.proofs.Rising.{each_round}
+use Rattle.policy_rounds.proofs.Optimum.{some_token}
+use Rattle.policy_rounds.proofs.OneRun.{round_agrees, runs_agree}
 use Rattle.policy_rounds.proofs.BestCircuits.{any_kind}
-use Rattle.teg_howard.proofs.Routing.{all_home}
-use Rattle.policy_rounds.proofs.Turns.{better_is_policy, still_back_to_root}
-use Rattle.teg_howard.proofs.Unique.{circuit_agrees, leads_agrees, one_improvement}
-use Rattle.teg_howard.proofs.Values.{count_small, within_sum}
+use Rattle.policy_rounds.proofs.Turns.{better_is_policy}
+use Rattle.policy_rounds.proofs.Unique.{circuit_agrees, one_improvement}
+use Rattle.policy_rounds.proofs.StepBounds.{count_small, within_sum}
 use Rattle.round_check.specs.declared.circuits.Bound.{Bound}
 use Rattle.round_check.specs.declared.policies.Spread.{Spread}
 use Rattle.round_check.specs.declared.runs.Step.{Step}
@@ -41,7 +39,6 @@ use Rattle.round_check.specs.Offers.{IsSpread}
 use Rattle.round_check.specs.Routes.{IsRoutedBy}
 use Rattle.round_check.specs.PolicyCircuits.{AllAtMost, FitsPolicy, IsBoundOf}
 use Rattle.round_check.specs.Rounds.{IsStep, Keeps, Stands}
-use Rattle.round_check.proofs.Agreeing.{round_agrees}
 use Rattle.round_check.proofs.Choosing.{own_at}
 use Rattle.round_check.proofs.Joining.{home_soon}
 use Rattle.round_check.proofs.Stepping.{lowest_policy, of_kind, places_are, step_policy}
@@ -130,36 +127,6 @@ module _ (net : NetLists) (parts : List ℕ) (part : ℕ) where
         f.next
 
   -- ---- the limits
-  -- from each member a round leads back to where its circuit begins
-  abbrev IsHome : Round → Type 0
-  IsHome r = (t : ℕ) → IsMember parts part t → LeadsBack net (chosen r) t (first_transition_of net r.circuit.places.items)
-
-  first_home : (r : Round) → IsFirstRound net parts part r → IsHome r
-  first_home r h =
-      let made = h.begins.2 in
-      all_home net parts part h.begins.0 (λ t i. (h.begins.1 t i).enters) (first_transition_of net r.circuit.places.items) made.routing.0 (chosen r) made.routing.1
-
-  next_home : (r s : Round) → IsRound net parts part r → IsHome r → FollowsRound net parts part r s → IsHome s
-  next_home r s h home f =
-      let g : Policy = f.better in
-      let ok = better_is_policy net parts part (chosen r) h.policy r.ratio.time r.ratio.tokens r.circuit.places.items h.circuit h.ratio.same (potential r) h.sums g f.improves in
-      ⊎_elim
-      (λ (x : IsRoundOf net parts part g (IsChanged parts part (chosen r) g) s).
-      all_home net parts part g ok (first_transition_of net s.circuit.places.items) x.routing.0 (chosen s) x.routing.1)
-      (λ (y : KeepsCircuit net parts part r s g).
-      let still = still_back_to_root net parts part (chosen r) h.policy r.ratio.time r.ratio.tokens r.circuit.places.items h.circuit h.ratio.same (potential r) h.sums g f.improves home y.none_new in
-      λ t i. leads_agrees net parts part g (chosen s) ok (λ u j. sym (y.same_places u j)) t (first_transition_of net s.circuit.places.items) i
-      (subst (λ z. LeadsBack net g t (first_transition_of net z)) (sym y.same_circuit) (still t i)))
-      f.next
-
-  all_home_at : (rounds : List Round) → IsRunTo net parts part rounds → (k : ℕ) (d : Round) → k < length rounds → IsHome (get_or rounds k d)
-  all_home_at rounds run zero d l = first_home (get_or rounds 0 d) (run.first d)
-  all_home_at rounds run (suc k) d l =
-      let e : k + 1 ≡ suc k = omega arith in
-      let f : FollowsRound net parts part (get_or rounds k d) (get_or rounds (suc k) d) =
-      subst (λ n. FollowsRound net parts part (get_or rounds k d) (get_or rounds n d)) e (run.next k d (omega (arith, l))) in
-      next_home (get_or rounds k d) (get_or rounds (suc k) d) (each_round net parts part rounds run k d (omega (arith, l))) (all_home_at rounds run k d (omega (arith, l))) f
-
   nothing_small : (n : ℕ) → IsMagnitudeWithin n (pos 0)
   nothing_small n = record { low = omega (arith, ints); high = omega (arith, ints) }
 
@@ -232,4 +199,4 @@ module _ (net : NetLists) (parts : List ℕ) (part : ℕ) (kept : IsNet net) (li
 
   -- the rounds of a run of a live net stand
   pub run_stands : (rounds : List Round) → IsPolicyRun net parts part rounds → All (Stands net parts part) rounds
-  run_stands rounds h = λ k d l. stands_at_home (get_or rounds k d) (each_round net parts part rounds h.run k d l) (all_home_at net parts part rounds h.run k d l)
+  run_stands rounds h = λ k d l. let own = runs_agree net parts part live rounds rounds d h.run h.run k l l in stands_at_home (get_or rounds k d) own.2 own.1

@@ -4,7 +4,6 @@ pub mod RoundsFit
 pub mod Walking
 pub mod Joining
 pub mod Offering
-pub mod Agreeing
 pub mod Stepping
 pub mod Exactly
 pub mod Telling

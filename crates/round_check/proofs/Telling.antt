@@ -12,10 +12,10 @@ use Rattle.teg_net.specs.Nets.{NetLists}
 use Rattle.teg_net.proofs.PathLaws.{IsPathBetween-in_range}
 use Rattle.policy_rounds.specs.PolicyRounds.{IsPolicyRun, IsRound}
 use Rattle.policy_rounds.proofs.ListedChoices.{only_members}
-use Rattle.teg_howard.proofs.Rising.{each_round}
+use Rattle.policy_rounds.proofs.OneRun.{each_round}
 use Rattle.teg_lines.specs.CycleMeanings.{part_lists, round_lists, runs_lists}
 use Rattle.teg_lines.specs.RoundLines.{AreRunsTold, IsRoundIn, IsRunIn}
-use Rattle.teg_cycle.specs.LastRounds.{AreRunsFrom, rounds_of_runs}
+use Rattle.policy_rounds.specs.LastRounds.{AreRunsFrom, rounds_of_runs}
 use Rattle.round_check.specs.ShownRounds.{EndsIn, RunsGoOn}
 use Rattle.round_check.proofs.RoundsFit.{policy_from}
 

@@ -10,8 +10,8 @@ use Rattle.teg_net.specs.Nets.{NetLists}
 use Rattle.teg_net.specs.PartAnswers.{ArePartAnswers}
 use Rattle.teg_net.specs.Ratios.{Fraction}
 use Rattle.policy_rounds.specs.PolicyRounds.{IsPolicyRun}
-use Rattle.teg_howard.specs.PolicyRuns.{IsAnswerOfLast, KeepsLimits}
-use Rattle.teg_cycle.specs.LastRounds.{AreRunsFrom}
+use Rattle.policy_rounds.specs.RunAnswers.{IsAnswerOfLast, KeepsLimits}
+use Rattle.policy_rounds.specs.LastRounds.{AreRunsFrom}
 use Rattle.teg_certificates.specs.BestRatios.{best_ratio_of}
 use Rattle.teg_text.specs.Lines.{written}
 use Rattle.teg_lines.specs.CycleLines.{cycle_lines}

@@ -8,8 +8,8 @@
 //! the text anew, and compares (`IsShownRounds`). Whatever found the rounds, nothing is believed but
 //! the net and these.
 //!
-//! The crate stands on `policy_rounds` and `teg_cycle` for what a round and a run are, and on lemmas of
-//! the first and of `teg_howard` on choices, policies and their circuits, and calls nothing of them; on `pace_check` and
+//! The crate stands on `policy_rounds` for what a round and a run are and for lemmas on choices,
+//! policies and their circuits, and on no crate that finds rounds; on `pace_check` and
 //! `witness_check` for cycle times and names in texts, on `teg_lines` and `teg_text` for lines, on
 //! `teg_parts` for what is marked, on `teg_certificates` for certificates and how short circuits are,
 //! and on `teg_net` for nets. Its examples stand in `net_examples` and `witness_examples`.

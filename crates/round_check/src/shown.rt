@@ -2,8 +2,8 @@
 ghost use Rattle.std.specs.Prelude.{◌≡◌, ◌↔◌, ◌<◌, ◌++◌, All, IfOk, IfSome, IsTrue, Some, length, map, slice_index_or};
 ghost use Rattle.teg_net.specs.Certificates.{IsCertificate};
 ghost use Rattle.teg_net.specs.declared.answers.PartAnswer.TheVariants.{NoCircuit};
-ghost use Rattle.teg_howard.specs.PolicyRuns.{IsAnswerOf, KeepsLimits, potential_of};
-ghost use Rattle.teg_cycle.specs.LastRounds.{AreRunsFrom, rounds_of_runs};
+ghost use Rattle.policy_rounds.specs.RunAnswers.{IsAnswerOf, KeepsLimits, potential_of};
+ghost use Rattle.policy_rounds.specs.LastRounds.{AreRunsFrom, rounds_of_runs};
 ghost use Rattle.teg_certificates.specs.BestRatios.{best_ratio_of};
 ghost use Rattle.teg_text.specs.Lines.{written};
 ghost use Rattle.teg_lines.specs.CycleLines.{cycle_lines};

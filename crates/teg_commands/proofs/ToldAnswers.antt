@@ -43,7 +43,7 @@ use Rattle.teg_forever.specs.declared.releases.Release.{Release}
 use Rattle.teg_forever.specs.declared.releases.Release.TheVariants.{Free as FreeRelease, Latest}
 use Rattle.teg_forever.specs.EndlessTexts.{EndlessAnswer, Answered, Faulty, IsEndlessTold, IsReleaseTold, answer_lines}
 use Rattle.teg_forever.specs.LatestReleases.{AreBeside, IsReleaseOf, inputs_of}
-use Rattle.teg_howard.specs.PolicyRuns.{KeepsLimits}
+use Rattle.teg_howard.specs.policy_rounds.RunAnswers.{KeepsLimits}
 use Rattle.teg_report.specs.teg_jit.declared.answers.JitRefusal.{JitRefusal}
 use Rattle.teg_report.specs.teg_jit.declared.answers.JitRefusal.TheVariants.{Late, OutOfMemory as NoPlanRoom}
 use Rattle.teg_report.specs.teg_jit.LateRefusals.{LateIsRight}

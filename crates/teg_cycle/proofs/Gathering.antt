@@ -11,9 +11,10 @@ use Rattle.teg_net.specs.Nets.{NetLists}
 use Rattle.teg_net.specs.Certificates.{IsCertificate}
 use Rattle.teg_parts.specs.Partitions.{PartLists, AreParts}
 use Rattle.policy_rounds.specs.PolicyRounds.{IsPolicyRun}
-use Rattle.teg_howard.specs.PolicyRuns.{HasInnerPlace, IsAnswerOfLast}
+use Rattle.policy_rounds.specs.RunAnswers.{IsAnswerOfLast}
+use Rattle.teg_howard.specs.PolicyRuns.{HasInnerPlace}
 use Rattle.teg_certificates.specs.Checks.{ArePartCertificates}
-use Rattle.teg_cycle.specs.LastRounds.{IsLastOfRun, IsRunOf, AreRunsFrom, some_run}
+use Rattle.policy_rounds.specs.LastRounds.{IsLastOfRun, IsRunOf, AreRunsFrom, some_run}
 use Rattle.teg_certificates.proofs.Certified.{no_place_no_circuit}
 
 -- the mark of a part tells whether a place lies in it

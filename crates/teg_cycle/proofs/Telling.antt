@@ -24,7 +24,7 @@ use Rattle.teg_net.specs.PartAnswers.{ArePartAnswers}
 use Rattle.policy_rounds.specs.PolicyRounds.{IsPolicyRun}
 use Rattle.teg_cycle.specs.BestParts.{HaveTokens}
 use Rattle.teg_certificates.proofs.NamedRatios.{told_in}
-use Rattle.teg_howard.specs.PolicyRuns.{KeepsLimits, IsAnswerOfLast}
+use Rattle.policy_rounds.specs.RunAnswers.{KeepsLimits, IsAnswerOfLast}
 use Rattle.teg_certificates.proofs.PathSums.{weight-append}
 
 -- what holds of each potential told holds of that of each transition told of

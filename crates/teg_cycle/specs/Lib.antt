@@ -1,4 +1,3 @@
-pub mod LastRounds
 pub mod BestParts
 pub use Rattle.teg_net.specs as teg_net
 pub use Rattle.teg_check.specs as teg_check

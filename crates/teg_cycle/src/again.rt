@@ -5,7 +5,7 @@ ghost use Rattle.teg_net.specs.GreatestRatios.{IsFirstGreatest, IsCycleTime};
 ghost use Rattle.teg_net.specs.Certificates.{IsCertificate, IsPartCertificate};
 ghost use Rattle.teg_check.specs.Ranks.{IsRanking};
 ghost use Rattle.teg_parts.specs.Partitions.{AreParts};
-ghost use Rattle.teg_howard.specs.PolicyRuns.{KeepsLimits};
+ghost use Rattle.policy_rounds.specs.RunAnswers.{KeepsLimits};
 
 use crate::cycle_time::{gathered, keep};
 use std::alloc::Global;

@@ -8,8 +8,8 @@ ghost use Rattle.teg_check.specs.Ranks.{IsRanking};
 ghost use Rattle.teg_parts.specs.Partitions.{AreParts};
 ghost use Rattle.std.specs.Option.{option_map};
 ghost use Rattle.teg_certificates.specs.Checks.{ArePartCertificates};
-ghost use Rattle.teg_howard.specs.PolicyRuns.{KeepsLimits};
-ghost use Rattle.teg_cycle.specs.LastRounds.{IsLastOfRun, AreLastOfRuns, IsRunOf, AreRunsFrom, rounds_of_runs, some_run};
+ghost use Rattle.policy_rounds.specs.RunAnswers.{KeepsLimits};
+ghost use Rattle.policy_rounds.specs.LastRounds.{IsLastOfRun, AreLastOfRuns, IsRunOf, AreRunsFrom, rounds_of_runs, some_run};
 
 use crate::best_parts::best_number;
 use std::alloc::{AllocError, Global};

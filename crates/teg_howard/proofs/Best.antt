@@ -18,7 +18,7 @@ use Rattle.policy_rounds.proofs.Sums.{own_trail}
 use Rattle.policy_rounds.proofs.Turns.{circuit_trail, root_member}
 use Rattle.policy_rounds.proofs.PolicyCircuits.{same_circuit, circuit_short}
 use Rattle.policy_rounds.proofs.First.{low_turn}
-use Rattle.teg_howard.proofs.Optimum.{some_token}
+use Rattle.policy_rounds.proofs.Optimum.{some_token}
 use Rattle.teg_certificates.proofs.Ratios.{ratio_trans_less}
 
 abbrev pub Passes : NetLists → List Bool → List PlaceId → Type 0

@@ -1,6 +1,4 @@
 pub mod InnerPlaces
-pub mod Routing
-pub mod Optimum
 pub mod Measure
 pub mod Lowest
 pub mod Walks
@@ -17,8 +15,6 @@ pub mod Ending
 pub mod Runs
 pub mod Rising
 pub mod Exits
-pub mod Unique
-pub mod OneRun
 pub use Rattle.teg_check.proofs.number_laws_proofs as number_laws_proofs
 pub use Rattle.teg_net.proofs as teg_net_proofs
 pub use Rattle.policy_rounds.proofs as policy_rounds_proofs

@@ -11,7 +11,8 @@ use Rattle.teg_net.specs.Parts.{IsMember, ListsMembers}
 use Rattle.teg_net.specs.PartAnswers.{transitions_of}
 use Rattle.teg_net.specs.Limits.{most_transitions}
 use Rattle.policy_rounds.specs.PolicyRounds.{chosen, chosen_for, chosen_place, potential, value_in}
-use Rattle.teg_howard.specs.PolicyRuns.{sum_below, PairRises, potential_of}
+use Rattle.policy_rounds.specs.RunAnswers.{potential_of}
+use Rattle.teg_howard.specs.PolicyRuns.{sum_below, PairRises}
 use Rattle.policy_rounds.specs.PolicyLists.{ListsChoices}
 use Rattle.teg_howard.specs.RoundStates.{RisesEach, Rises}
 use Rattle.policy_rounds.proofs.ListedChoices.{Contains_read, no_choice_at, own_choice}

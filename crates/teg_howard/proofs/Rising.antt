@@ -1,22 +1,16 @@
 -- What rises from round to round, case by case.
-use Rattle.std.proofs.Common.{ℕ, zero, suc, ◌+◌, ◌*◌, ◌<◌, ◌≡◌, List, length, get_or, subst, arith, ⊎_elim}
+use Rattle.std.proofs.Common.{ℕ, ◌+◌, ◌*◌, ◌<◌, List, length, get_or, subst, arith, ⊎_elim}
 use Rattle.teg_net.specs.Nets.{NetLists}
 use Rattle.teg_net.specs.Circuits.{IsLive, time_of, tokens_of}
 use Rattle.teg_net.specs.declared.rounds.Round.{Round}
 use Rattle.policy_rounds.specs.PolicyRounds.{chosen, potential, IsRound, IsRunTo}
 use Rattle.teg_howard.specs.PolicyRuns.{RisesInSum, PairRises, AllRise, RisesByCase, RiseByCase}
 use Rattle.policy_rounds.proofs.Turns.{greater_ratio}
-use Rattle.teg_howard.proofs.Optimum.{some_token}
+use Rattle.policy_rounds.proofs.Optimum.{some_token}
+use Rattle.policy_rounds.proofs.OneRun.{each_round}
 use Rattle.teg_howard.proofs.RoundStates.{ratio_less}
 
 module _ (net : NetLists) (parts : List ℕ) (part : ℕ) where
-  -- each round of a run is one
-  pub each_round : (rounds : List Round) → IsRunTo net parts part rounds → (k : ℕ) (d : Round) → k < length rounds → IsRound net parts part (get_or rounds k d)
-  each_round rounds run zero d l = (run.first d).round
-  each_round rounds run (suc k) d l =
-      let here : k + 1 ≡ suc k = omega arith in
-      subst (λ (j : ℕ). IsRound net parts part (get_or rounds j d)) here (run.next k d (omega (arith, l))).round
-
   rises_by_case : (live : IsLive net) (r s : Round) → IsRound net parts part r → IsRound net parts part s → PairRises r s → RisesByCase net parts part r s
   rises_by_case live r s hr hs up = record {
     anew = λ better imp w.
@@ -35,4 +29,4 @@ module _ (net : NetLists) (parts : List ℕ) (part : ℕ) where
 
   pub rise_by_case : (live : IsLive net) (rounds : List Round) → IsRunTo net parts part rounds → AllRise rounds → RiseByCase net parts part rounds
   rise_by_case live rounds run up k d l =
-      rises_by_case live (get_or rounds k d) (get_or rounds (k + 1) d) (each_round rounds run k d (omega (arith, l))) (each_round rounds run (k + 1) d l) (up k d l)
+      rises_by_case live (get_or rounds k d) (get_or rounds (k + 1) d) (each_round net parts part rounds run k d (omega (arith, l))) (each_round net parts part rounds run (k + 1) d l) (up k d l)

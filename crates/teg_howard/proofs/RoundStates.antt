@@ -17,11 +17,11 @@ use Rattle.teg_howard.specs.FoundCircuits.{potentials, value_or_zero, CanSettle,
 use Rattle.policy_rounds.specs.PolicyLists.{IsCircuitRatio, policy_of}
 use Rattle.teg_howard.specs.RoundStates.{IsRoundState, HasCircuit, IsNextRoundState}
 use Rattle.policy_rounds.proofs.Turns.{cases_member, everywhere, better_is_policy, greater_ratio, still_back_to_root, still_circuit, rises, rises_more}
-use Rattle.teg_howard.proofs.Routing.{all_home, routed_is_policy, circuit_kept}
+use Rattle.policy_rounds.proofs.Routing.{all_home, routed_is_policy, circuit_kept}
 use Rattle.teg_howard.proofs.Improving.{cases_marked}
 use Rattle.policy_rounds.proofs.ListedChoices.{lists_members, begins_lowest}
 use Rattle.policy_rounds.proofs.First.{best_lowest}
-use Rattle.teg_howard.proofs.Optimum.{some_token}
+use Rattle.policy_rounds.proofs.Optimum.{some_token}
 use Rattle.std.proofs.Math.Nat.{mul-le-mul_right}
 use Rattle.teg_parts.specs.Components.{IsMarked}
 use Rattle.policy_rounds.proofs.BestCircuits.{same_functions, any_kind, best_kind}

@@ -15,7 +15,8 @@ use Rattle.policy_rounds.specs.PolicyRounds.{BeginsBy, IsFirstRound, FollowsRoun
 use Rattle.teg_howard.specs.FoundCircuits.{potentials, IsBeginning}
 use Rattle.policy_rounds.specs.PolicyLists.{AreLowest, policy_of}
 use Rattle.teg_howard.specs.RoundStates.{IsRoundState, HasCircuit, Rises}
-use Rattle.teg_howard.specs.PolicyRuns.{AllRise, IsAnswerOf, KeepsLimits, potential_of}
+use Rattle.policy_rounds.specs.RunAnswers.{IsAnswerOf, KeepsLimits, potential_of}
+use Rattle.teg_howard.specs.PolicyRuns.{AllRise}
 use Rattle.std.specs.Prelude.{map}
 use Rattle.teg_net.specs.Ratios.{Fraction}
 use Rattle.teg_net.specs.declared.answers.Potential.{Potential}
@@ -29,7 +30,7 @@ use Rattle.teg_howard.proofs.Listing.{same_transitions, told_potentials, pair_ri
 use Rattle.policy_rounds.proofs.ListedChoices.{lists_members, begins_lowest}
 use Rattle.teg_howard.proofs.Values.{path_inside}
 use Rattle.policy_rounds.proofs.Turns.{cases_member}
-use Rattle.teg_howard.proofs.Optimum.{greatest_in_part, no_greater_sum, sum_attained}
+use Rattle.policy_rounds.proofs.Optimum.{greatest_in_part, no_greater_sum, sum_attained}
 use Rattle.policy_rounds.proofs.BestCircuits.{same_functions}
 use Rattle.teg_howard.specs.declared.settling.RoundState.{RoundState}
 

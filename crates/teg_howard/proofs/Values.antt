@@ -3,7 +3,6 @@ use Rattle.std.proofs.Common.{ℕ, zero, suc, ◌+◌, ◌*◌, ◌<◌, ◌≤�
 use Rattle.std.proofs.Common.{take, refl, sym, ap, subst, ◌∙◌, arith, rules, inl, inr, ⊎_elim}
 use Rattle.std.specs.Prelude.{ℤ, pos, ◌+ℤ◌, All, Any, IsSome, ◌⊎◌}
 use Rattle.std.proofs.lemmas.Int.{ints}
-use Rattle.std.proofs.lemmas.Nat.{mul-le}
 use Rattle.std.proofs.lemmas.Bool.{cases_eq, cases_lt}
 use Rattle.std.proofs.lemmas.List.{length-set, get_or-set_same, get_or-set_other, get_or_default, length_push, get_or_push, get_or_append_left, take-append-le}
 use Rattle.std.proofs.Math.Seq.{take-length}
@@ -18,12 +17,13 @@ use Rattle.teg_parts.specs.Partitions.{AreStrong}
 use Rattle.teg_net.specs.Parts.{IsMember, IsPlaceOfPart, Reaches, to_of}
 use Rattle.policy_rounds.specs.Policies.{Policy, IsPolicy, step_back, LeadsBack, first_id, IsRouted, Joins, JoinsNext, IsRouting, AreSums, offer_of}
 use Rattle.teg_net.specs.ReducedTimes.{reduced_time, IsMagnitudeWithin}
-use Rattle.teg_net.specs.Limits.{greatest_scaled_potential, greatest_circuit_time, greatest_hold, most_circuit_tokens}
+use Rattle.teg_net.specs.Limits.{greatest_scaled_potential}
 use Rattle.teg_howard.specs.FoundCircuits.{value_or_zero, value_held, potentials, IsFollower, AreRouted}
-use Rattle.policy_rounds.specs.PolicyLists.{IsCircuitRatio, policy_of}
-use Rattle.teg_howard.specs.Following.{step_bound, filled, HasRootAlone, Valued, Followed}
+use Rattle.policy_rounds.specs.PolicyLists.{IsCircuitRatio, policy_of, step_bound}
+use Rattle.teg_howard.specs.Following.{filled, HasRootAlone, Valued, Followed}
 use Rattle.teg_howard.proofs.NextJoins.{IsJoin, IsNextJoin}
 use Rattle.policy_rounds.proofs.Back.{back_add}
+use Rattle.policy_rounds.proofs.StepBounds.{count_small, within_sum}
 
 pub cases_option : (o : Option ℤ) → (o ≡ None) ⊎ ((z : ℤ) × (o ≡ Some z))
 cases_option None = inl refl
@@ -36,26 +36,11 @@ some_of (Some z) n = search rules
 pub some_apart : (o : Option ℤ) (z : ℤ) → o ≡ Some z → o ≢ None
 some_apart o z e n = cc
 
-pub count_small : (net : NetLists) (r : Fraction) (p : PlaceId) → IsNet net → IsCircuitRatio r → p.index < length net.places → IsMagnitudeWithin step_bound (reduced_time net r.time r.tokens p)
-count_small net r p kept small l =
-    let is : IsPlaceOf net (place_at net p) = kept.each_place p.index no_place l in
-    let up = mul-le r.tokens (place_at net p).hold most_circuit_tokens greatest_hold small.tokens_in is.hold_in in
-    let down = mul-le r.time (place_at net p).tokens greatest_circuit_time 1000 small.time_in is.tokens_in in
-    record { low = omega (arith, ints, up, down); high = omega (arith, ints, up, down) }
-
 filled_more : (vs : List (Option ℤ)) (t : ℕ) (z : ℤ) → t < length vs → value_held vs t ≡ None → filled (set vs t (Some z)) ≡ filled vs + 1
 filled_more vs t z l e =
     let s = sum_by-set (λ (o : Option ℤ). cond (is_some o) 1 0) vs t (Some z) None l in
     let n : cond (is_some (value_held vs t)) 1 0 ≡ 0 = ap (λ (o : Option ℤ). let r : ℕ = cond (is_some o) 1 0 in r) e in
     omega (arith, s, n)
-
-pub within_sum : (k : ℕ) (x y : ℤ) → IsMagnitudeWithin step_bound x → IsMagnitudeWithin (k * step_bound) y → IsMagnitudeWithin ((k + 1) * step_bound) (x +ℤ y)
-within_sum k x y h g =
-    let a = h.low in
-    let b = h.high in
-    let c = g.low in
-    let d = g.high in
-    record { low = omega (arith, ints); high = omega (arith, ints) }
 
 pub within_more : (k : ℕ) (y : ℤ) → IsMagnitudeWithin (k * step_bound) y → IsMagnitudeWithin ((k + 1) * step_bound) y
 within_more k y g =

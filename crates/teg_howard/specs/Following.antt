@@ -9,7 +9,7 @@ use Rattle.teg_net.specs.ReducedTimes.{reduced_time, IsMagnitudeWithin}
 use Rattle.teg_howard.specs.declared.following.Followers.{Followers}
 use Rattle.policy_rounds.specs.Policies.{Policy, IsPolicy, LeadsBack}
 use Rattle.teg_howard.specs.FoundCircuits.{value_held}
-use Rattle.policy_rounds.specs.PolicyLists.{IsCircuitRatio, policy_of}
+use Rattle.policy_rounds.specs.PolicyLists.{IsCircuitRatio, policy_of, step_bound}
 
 -- a member, not the root, whose place starts at x
 pub record IsFollowerOf (net : NetLists) (parts : List ℕ) (part : ℕ) (policy : Policy) (root x t : ℕ) : Type 0 where
@@ -40,10 +40,6 @@ pub record HasRootAlone (count root : ℕ) (vs : List (Option ℤ)) : Type 0 whe
   pub all : length vs ≡ count
   pub start : value_held vs root ≡ Some (pos 0)
   pub others : (t : ℕ) → t ≢ root → value_held vs t ≡ None
-
--- what a place counts at most
-abbrev pub step_bound : ℕ
-step_bound = 400000000000000
 
 -- how many have a value
 abbrev pub filled : List (Option ℤ) → ℕ

@@ -1,5 +1,4 @@
 pub mod PolicyRuns
-pub mod OnePolicyRun
 pub mod FoundCircuits
 pub mod RoundStates
 pub mod Following

@@ -2,7 +2,8 @@
 ghost use Rattle.std.specs.Prelude.{◌≡◌, ◌≢◌, ◌++◌, ◌∷◌, [], IfOk, IfSome, IfNone, map};
 ghost use Rattle.teg_net.specs.PartAnswers.{IsPartAnswer};
 ghost use Rattle.policy_rounds.specs.PolicyRounds.{BeginsBy, IsFirstRound, IsPolicyRun, IsLastRound};
-ghost use Rattle.teg_howard.specs.PolicyRuns.{potential_of, IsAnswerOf, IsAnswerOfLast, EndsRun, KeepsLimits, AllRise, RiseByCase};
+ghost use Rattle.policy_rounds.specs.RunAnswers.{potential_of, IsAnswerOf, IsAnswerOfLast, EndsRun, KeepsLimits};
+ghost use Rattle.teg_howard.specs.PolicyRuns.{AllRise, RiseByCase};
 ghost use Rattle.teg_howard.specs.FoundCircuits.{IsBeginning};
 ghost use Rattle.policy_rounds.specs.PolicyLists.{policy_of};
 ghost use Rattle.teg_howard.specs.InnerPlaces.{AreInner};

@@ -5,7 +5,8 @@ ghost use Rattle.teg_check.specs.Ranks.{IsRanking};
 ghost use Rattle.teg_parts.specs.Partitions.{AreParts};
 ghost use Rattle.policy_rounds.specs.PolicyRounds.{IsPolicyRun};
 ghost use Rattle.teg_howard.specs.RoundStates.{HasCircuit};
-ghost use Rattle.teg_howard.specs.PolicyRuns.{HasInnerPlace, IsAnswerOfLast, EndsRun, KeepsLimits, AllRise, RiseByCase};
+ghost use Rattle.policy_rounds.specs.RunAnswers.{IsAnswerOfLast, EndsRun, KeepsLimits};
+ghost use Rattle.teg_howard.specs.PolicyRuns.{HasInnerPlace, AllRise, RiseByCase};
 
 use crate::iteration::{answer_after, last_answer, policy_run};
 use std::alloc::Global;

@@ -11,13 +11,13 @@ use Rattle.teg_net.specs.declared.answers.PartAnswer.TheVariants.{NoCircuit, Bes
 use Rattle.teg_net.specs.declared.entries.PlaceId.{PlaceId}
 use Rattle.teg_net.specs.declared.rounds.Choice.{Choice}
 use Rattle.teg_net.specs.declared.rounds.Round.{Round}
-use Rattle.teg_howard.specs.PolicyRuns.{KeepsLimits}
+use Rattle.policy_rounds.specs.RunAnswers.{KeepsLimits}
 use Rattle.teg_net.specs.GreatestRatios.{IsAnyPlace, IsCycleTime, IsFirstGreatest, HasNoCircuit, ratio_at}
 use Rattle.teg_net.specs.Nets.{NetLists}
 use Rattle.teg_net.specs.Parts.{IsMember}
 use Rattle.teg_net.specs.PartAnswers.{ArePartAnswers}
 use Rattle.teg_parts.specs.Partitions.{AreParts, PartLists}
-use Rattle.teg_cycle.specs.LastRounds.{AreRunsFrom, rounds_of_runs}
+use Rattle.policy_rounds.specs.LastRounds.{AreRunsFrom, rounds_of_runs}
 use Rattle.policy_rounds.specs.PolicyRounds.{IsRound, IsPolicyRun, choice_of_member, chosen_place}
 use Rattle.teg_report.specs.teg_lines.CycleMeanings.{cycle_lists, part_lists, round_lists, runs_lists}
 use Rattle.teg_report.specs.teg_lines.RoundLines.{RoundLists, IsRoundIn, IsRunIn, IsRunKept, AreRoundsTold, AreRunsTold, circuits_in}
@@ -25,7 +25,7 @@ use Rattle.teg_report.specs.teg_text.Lines.{written}
 use Rattle.teg_pace_commands.specs.Cycle.{IsCycleAnswer}
 use Rattle.teg_pace_commands.specs.CycleTexts.{cycle_text, no_circuit_text, times_lines}
 use Rattle.teg_net.proofs.PathLaws.{IsPathBetween-in_range}
-use Rattle.teg_howard.proofs.Rising.{each_round}
+use Rattle.policy_rounds.proofs.OneRun.{each_round}
 use Rattle.teg_pace_commands.proofs.Rounds.{choice_at}
 
 -- a net without a circuit

@@ -14,10 +14,10 @@ use Rattle.teg_net.specs.Nets.{NetLists, IsNet}
 use Rattle.teg_net.specs.PartAnswers.{ArePartAnswers, IsPartAnswer}
 use Rattle.teg_net.specs.Ratios.{Fraction}
 use Rattle.teg_parts.specs.Partitions.{PartsAreOne, PartLists as Partition}
-use Rattle.teg_howard.specs.OnePolicyRun.{PolicyRunsAreOne, AreSameRounds, AreSameRuns}
-use Rattle.teg_howard.specs.PolicyRuns.{IsAnswerOf, IsAnswerOfLast, potential_of}
+use Rattle.policy_rounds.specs.OnePolicyRun.{PolicyRunsAreOne, AreSameRounds, AreSameRuns}
+use Rattle.policy_rounds.specs.RunAnswers.{IsAnswerOf, IsAnswerOfLast, potential_of}
 use Rattle.policy_rounds.specs.PolicyRounds.{last_policy_round}
-use Rattle.teg_cycle.specs.LastRounds.{AreLastOfRuns, AreRunsFrom, IsLastOfRun}
+use Rattle.policy_rounds.specs.LastRounds.{AreLastOfRuns, AreRunsFrom, IsLastOfRun}
 use Rattle.teg_report.specs.teg_lines.CycleLines.{CycleLists, ToldPart, NoCircuitIn, BestOf, cycle_lines}
 use Rattle.teg_report.specs.teg_lines.CycleMeanings.{cycle_lists, part_lists, round_lists}
 use Rattle.teg_report.specs.ShortAnswers.{no_circuit_line}

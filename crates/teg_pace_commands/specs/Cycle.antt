@@ -1,7 +1,7 @@
 -- What is said of the circuits of a net: its parts, the greatest ratio of each and of the net, and the rounds that led to them.
 use Rattle.std.specs.Prelude.{ℕ, ◌≡◌, Bool, List, All, None, length, Some, map}
-use Rattle.teg_cycle.specs.LastRounds.{AreLastOfRuns, AreRunsFrom}
-use Rattle.teg_howard.specs.PolicyRuns.{KeepsLimits}
+use Rattle.policy_rounds.specs.LastRounds.{AreLastOfRuns, AreRunsFrom}
+use Rattle.policy_rounds.specs.RunAnswers.{KeepsLimits}
 use Rattle.teg_net.specs.declared.answers.CycleAnswer.{CycleAnswer}
 use Rattle.teg_net.specs.declared.rounds.Round.{Round}
 use Rattle.teg_net.specs.GreatestRatios.{IsCycleTime, IsFirstGreatest}

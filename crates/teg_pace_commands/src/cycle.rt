@@ -1,7 +1,7 @@
 //! The cycle times of a live net, and the rounds of policy iteration that led to them.
 ghost use Rattle.std.specs.Prelude.{◌≡◌, All, IfOk, IfSome, length};
 ghost use Rattle.std.specs.Option.{option_copied, option_map};
-ghost use Rattle.teg_cycle.specs.LastRounds.{AreLastOfRuns, rounds_of_runs};
+ghost use Rattle.policy_rounds.specs.LastRounds.{AreLastOfRuns, rounds_of_runs};
 ghost use Rattle.teg_net.specs.Certificates.{IsCertificate};
 ghost use Rattle.teg_parts.specs.Partitions.{AreParts};
 ghost use Rattle.teg_report.specs.teg_lines.CycleMeanings.{cycle_lists, runs_lists};

@@ -1,5 +1,5 @@
 use Rattle.std.proofs.Common.{ℕ, ◌<◌, ◌≡◌, get_or}
-use Rattle.teg_howard.specs.PolicyRuns.{potential_of}
+use Rattle.policy_rounds.specs.RunAnswers.{potential_of}
 use Rattle.teg_certificates.proofs.Deciding.{none_told}
 use Rattle.round_check.proofs.Choosing.{none_chosen}
 use Rattle.round_check.proofs.shown.are_potentials_of.Given as goal

@@ -1,6 +1,6 @@
 use Rattle.std.proofs.Common.{arith}
 use Rattle.std.proofs.lemmas.List.{length-map}
-use Rattle.teg_cycle.specs.LastRounds.{rounds_of_runs}
+use Rattle.policy_rounds.specs.LastRounds.{rounds_of_runs}
 use Rattle.round_check.proofs.Telling.{all_told}
 use Rattle.round_check.proofs.shown.are_runs.Goals as goal
 

@@ -1,7 +1,7 @@
 use Rattle.std.proofs.Common.{◌≡◌, ◌++◌, All, Some, sym, subst, rules}
 use Rattle.teg_net.specs.GreatestRatios.{IsAnyPlace, IsGreatestRatio}
 use Rattle.teg_certificates.specs.BestRatios.{best_ratio_of}
-use Rattle.teg_cycle.specs.LastRounds.{rounds_of_runs}
+use Rattle.policy_rounds.specs.LastRounds.{rounds_of_runs}
 use Rattle.teg_text.specs.Lines.{written}
 use Rattle.teg_lines.specs.CycleLines.{cycle_lines}
 use Rattle.teg_lines.specs.CycleMeanings.{cycle_lists}

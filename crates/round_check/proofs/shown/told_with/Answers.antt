@@ -1,6 +1,6 @@
 use Rattle.std.proofs.Common.{◌≡◌, ◌<◌, [], length, get_or, sym, ap, ◌∙◌, arith}
 use Rattle.std.proofs.lemmas.List.{get_or-map, length-map}
-use Rattle.teg_cycle.specs.LastRounds.{rounds_of_runs}
+use Rattle.policy_rounds.specs.LastRounds.{rounds_of_runs}
 use Rattle.round_check.proofs.Telling.{goes_on_some}
 use Rattle.round_check.proofs.shown.told_with.Goals as goal
 

@@ -3,7 +3,7 @@ use Rattle.std.proofs.lemmas.List.{length_push}
 use Rattle.std.proofs.lemmas.List.Elements.{All-push}
 use Rattle.teg_net.specs.PartAnswers.{IsPartAnswer}
 use Rattle.teg_net.specs.Certificates.{IsPartCertificate}
-use Rattle.teg_howard.specs.PolicyRuns.{KeepsLimits}
+use Rattle.policy_rounds.specs.RunAnswers.{KeepsLimits}
 use Rattle.teg_cycle.proofs.Telling.{each_push}
 use Rattle.teg_cycle.proofs.again.cycle_from.Goals as goal
 

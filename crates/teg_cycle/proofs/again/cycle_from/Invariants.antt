@@ -3,7 +3,7 @@ use Rattle.teg_net.specs.declared.answers.PartAnswer.TheVariants.{NoCircuit}
 use Rattle.teg_net.specs.PartAnswers.{ArePartAnswers}
 use Rattle.teg_net.specs.Certificates.{IsPartCertificate}
 use Rattle.std.specs.Prelude.{All}
-use Rattle.teg_howard.specs.PolicyRuns.{KeepsLimits}
+use Rattle.policy_rounds.specs.RunAnswers.{KeepsLimits}
 use Rattle.teg_cycle.proofs.again.cycle_from.Given as goal
 
 abbrev pub invariant-loop-part : goal.invariant-loop-part

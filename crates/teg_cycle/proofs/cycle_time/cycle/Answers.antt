@@ -3,8 +3,8 @@ use Rattle.std.proofs.lemmas.List.{length_push}
 use Rattle.std.proofs.lemmas.List.Elements.{All-push}
 use Rattle.teg_net.specs.PartAnswers.{IsPartAnswer}
 use Rattle.teg_net.specs.Certificates.{IsPartCertificate}
-use Rattle.teg_howard.specs.PolicyRuns.{KeepsLimits}
-use Rattle.teg_cycle.specs.LastRounds.{IsLastOfRun}
+use Rattle.policy_rounds.specs.RunAnswers.{KeepsLimits}
+use Rattle.policy_rounds.specs.LastRounds.{IsLastOfRun}
 use Rattle.teg_cycle.proofs.Telling.{each_push}
 use Rattle.teg_cycle.proofs.cycle_time.cycle.Goals as goal
 

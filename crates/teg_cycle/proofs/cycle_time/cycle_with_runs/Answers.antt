@@ -4,8 +4,8 @@ use Rattle.std.proofs.lemmas.List.{length_push}
 use Rattle.std.proofs.lemmas.List.Elements.{All-push}
 use Rattle.teg_net.specs.PartAnswers.{IsPartAnswer}
 use Rattle.teg_net.specs.Certificates.{IsPartCertificate}
-use Rattle.teg_howard.specs.PolicyRuns.{KeepsLimits}
-use Rattle.teg_cycle.specs.LastRounds.{IsRunOf, AreRunsFrom, rounds_of_runs}
+use Rattle.policy_rounds.specs.RunAnswers.{KeepsLimits}
+use Rattle.policy_rounds.specs.LastRounds.{IsRunOf, AreRunsFrom, rounds_of_runs}
 use Rattle.teg_cycle.proofs.Telling.{each_push}
 use Rattle.teg_cycle.proofs.Gathering.{one_more}
 use Rattle.teg_cycle.proofs.cycle_time.cycle_with_runs.Goals as goal

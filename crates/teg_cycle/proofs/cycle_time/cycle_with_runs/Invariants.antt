@@ -3,8 +3,8 @@ use Rattle.teg_net.specs.declared.answers.PartAnswer.TheVariants.{NoCircuit}
 use Rattle.teg_net.specs.PartAnswers.{ArePartAnswers}
 use Rattle.teg_net.specs.Certificates.{IsPartCertificate}
 use Rattle.std.specs.Prelude.{All}
-use Rattle.teg_howard.specs.PolicyRuns.{KeepsLimits}
-use Rattle.teg_cycle.specs.LastRounds.{AreRunsFrom, rounds_of_runs}
+use Rattle.policy_rounds.specs.RunAnswers.{KeepsLimits}
+use Rattle.policy_rounds.specs.LastRounds.{AreRunsFrom, rounds_of_runs}
 use Rattle.teg_cycle.proofs.cycle_time.cycle_with_runs.Given as goal
 
 abbrev pub invariant-loop-part : goal.invariant-loop-part

@@ -2,7 +2,7 @@ use Rattle.std.proofs.Common.{◌≡◌, ◌∙◌, ap, subst}
 use Rattle.teg_net.specs.declared.rounds.Round.{Round}
 use Rattle.teg_howard.specs.declared.settling.RoundState.{RoundState}
 use Rattle.teg_howard.specs.RoundStates.{GoesOn, StaysAtLast}
-use Rattle.teg_howard.specs.PolicyRuns.{IsAnswerOf}
+use Rattle.policy_rounds.specs.RunAnswers.{IsAnswerOf}
 use Rattle.teg_howard.proofs.Runs.{last_answers, last_keeps, last_tells}
 use Rattle.teg_howard.proofs.Ending.{falls}
 use Rattle.teg_howard.proofs.iteration.answer_after.Goals as goal

@@ -5,7 +5,8 @@ use Rattle.teg_net.specs.declared.rounds.Round.{Round}
 use Rattle.teg_howard.specs.declared.settling.RoundState.{RoundState}
 use Rattle.policy_rounds.specs.PolicyRounds.{IsPolicyRun}
 use Rattle.teg_howard.specs.RoundStates.{GoesOn, StaysAtLast}
-use Rattle.teg_howard.specs.PolicyRuns.{IsAnswerOf, IsAnswerOfLast, AllRise, RiseByCase}
+use Rattle.policy_rounds.specs.RunAnswers.{IsAnswerOf, IsAnswerOfLast}
+use Rattle.teg_howard.specs.PolicyRuns.{AllRise, RiseByCase}
 use Rattle.teg_howard.proofs.Runs.{run_more, run_all, rise_more, last_answers, last_keeps, last_pushed}
 use Rattle.teg_howard.proofs.Rising.{rise_by_case}
 use Rattle.teg_howard.proofs.Ending.{falls}

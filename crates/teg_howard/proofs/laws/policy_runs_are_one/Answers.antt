@@ -6,10 +6,10 @@ use Rattle.teg_net.specs.Circuits.{IsLive}
 use Rattle.policy_rounds.specs.Policies.{Policy}
 use Rattle.teg_net.specs.Parts.{ListsMembers}
 use Rattle.policy_rounds.specs.PolicyRounds.{chosen_for, IsPolicyRun}
-use Rattle.teg_howard.specs.OnePolicyRun.{AreSameRounds}
+use Rattle.policy_rounds.specs.OnePolicyRun.{AreSameRounds}
 use Rattle.teg_howard.proofs.Listing.{same_choices}
-use Rattle.teg_howard.proofs.Rising.{each_round}
-use Rattle.teg_howard.proofs.OneRun.{Equal, one_run}
+use Rattle.policy_rounds.proofs.OneRun.{each_round}
+use Rattle.policy_rounds.proofs.OneRun.{Equal, one_run}
 use Rattle.teg_howard.proofs.laws.policy_runs_are_one.Goals as goal
 
 same_rounds : (part_of : List ℕ) (part : ℕ) (r q : Round) → ListsMembers part_of part (chosen_for r.choices.items)

@@ -1,5 +1,5 @@
 use Rattle.std.proofs.Common.{ℕ, List, refl, sym, subst}
-use Rattle.teg_cycle.specs.LastRounds.{AreLastOfRuns}
+use Rattle.policy_rounds.specs.LastRounds.{AreLastOfRuns}
 use Rattle.teg_pace_commands.proofs.cycle.tell_cycle.Goals as goal
 
 pub returns : goal.returns

@@ -3,7 +3,7 @@ use Rattle.std.specs.Global.{Vec}
 use Rattle.teg_net.specs.declared.rounds.Round.{Round}
 use Rattle.teg_report.specs.teg_lines.CycleMeanings.{runs_lists}
 use Rattle.teg_report.specs.teg_lines.RoundLines.{IsRunKept, RoundLists}
-use Rattle.teg_cycle.specs.LastRounds.{rounds_of_runs}
+use Rattle.policy_rounds.specs.LastRounds.{rounds_of_runs}
 use Rattle.teg_pace_commands.specs.CycleTexts.{cycle_text}
 use Rattle.teg_pace_commands.proofs.CycleTold.{lists_of, runs_told}
 use Rattle.teg_pace_commands.proofs.cycle.tell_rounds.Goals as goal

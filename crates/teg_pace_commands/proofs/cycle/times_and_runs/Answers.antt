@@ -1,5 +1,5 @@
 use Rattle.std.proofs.Common.{ℕ, List, sym, subst}
-use Rattle.teg_cycle.specs.LastRounds.{AreRunsFrom, rounds_of_runs}
+use Rattle.policy_rounds.specs.LastRounds.{AreRunsFrom, rounds_of_runs}
 use Rattle.teg_pace_commands.proofs.CycleTold.{cycle_answer}
 use Rattle.teg_pace_commands.proofs.cycle.times_and_runs.Goals as goal
 

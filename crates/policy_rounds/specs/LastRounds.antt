@@ -6,7 +6,7 @@ use Rattle.teg_net.specs.declared.answers.PartAnswer.{PartAnswer}
 use Rattle.teg_net.specs.declared.answers.PartAnswer.TheVariants.{NoCircuit, Best}
 use Rattle.teg_net.specs.Nets.{NetLists}
 use Rattle.policy_rounds.specs.PolicyRounds.{IsPolicyRun}
-use Rattle.teg_howard.specs.PolicyRuns.{IsAnswerOfLast}
+use Rattle.policy_rounds.specs.RunAnswers.{IsAnswerOfLast}
 
 -- the answer is that of the last round of the part's policy run; a part without a circuit has no run
 abbrev pub IsLastOfRun : NetLists → List ℕ → ℕ → PartAnswer → Type 0

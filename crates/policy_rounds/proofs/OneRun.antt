@@ -15,11 +15,11 @@ use Rattle.policy_rounds.specs.PolicyRounds.{chosen, potential, chosen_place, va
 use Rattle.teg_net.specs.Ratios.{IsRatioOf}
 use Rattle.policy_rounds.proofs.Turns.{cases_member, better_is_policy, still_back_to_root}
 use Rattle.teg_net.proofs.Reading.{same_id}
-use Rattle.teg_howard.proofs.Routing.{all_home}
-use Rattle.teg_howard.proofs.Optimum.{some_token}
+use Rattle.policy_rounds.proofs.Routing.{all_home}
+use Rattle.policy_rounds.proofs.Optimum.{some_token}
 use Rattle.policy_rounds.proofs.ListedChoices.{only_members}
 use Rattle.policy_rounds.proofs.BestCircuits.{same_functions, any_kind, best_kind}
-use Rattle.teg_howard.proofs.Unique.{one_improvement, leads_agrees, circuit_agrees, one_best, one_routing, one_sums}
+use Rattle.policy_rounds.proofs.Unique.{one_improvement, leads_agrees, circuit_agrees, one_best, one_routing, one_sums}
 use Rattle.teg_certificates.proofs.OneRatio.{one_ratio}
 
 pub record Equal (r q : Round) : Type 0 where
@@ -30,6 +30,13 @@ pub record Equal (r q : Round) : Type 0 where
   pub tokens : r.ratio.tokens ≡ q.ratio.tokens
 
 module _ (net : NetLists) (parts : List ℕ) (part : ℕ) where
+  -- each round of a run is one
+  pub each_round : (rounds : List Round) → IsRunTo net parts part rounds → (k : ℕ) (d : Round) → k < length rounds → IsRound net parts part (get_or rounds k d)
+  each_round rounds run zero d l = (run.first d).round
+  each_round rounds run (suc k) d l =
+      let here : k + 1 ≡ suc k = omega arith in
+      subst (λ (j : ℕ). IsRound net parts part (get_or rounds j d)) here (run.next k d (omega (arith, l))).round
+
   no_choice : (cs : List Choice) (t : ℕ) → All (λ c. IsMember parts part c.transition.index) cs → (IsMember parts part t → ⊥) → choice_of_member cs t ≡ None
   no_choice [] t h o = refl
   no_choice (c ∷ cs) t h o =
@@ -75,6 +82,13 @@ module _ (net : NetLists) (parts : List ℕ) (part : ℕ) where
         kept = λ t i w. h.kept t i (leads_agrees net parts part σ π oks turned t s i w) ∙ e t i;
         joined = h.joined;
       }
+
+  pub round_agrees : (π σ : Policy) → IsPolicy net parts part π → IsPolicy net parts part σ → ((t : ℕ) → IsMember parts part t → π t ≡ σ t)
+      → (Kind : ℕ → Type 0) (r : Round) → IsRoundOf net parts part π Kind r → IsRoundOf net parts part σ Kind r
+  round_agrees π σ ok oks e Kind r h = record {
+    best = best_agrees π σ e Kind r.circuit.places.items h.best;
+    routing = (h.routing.0, routing_agrees π σ ok oks e (first_transition_of net r.circuit.places.items) h.routing.0 (chosen r) h.routing.1);
+  }
 
   -- rounds with one circuit and one policy at the members are equal
   finish : (live : IsLive net) (r q : Round) → IsRound net parts part r → IsRound net parts part q
