@@ -165,10 +165,10 @@ not_faster (pos zero) o e h = omega (arith, ints)
 not_faster (pos (suc n)) o e h = absurd (h (sym e))
 not_faster (negsuc n) o e h = omega (arith, ints)
 
--- the lead of the list is that of all values where the form gains no more than the steady one
-pub lead_of_all : (f g : Form) → IsForm f → IsForm g → size_of f ≤ 20000 → size_of g ≡ 1 → (s t lead : ℤ) → tail_of f ≡ At s → tail_of g ≡ At t → (slopes_of f g ≡ First → ⊥)
+-- the lead of the list is that of all values where a period gains no more than the steps of the steady form
+pub lead_of_slow : (f g : Form) → IsForm f → IsForm g → size_of f ≤ 20000 → size_of g ≡ 1 → (s t lead : ℤ) → tail_of f ≡ At s → tail_of g ≡ At t → f.step ≤ℤ times f.period g.step
     → IsLeadBelow f g.step (size_of f) lead → IsLeadOver f g lead
-lead_of_all f g isf isg short one s t lead ef eg gentle below = record {
+lead_of_slow f g isf isg short one s t lead ef eg slow below = record {
   first = isf;
   second = isg;
   short = short;
@@ -180,28 +180,6 @@ lead_of_all f g isf isg short one s t lead ef eg gentle below = record {
   place = below.place;
   attained = below.attained;
 } where
-  period : g.period ≡ 1
-  period = steady_period g isg one
-
-  both : period_with f g ≡ f.period
-  both = let same : common f.period g.period ≡ common f.period 1 = ap (common f.period) period in omega (arith, same)
-
-  rise : rise_of f g ≡ f.step
-  rise =
-      let turns : period_with f g / f.period ≡ 1 = ap (λ (n : ℕ). n / f.period) both ∙ div_self isf.period_positive in
-      ap (λ (n : ℕ). times n f.step) turns ∙ omega (arith, ints)
-
-  fall : fall_of f g ≡ times f.period g.step
-  fall =
-      let turns : period_with f g / g.period ≡ f.period = ap (λ (n : ℕ). n / g.period) both ∙ ap (λ (n : ℕ). f.period / n) period ∙ div-one f.period in
-      ap (λ (n : ℕ). times n g.step) turns
-
-  slow : f.step ≤ℤ times f.period g.step
-  slow =
-      let same : slopes_of f g ≡ by_sign (rise_of f g -ℤ fall_of f g) = ap (λ (d : Date). slopes_by d (tail_of g) (rise_of f g -ℤ fall_of f g)) ef ∙ ap (λ (d : Date). slopes_by (At s) d (rise_of f g -ℤ fall_of f g)) eg in
-      let low : (rise_of f g -ℤ fall_of f g) ≤ℤ pos 0 = not_faster (rise_of f g -ℤ fall_of f g) (slopes_of f g) (sym same) gentle in
-      omega (arith, ints, low, rise, fall)
-
   numbers : (i : ℕ) → value_at f i ≡ Never → ⊥
   numbers i e = ⊎_elim
       (λ (before : i < repeat_start f).
@@ -231,6 +209,32 @@ lead_of_all f g isf isg short one s t lead ef eg gentle below = record {
       let fits = isf.period_fits in
       by_steps IsUnder (repeat_start f) f.period isf.period_positive (λ k from l. λ y there. below.over k y (omega (arith, l, size)) there) later i (omega (arith, past)) z e)
       (cases_lt i (size_of f))
+
+-- so it is where the form gains no more than the steady one
+pub lead_of_all : (f g : Form) → IsForm f → IsForm g → size_of f ≤ 20000 → size_of g ≡ 1 → (s t lead : ℤ) → tail_of f ≡ At s → tail_of g ≡ At t → (slopes_of f g ≡ First → ⊥)
+    → IsLeadBelow f g.step (size_of f) lead → IsLeadOver f g lead
+lead_of_all f g isf isg short one s t lead ef eg gentle below = lead_of_slow f g isf isg short one s t lead ef eg slow below where
+  period : g.period ≡ 1
+  period = steady_period g isg one
+
+  both : period_with f g ≡ f.period
+  both = let same : common f.period g.period ≡ common f.period 1 = ap (common f.period) period in omega (arith, same)
+
+  rise : rise_of f g ≡ f.step
+  rise =
+      let turns : period_with f g / f.period ≡ 1 = ap (λ (n : ℕ). n / f.period) both ∙ div_self isf.period_positive in
+      ap (λ (n : ℕ). times n f.step) turns ∙ omega (arith, ints)
+
+  fall : fall_of f g ≡ times f.period g.step
+  fall =
+      let turns : period_with f g / g.period ≡ f.period = ap (λ (n : ℕ). n / g.period) both ∙ ap (λ (n : ℕ). f.period / n) period ∙ div-one f.period in
+      ap (λ (n : ℕ). times n g.step) turns
+
+  slow : f.step ≤ℤ times f.period g.step
+  slow =
+      let same : slopes_of f g ≡ by_sign (rise_of f g -ℤ fall_of f g) = ap (λ (d : Date). slopes_by d (tail_of g) (rise_of f g -ℤ fall_of f g)) ef ∙ ap (λ (d : Date). slopes_by (At s) d (rise_of f g -ℤ fall_of f g)) eg in
+      let low : (rise_of f g -ℤ fall_of f g) ≤ℤ pos 0 = not_faster (rise_of f g -ℤ fall_of f g) (slopes_of f g) (sym same) gentle in
+      omega (arith, ints, low, rise, fall)
 
 -- ---- the lead of the list
 

@@ -1,6 +1,6 @@
 -- What residuals that are kept tell of the rows of an input.
 use Rattle.std.proofs.Common.{ℕ, true, ◌+◌, ◌<◌, ◌≡◌, List, [], ◌∷◌, ◌++◌, All, Some, Result, Ok, Err, length, get_or, refl, sym, subst, ap, ◌∙◌, arith, below_more, ⊎_elim}
-use Rattle.std.specs.Prelude.{IfOk, OnOk, slice_get, take}
+use Rattle.std.specs.Prelude.{Option, None, IfOk, IfSome, OnOk, slice_get, take}
 use Rattle.std.proofs.Math.ListN.{get_or-append}
 use Rattle.std.proofs.Math.Seq.{get_or-append_seam}
 use Rattle.std.proofs.lemmas.Bool.{cases_lt}
@@ -33,7 +33,7 @@ use Rattle.teg_forever.specs.declared.divisions.Divisions.{Divisions}
 use Rattle.teg_forever.specs.declared.releases.ForeverRefusal.{ForeverRefusal}
 use Rattle.teg_forever.specs.declared.releases.ForeverRefusal.TheVariants.{Late, TooLong, TooWide, OutOfMemory}
 use Rattle.teg_forever.specs.InputAnswers.{IsStopped}
-use Rattle.teg_forever.specs.Divisions.{AreAlike, AreDivisions, AreFirstsTo, IsAlikeAt, IsDivided, IsKeptIn, IsMeetOver, IsMeetTo, IsMisfit, IsDividedAt, IsRefusedAt, IsResidualOf, refusal_at}
+use Rattle.teg_forever.specs.Divisions.{AreAlike, AreDivisions, AreFirstsTo, AreSteadyTo, IsAlikeAt, IsDivided, IsKeptIn, IsMeetOver, IsMeetTo, IsMisfit, IsDividedAt, IsRefusedAt, IsResidualOf, IsRowResidual, StandsAt, refusal_at}
 use Rattle.teg_forever.specs.Asked.{InputAsked, IsAskedWith}
 use Rattle.teg_forever.proofs.Series.{behind, some_is}
 
@@ -78,6 +78,26 @@ firsts_more rows n firsts first h here =
           (cases_lt i n);
     }
 
+-- ---- due series that are steady
+
+-- of one row more
+pub steady_more : (rows : List EndlessRow) (n : ℕ) (list : List (Option Gain)) (r : EndlessRow) (told : Option Gain) → AreSteadyTo rows n list → slice_get rows n ≡ Some r
+    → IfSome told (λ due. IsDueSeries r due.series) → AreSteadyTo rows (n + 1) (list ++ told ∷ [])
+steady_more rows n list r told h at is =
+    let long : length list ≡ n = h.long in
+    record {
+      long = length-append list (told ∷ []) ∙ ap (λ (z : ℕ). z + 1) long;
+      each = λ i s l here. ⊎_elim
+          (λ low. subst (λ (z : Option Gain). IfSome z (λ due. IsDueSeries s due.series)) (sym (get_or-append list (told ∷ []) None i (omega arith))) (h.each i s low here))
+          (λ high.
+          let end : i ≡ length list = omega arith in
+          let same : n ≡ i = omega arith in
+          let row : r ≡ s = some_is (slice_get rows i) r s (subst (λ (k : ℕ). slice_get rows k ≡ Some r) same at) here in
+          let last : get_or (list ++ told ∷ []) i None ≡ told = ap (λ (m : ℕ). get_or (list ++ told ∷ []) m None) end ∙ get_or-append_seam list told [] None in
+          subst (λ (z : Option Gain). IfSome z (λ due. IsDueSeries s due.series)) (sym last) (subst (λ (z : EndlessRow). IfSome told (λ due. IsDueSeries z due.series)) row is))
+          (cases_lt i n);
+    }
+
 -- ---- what is kept
 
 -- a residual that was made
@@ -105,13 +125,15 @@ all_kept rows old new x place kept right h =
     subst (All (IsDivided rows)) (sym kept.list_is)
     (All-append (IsDivided rows) (take kept.count old) (x ∷ []) (All-take (IsDivided rows) kept.count old h) (All-cons (IsDivided rows) x [] right (All-nil (IsDivided rows))))
 
-pub divisions_kept : {E : Type 0} (rows : List EndlessRow) (old new : Divisions) (x : Divided) (r : Result ℕ E) → AreDivisions rows old → new.firsts.items ≡ old.firsts.items → IsDivided rows x
+pub divisions_kept : {E : Type 0} (rows : List EndlessRow) (old new : Divisions) (x : Divided) (r : Result ℕ E) → AreDivisions rows old → new.firsts.items ≡ old.firsts.items
+    → new.steady.items ≡ old.steady.items → IsDivided rows x
     → IfOk r (IsKeptIn old.list.items x new.list.items) → OnOk r (AreDivisions rows new)
-divisions_kept rows old new x (Ok place) h same right kept = record {
+divisions_kept rows old new x (Ok place) h same steady right kept = record {
   firsts = subst (AreFirstsTo rows (length rows)) (sym same) h.firsts;
+  steady = subst (AreSteadyTo rows (length rows)) (sym steady) h.steady;
   each = all_kept rows old.list.items new.list.items x place kept right h.each;
 }
-divisions_kept rows old new x (Err e) h same right kept = tt
+divisions_kept rows old new x (Err e) h same steady right kept = tt
 
 -- it stands where it was put
 pub kept_place : (old new : List Divided) (x : Divided) (place : ℕ) → IsKeptIn old x new place → IsDividedAt new x.due x.walk place
@@ -173,48 +195,48 @@ module _ (net : NetLists) (rows : List EndlessRow) (u : ℕ) (i first : ℕ) (r 
 
 -- ---- the meet over rows
 
+-- a residual that is kept is that of its row
+pub row_residual : (net : NetLists) (rows : List EndlessRow) (u i : ℕ) (list : List Divided) (place : ℕ) (q : Gain) → IsResidualOf net rows u i list place → StandsAt list place q
+    → IsRowResidual net rows u i q
+row_residual net rows u i list place q h stands walks dues columns = let told = h.is walks dues columns in (stands h.divided h.stands ∙ told.0, told.1)
+
 -- the meet of one row
-pub meet_begun : (net : NetLists) (rows : List EndlessRow) (u : ℕ) (list : List Divided) (place : ℕ) (q m : Gain)
-    → IsResidualOf net rows u 0 list place → ((x : Divided) → slice_get list place ≡ Some x → q ≡ x.residual) → m ≡ q
-    → IsMeetOver net rows u 1 m
-meet_begun net rows u list place q m h stands e walks dues columns =
-    let told = h.is walks dues columns in
+pub meet_begun : (net : NetLists) (rows : List EndlessRow) (u : ℕ) (q m : Gain) → IsRowResidual net rows u 0 q → m ≡ q → IsMeetOver net rows u 1 m
+meet_begun net rows u q m h e walks dues columns =
+    let told = h walks dues columns in
     record {
-      value = e ∙ (stands h.divided h.stands ∙ told.0);
+      value = e ∙ told.0;
       fit = λ i l. (let zero_is : 0 ≡ i = omega arith in subst (RowFits gains gain_residuals walks dues) zero_is (told.1, λ some. absurd (omega arith)));
     }
 
 -- and of one row more
-pub meet_on : (net : NetLists) (rows : List EndlessRow) (u i : ℕ) (list : List Divided) (place : ℕ) (q m after : Gain) → 0 < i → IsMeetOver net rows u i m → IsResidualOf net rows u i list place
-    → ((x : Divided) → slice_get list place ≡ Some x → q ≡ x.residual) → after ≡ gain_meet m q → MeetFits m q → IsMeetOver net rows u (i + 1) after
-meet_on net rows u i list place q m after some before h stands e fits walks dues columns =
-    let told = h.is walks dues columns in
+pub meet_on : (net : NetLists) (rows : List EndlessRow) (u i : ℕ) (q m after : Gain) → 0 < i → IsMeetOver net rows u i m → IsRowResidual net rows u i q
+    → after ≡ gain_meet m q → MeetFits m q → IsMeetOver net rows u (i + 1) after
+meet_on net rows u i q m after some before h e fits walks dues columns =
+    let told = h walks dues columns in
     let old : IsMeetTo walks dues i m = before walks dues columns in
-    let left : q ≡ gain_left (walks i) (dues i) = stands h.divided h.stands ∙ told.0 in
     record {
-      value = meet_more gains gain_residuals walks dues i m (walks i) (dues i) q after some old.value refl refl left e;
-      fit = below_more (RowFits gains gain_residuals walks dues) i old.fit (row_fits gains gain_residuals walks dues i m (walks i) (dues i) q old.value refl refl left told.1 fits);
+      value = meet_more gains gain_residuals walks dues i m (walks i) (dues i) q after some old.value refl refl told.0 e;
+      fit = below_more (RowFits gains gain_residuals walks dues) i old.fit (row_fits gains gain_residuals walks dues i m (walks i) (dues i) q old.value refl refl told.0 told.1 fits);
     }
 
 -- a row whose meet with those before does not fit
-pub refused_meet : (net : NetLists) (rows : List EndlessRow) (id : TransitionId) (i : ℕ) (r : EndlessRow) (list : List Divided)
-    (place : ℕ) (q m : Gain) (why : Refused) → 0 < i → slice_get rows i ≡ Some r → IsMeetOver net rows id.index i m
-    → IsResidualOf net rows id.index i list place → ((x : Divided) → slice_get list place ≡ Some x → q ≡ x.residual)
+pub refused_meet : (net : NetLists) (rows : List EndlessRow) (id : TransitionId) (i : ℕ) (r : EndlessRow) (q m : Gain) (why : Refused)
+    → 0 < i → slice_get rows i ≡ Some r → IsMeetOver net rows id.index i m → IsRowResidual net rows id.index i q
     → Answers true (MeetFits m q) (gain_meet m q) (Err why) → IsRefusedAt net rows id i (refusal_at why id r)
-refused_meet net rows id i r list place q m Range some at before h stands other = (
+refused_meet net rows id i r q m Range some at before h other = (
   refl,
   record {
     stopped = r;
     is_row = at;
     row_is = refl;
     misfits = λ walks dues columns fits.
-        (let told = h.is walks dues columns in
+        (let told = h walks dues columns in
         let old : IsMeetTo walks dues i m = before walks dues columns in
-        let left : q ≡ gain_left (walks i) (dues i) = stands h.divided h.stands ∙ told.0 in
-        other (subst (λ (z : Gain). MeetFits z q) (sym old.value) (subst (λ (z : Gain). MeetFits (residual_over i walks dues) z) (sym left) (fits.1 some))));
+        other (subst (λ (z : Gain). MeetFits z q) (sym old.value) (subst (λ (z : Gain). MeetFits (residual_over i walks dues) z) (sym told.0) (fits.1 some))));
   },
 )
-refused_meet net rows id i r list place q m NoRoom some at before h stands other = tt
+refused_meet net rows id i r q m NoRoom some at before h other = tt
 
 -- ---- why an input has no release
 

@@ -13,5 +13,6 @@ pub mod Repeated
 pub mod Residues
 pub mod LaggedReleases
 pub mod Series
+pub mod SteadyLeads
 pub mod SearchedRows
 pub mod Written

@@ -20,7 +20,7 @@ use Rattle.forever_laws.proofs.Series.{transfers_are_series}
 use Rattle.teg_forever.specs.Alike.{HaveSameWalks, told_form}
 use Rattle.teg_forever.specs.declared.divisions.Divided.{Divided}
 use Rattle.teg_forever.specs.declared.residuals.Meet.{Meet}
-use Rattle.teg_forever.specs.Divisions.{AreMet, IsAlikeAt, IsAsBefore, IsMeetOver, IsMeetSoFar, IsMeetTo, IsResidualOf, StandsAt, StaysOver}
+use Rattle.teg_forever.specs.Divisions.{AreMet, IsAlikeAt, IsAsBefore, IsMeetOver, IsMeetSoFar, IsMeetTo, IsRowResidual, StaysOver}
 use Rattle.teg_forever.proofs.Dividing.{alike_due, meet_begun, meet_on}
 use Rattle.teg_forever.proofs.Itself.{meet_itself}
 
@@ -62,34 +62,28 @@ stays_first m q after h e =
 pub stays_second : (after q : Gain) → IsSeries after.series → after.series ≡ q.series → AreMet after q after
 stays_second after q h e = let both = meet_itself after q h e in record { value = both.0; fit = both.1 }
 
--- a residual that is kept is that of its row
-left_of : (net : NetLists) (rows : List EndlessRow) (u i : ℕ) (list : List Divided) (place : ℕ) (q : Gain) → IsResidualOf net rows u i list place → StandsAt list place q
-    → (walks dues : ℕ → Gain) → AreSeriesColumns net u rows walks dues → q ≡ gain_left (walks i) (dues i)
-left_of net rows u i list place q h stands walks dues columns = stands h.divided h.stands ∙ (h.is walks dues columns).0
-
 -- the meet over one row
-pub begun_so_far : (net : NetLists) (rows : List EndlessRow) (u : ℕ) (list : List Divided) (place : ℕ) (q : Gain) (m : Meet)
-    → IsResidualOf net rows u 0 list place → StandsAt list place q → IsSeries q.series → m.gain.series ≡ q.series
+pub begun_so_far : (net : NetLists) (rows : List EndlessRow) (u : ℕ) (q : Gain) (m : Meet) → IsRowResidual net rows u 0 q → IsSeries q.series → m.gain.series ≡ q.series
     → IsMeetSoFar net rows u 1 m
-begun_so_far net rows u list place q m h stands is e =
+begun_so_far net rows u q m h is e =
     let same : m.gain ≡ q = ap gain_of e in
     record {
-      over = meet_begun net rows u list place q m.gain h stands same;
+      over = meet_begun net rows u q m.gain h same;
       stays = λ t walks dues columns.
-          let left : m.gain ≡ gain_left (walks 0) (dues 0) = same ∙ left_of net rows u 0 list place q h stands walks dues columns in
+          let left : m.gain ≡ gain_left (walks 0) (dues 0) = same ∙ (h walks dues columns).0 in
           stays_second m.gain (gain_left (walks 0) (dues 0)) (subst (λ (z : Gain). IsSeries z.series) (sym same) is) (ap (λ (z : Gain). z.series) left);
     }
 
 -- and over one row more
-pub met_so_far : (net : NetLists) (rows : List EndlessRow) (u i : ℕ) (list : List Divided) (place : ℕ) (q m : Gain) (after : Meet)
-    → 0 < i → IsMeetOver net rows u i m → IsResidualOf net rows u i list place → StandsAt list place q
+pub met_so_far : (net : NetLists) (rows : List EndlessRow) (u i : ℕ) (q m : Gain) (after : Meet)
+    → 0 < i → IsMeetOver net rows u i m → IsRowResidual net rows u i q
     → AreMet m q after.gain → (IsTrue after.stays → AreMet after.gain q after.gain) → IsMeetSoFar net rows u (i + 1) after
-met_so_far net rows u i list place q m after some over h stands met stay = record {
-  over = meet_on net rows u i list place q m after.gain some over h stands met.value met.fit;
+met_so_far net rows u i q m after some over h met stay = record {
+  over = meet_on net rows u i q m after.gain some over h met.value met.fit;
   stays = λ t walks dues columns.
       let last : i + 1 - 1 ≡ i = omega arith in
       subst (λ (n : ℕ). AreMet after.gain (gain_left (walks n) (dues n)) after.gain) (sym last)
-      (subst (λ (z : Gain). AreMet after.gain z after.gain) (left_of net rows u i list place q h stands walks dues columns) (stay t));
+      (subst (λ (z : Gain). AreMet after.gain z after.gain) (h walks dues columns).0 (stay t));
 }
 
 -- so it is the meet over one more row, and stays

@@ -1,5 +1,5 @@
 -- Working definitions of the residuals of due series by walk series: what is kept of them, and what they tell of an input.
-use Rattle.std.specs.Prelude.{ℕ, ◌-◌, ◌≡◌, ◌<◌, ◌∷◌, ◌++◌, [], List, Some, All, IsTrue, length, get_or, slice_get, take, ⊤}
+use Rattle.std.specs.Prelude.{ℕ, ◌-◌, ◌≡◌, ◌<◌, ◌∷◌, ◌++◌, [], List, Option, None, Some, All, IfSome, IsTrue, length, get_or, slice_get, take, ⊤}
 use Rattle.dioid.specs.declared.algebra.Refused.{Refused}
 use Rattle.dioid.specs.declared.algebra.Refused.TheVariants.{Range, OutOfMemory as NoRoom}
 use Rattle.forever_laws.specs.dioid_matrix.Residuals.{RowFits}
@@ -44,9 +44,15 @@ IsResidualAt r walk residual = (due : Gain) → IsDueSeries r due.series → (re
 abbrev pub IsDivided : List EndlessRow → Divided → Type 0
 IsDivided rows x = (r : EndlessRow) → slice_get rows x.due ≡ Some r → IsResidualAt r x.walk x.residual
 
+-- for each of so many rows its due series, if it is told
+pub record AreSteadyTo (rows : List EndlessRow) (count : ℕ) (list : List (Option Gain)) : Type 0 where
+  pub long : length list ≡ count
+  pub each : (i : ℕ) (r : EndlessRow) → i < count → slice_get rows i ≡ Some r → IfSome (get_or list i None) (λ due. IsDueSeries r due.series)
+
 -- residuals of the due series of these rows
 pub record AreDivisions (rows : List EndlessRow) (d : Divisions) : Type 0 where
   pub firsts : AreFirstsTo rows (length rows) d.firsts.items
+  pub steady : AreSteadyTo rows (length rows) d.steady.items
   pub each : All (IsDivided rows) d.list.items
 
 -- at the place stands the residual of the due series of the row at `due` by the walk series
@@ -79,6 +85,10 @@ pub record IsResidualOf (net : NetLists) (rows : List EndlessRow) (u i : ℕ) (l
   pub stands : slice_get list place ≡ Some divided
   pub within : place < length list
   pub is : (walks dues : ℕ → Gain) → AreSeriesColumns net u rows walks dues → (divided.residual ≡ gain_left (walks i) (dues i)) × LeftFits (walks i) (dues i)
+
+-- the residual of the row at place i, which fits
+abbrev pub IsRowResidual : NetLists → List EndlessRow → ℕ → ℕ → Gain → Type 0
+IsRowResidual net rows u i residual = (walks dues : ℕ → Gain) → AreSeriesColumns net u rows walks dues → (residual ≡ gain_left (walks i) (dues i)) × LeftFits (walks i) (dues i)
 
 -- the meet over so many rows, each of which fits
 pub record IsMeetTo (walks dues : ℕ → Gain) (count : ℕ) (meet : Gain) : Type 0 where

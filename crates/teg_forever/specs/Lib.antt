@@ -6,6 +6,7 @@ pub mod Divisions
 pub mod LateFirings
 pub mod EndlessTexts
 pub mod Paces
+pub mod SteadyRows
 pub mod Lagged
 pub mod TogetherRows
 pub use Rattle.forever_laws.specs as forever_laws

@@ -122,10 +122,11 @@ fn keep_dues(alloc: Global, due: &DueRows<'_>) -> Result<(), ForeverRefusal>
 /// not, or would be more than some seconds take, the form is looked for without a limit, with eight
 /// bytes a date. Then for each input the walk times are settled likewise; for a settling length k
 /// each due row takes a residual of at most 20,000 values, each in time of order k, less the
-/// numbers at which no walk arrives yet. Rows that ask the same dates take one residual for all
-/// inputs that reach their transitions alike, as long as the series that are kept for that have
-/// fewer than three million values, which take some 100 MB; then a row takes time of the order of
-/// its series. An input whose places have the ends and the tokens of those of an input before it,
+/// numbers at which no walk arrives yet; where its due dates rise by the same step from each firing
+/// to the next, all of it in time of order k. Other rows that ask the same dates take one residual
+/// for all inputs that reach their transitions alike, as long as the series that are kept for that
+/// have fewer than three million values, which take some 100 MB; then a row takes time of the order
+/// of its series. An input whose places have the ends and the tokens of those of an input before it,
 /// in any order, and are all held longer by one difference, or shorter, or as long, takes no more
 /// than that one's release with each date moved, in time of order k, as long as its numbers fit;
 /// inputs are compared for that in time of order `p^2` at most for all of them, mostly of order `i

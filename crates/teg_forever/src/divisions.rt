@@ -1,8 +1,9 @@
 //! Residuals of due series by walk series: each pair is divided once, as long as there is room to
 //! keep what came of it.
-ghost use Rattle.std.specs.Prelude.{◌≡◌, ◌<◌, All, get_or, length, IfErr, IfOk, IfSome, IsTrue, OnOk};
+ghost use Rattle.std.specs.Prelude.{◌≡◌, ◌<◌, All, None, Some, get_or, length, IfErr, IfOk, IfSome, IsTrue, OnOk};
+ghost use Rattle.forever_laws.specs.SeriesColumns.{IsDueSeries};
 ghost use Rattle.teg_forever.specs.LateFirings.{IsGoingRow};
-ghost use Rattle.teg_forever.specs.Divisions.{AreAlike, AreDivisions, AreFirstsTo, IsAlikeAt, IsKeptIn, IsMisfit, IsDividedAt, StandsAt};
+ghost use Rattle.teg_forever.specs.Divisions.{AreAlike, AreDivisions, AreFirstsTo, AreSteadyTo, IsAlikeAt, IsKeptIn, IsMisfit, IsDividedAt, StandsAt};
 
 use crate::gains::due_gain;
 use dioid::{Dioid, Refused};
@@ -10,6 +11,7 @@ use endless_due::EndlessRow;
 use series_ops::Gain;
 use std::alloc::{AllocError, Global};
 use steady_series::left;
+use teg_net::OutOfMemory;
 
 // The values of series that are kept, at most: 96 MB, and one pair more.
 const MOST_KEPT: usize = 3_000_000;
@@ -35,6 +37,8 @@ pub(crate) struct Divisions {
     list: Vec<Divided>,
     // The values of the series in the list.
     values: usize,
+    // Of each row the due series, where it is steady.
+    steady: Vec<Option<Gain>>,
 }
 
 // Whether two rows ask the same dates.
@@ -70,17 +74,57 @@ fn firsts_of(alloc: Global, rows: &[EndlessRow]) -> Result<Vec<usize>, AllocErro
     Ok(firsts)
 }
 
+// The due series of a row, where it is steady: of one value and a step.
+fn steady_due(alloc: Global, row: &EndlessRow) -> Result<Option<Gain>, OutOfMemory>
+    requires { IsGoingRow row.now }
+    ensures { IfOk result (λ told. IfSome told (λ due. IsDueSeries row.now due.series)) }
+{
+    let due = due_gain(alloc, row)?;
+    if due.series.values().len() == 1 {
+        Ok(Some(due))
+    } else {
+        Ok(None)
+    }
+}
+
+// For each row its due series, where it is steady.
+fn steady_dues(alloc: Global, rows: &[EndlessRow]) -> Result<Vec<Option<Gain>>, OutOfMemory>
+    requires { All IsGoingRow rows.now }
+    ensures { IfOk result (λ list. AreSteadyTo rows.now (length rows.now) list.items) }
+{
+    let mut list = Vec::new(alloc);
+    for place in 0..rows.len() {
+        let told = steady_due(alloc, &rows[place])?;
+        list.push(told)?;
+    }
+    Ok(list)
+}
+
 impl Divisions {
     // No residuals yet.
-    pub(crate) fn new(alloc: Global, rows: &[EndlessRow]) -> Result<Divisions, AllocError>
+    pub(crate) fn new(alloc: Global, rows: &[EndlessRow]) -> Result<Divisions, OutOfMemory>
+        requires { All IsGoingRow rows.now }
         ensures { IfOk result (AreDivisions rows.now) }
     {
         let firsts = firsts_of(alloc, rows)?;
+        let steady = steady_dues(alloc, rows)?;
         Ok(Divisions {
             firsts,
             list: Vec::new(alloc),
             values: 0,
+            steady,
         })
+    }
+
+    // The due series of the row at this place, where it is steady.
+    pub(crate) fn steady(&self, place: usize) -> Option<&Gain>
+        requires { place < length self.now.steady.items }
+        ensures { IfSome result (λ due. get_or self.now.steady.items place None ≡ Some due.now) }
+    {
+        match &self.steady[place] {
+            Some(due) => Some(due),
+            None => None,
+        }
     }
 
     // The place of the first row that asks the same dates as the row at this place.
@@ -117,6 +161,7 @@ impl Divisions {
     // Keeps one more, in place of the last where there is no room.
     fn keep(&mut self, divided: Divided) -> Result<usize, Refused>
         ensures firsts { self.new.firsts.items ≡ self.old.firsts.items }
+        ensures steady { self.new.steady.items ≡ self.old.steady.items }
         ensures kept { IfOk result (IsKeptIn self.old.list.items divided self.new.list.items) }
         ensures memory { IfErr result (λ e. e ≡ Refused.OutOfMemory) }
     {

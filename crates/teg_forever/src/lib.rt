@@ -41,17 +41,19 @@
 //! Where no row is late, the inputs are worked out one after another: the shortest settled form of
 //! the walk times from one, of at most 20,000 numbers; of this the series to the transition of each
 //! row; and the meet over the rows of the residuals of the due series by these, which is the
-//! residual of a column of due series by a column of walk series. A residual of the same dates by
-//! the same series as before is taken over (`Divisions`), and a meet of a series with itself is
-//! that series; rows that are as the one before are not even gone through (`is_as_before`). An
-//! input whose places have the ends and the tokens of those of an input before it, and are all held
-//! longer by one lag, or shorter, or as long (`input_before`, by `lag_between` of `teg_lags`), gets
-//! that one's release, each date so much earlier: its residual by the series of the lag alone
-//! (`earlier_release`). That each residual and each meet then fits for the one input where it fits
-//! for the other is proved in `forever_laws` (`moved_row_fits`): where they repeat from does not
-//! depend on the lag, and their numbers lie between 0 and due dates. The value of the meet at shift
-//! k - 1 is the latest date of firing k; never at the first shift means never at all, and then the
-//! input is free.
+//! residual of a column of due series by a column of walk series. Where due dates rise by the same
+//! step from each firing to the next, no series is made of the walk times: by how much they are
+//! later than these steps, at most, tells the residual (`walk_residual`). Another residual of the
+//! same dates by the same series as before is taken over (`Divisions`), and a meet of a series with
+//! itself is that series; rows that are as the one before are not even gone through
+//! (`is_as_before`). An input whose places have the ends and the tokens of those of an input before
+//! it, and are all held longer by one lag, or shorter, or as long (`input_before`, by `lag_between`
+//! of `teg_lags`), gets that one's release, each date so much earlier: its residual by the series
+//! of the lag alone (`earlier_release`). That each residual and each meet then fits for the one
+//! input where it fits for the other is proved in `forever_laws` (`moved_row_fits`): where they
+//! repeat from does not depend on the lag, and their numbers lie between 0 and due dates. The value
+//! of the meet at shift k - 1 is the latest date of firing k; never at the first shift means never
+//! at all, and then the input is free.
 #![tactic(auto)]
 
 mod alike;
@@ -70,6 +72,7 @@ mod plain_row;
 mod releases;
 mod residuals;
 mod settled_row;
+mod steady;
 mod texts;
 mod together;
 

@@ -1,15 +1,16 @@
 //! The meet over the rows of the residuals of their due series by the walk series of an input.
-ghost use Rattle.std.specs.Prelude.{◌≡◌, ◌<◌, ◌≤◌, Err, length, true, IfErr, IfOk, IsTrue, OnOk};
+ghost use Rattle.std.specs.Prelude.{◌≡◌, ◌<◌, ◌≤◌, ◌+◌, Err, length, true, IfErr, IfOk, IfSome, IsTrue, OnOk};
 ghost use Rattle.dioid.specs.ElementAnswers.{Answers};
 ghost use Rattle.series_ops.specs.Gains.{gain_meet, MeetFits};
 ghost use Rattle.teg_forever.specs.InputAnswers.{IsStopped};
-ghost use Rattle.teg_forever.specs.Divisions.{AreDivisions, AreMet, IsMeetOver, IsRefusedAt, IsResidualOf, refusal_at};
+ghost use Rattle.teg_forever.specs.Divisions.{AreDivisions, AreMet, IsMeetOver, IsMeetSoFar, IsRefusedAt, IsResidualOf, IsRowResidual, refusal_at};
 
 use crate::alike::is_as_before;
 use crate::asked::InputRows;
 use crate::divisions::Divisions;
 use crate::gains::walk_gain;
 use crate::releases::ForeverRefusal;
+use crate::steady::walk_residual;
 use dioid::{Refused, Residuated};
 use endless_due::EndlessRow;
 use forever_laws::columns_exist;
@@ -94,6 +95,101 @@ fn residual_at(
     }
 }
 
+// The residual of a row whose due series is steady, if the lead of its walk times tells it.
+fn residual_by_lead(
+    alloc: Global,
+    asked: &InputRows<'_>,
+    place: usize,
+    divisions: &Divisions,
+) -> Result<Option<Gain>, ForeverRefusal>
+    requires place { place < length asked.now.rows }
+    requires divisions { AreDivisions asked.now.rows divisions.now }
+    ensures residual { IfOk result (λ told. IfSome told (IsRowResidual asked.now.net asked.now.rows
+        asked.now.input.index place)) }
+    ensures refused { IfErr result (IsRefusedAt asked.now.net asked.now.rows asked.now.input place) }
+{
+    let due = match divisions.steady(place) {
+        Some(due) => due,
+        None => return Ok(None),
+    };
+    let row = asked.row(place);
+    match walk_residual(alloc, asked, row.transition, due) {
+        Ok(told) => Ok(told),
+        Err(why) => Err(refusal_at(why, asked.input(), row)),
+    }
+}
+
+// The meet over the rows before this one and the residual of this one.
+fn met_at(
+    alloc: Global,
+    asked: &InputRows<'_>,
+    place: usize,
+    meet: Gain,
+    residual: &Gain,
+) -> Result<Meet, ForeverRefusal>
+    requires some { 0 < place }
+    requires place { place < length asked.now.rows }
+    requires over { IsMeetOver asked.now.net asked.now.rows asked.now.input.index place meet }
+    requires residual { IsRowResidual asked.now.net asked.now.rows asked.now.input.index place
+        residual.now }
+    ensures meet { IfOk result (IsMeetSoFar asked.now.net asked.now.rows asked.now.input.index
+        (place + 1)) }
+    ensures refused { IfErr result (IsRefusedAt asked.now.net asked.now.rows asked.now.input place) }
+{
+    match met(alloc, meet, residual) {
+        Ok(met) => Ok(met),
+        Err(why) => Err(refusal_at(why, asked.input(), asked.row(place))),
+    }
+}
+
+// The meet over the rows before this one, and over this one too.
+fn with_row(
+    alloc: Global,
+    asked: &InputRows<'_>,
+    place: usize,
+    divisions: &mut Divisions,
+    meet: Gain,
+) -> Result<Meet, ForeverRefusal>
+    requires some { 0 < place }
+    requires place { place < length asked.now.rows }
+    requires over { IsMeetOver asked.now.net asked.now.rows asked.now.input.index place meet }
+    requires divisions { AreDivisions asked.now.rows divisions.old }
+    ensures divisions { OnOk result (AreDivisions asked.now.rows divisions.new) }
+    ensures meet { IfOk result (IsMeetSoFar asked.now.net asked.now.rows asked.now.input.index
+        (place + 1)) }
+    ensures refused { IfErr result (IsRefusedAt asked.now.net asked.now.rows asked.now.input place) }
+{
+    if let Some(residual) = residual_by_lead(alloc, asked, place, divisions)? {
+        return met_at(alloc, asked, place, meet, &residual);
+    }
+    let at = residual_at(alloc, asked, place, divisions)?;
+    met_at(alloc, asked, place, meet, divisions.residual(at))
+}
+
+// The meet over the first row.
+fn first_meet(
+    alloc: Global,
+    asked: &InputRows<'_>,
+    divisions: &mut Divisions,
+) -> Result<Meet, ForeverRefusal>
+    requires some { 1 ≤ length asked.now.rows }
+    requires divisions { AreDivisions asked.now.rows divisions.old }
+    ensures divisions { OnOk result (AreDivisions asked.now.rows divisions.new) }
+    ensures meet { IfOk result (IsMeetSoFar asked.now.net asked.now.rows asked.now.input.index 1) }
+    ensures refused { IfErr result (IsRefusedAt asked.now.net asked.now.rows asked.now.input 0) }
+{
+    if let Some(gain) = residual_by_lead(alloc, asked, 0, divisions)? {
+        gain.series.period();
+        return Ok(Meet { gain, stays: true });
+    }
+    let first = residual_at(alloc, asked, 0, divisions)?;
+    let series = divisions.residual(first).series.duplicate(alloc)?;
+    Ok(Meet {
+        gain: Gain { series },
+        stays: true,
+    })
+}
+
 // The meet over the rows of the residuals of their due series by the walk series of an input, or
 // the first row that does not fit. A row as the one before is not gone through again where the meet
 // stays.
@@ -111,21 +207,12 @@ pub(crate) fn meet_of(
 {
     columns_exist();
     let count = asked.rows().len();
-    let first = residual_at(alloc, asked, 0, divisions)?;
-    let series = divisions.residual(first).series.duplicate(alloc)?;
-    let mut meet = Meet {
-        gain: Gain { series },
-        stays: true,
-    };
+    let mut meet = first_meet(alloc, asked, divisions)?;
     for place in 1..count {
         if meet.stays && is_as_before(asked, place, divisions) {
             continue;
         }
-        let at = residual_at(alloc, asked, place, divisions)?;
-        meet = match met(alloc, meet.gain, divisions.residual(at)) {
-            Ok(met) => met,
-            Err(why) => return Err(refusal_at(why, asked.input(), asked.row(place))),
-        };
+        meet = with_row(alloc, asked, place, divisions, meet.gain)?;
     }
     Ok(meet.gain)
 }

@@ -13,7 +13,7 @@ due_gain-requires c = subst IsGoingRow (sym c.index-rows-due.is) (c.requires.row
 pub returns-in-Ok-left-clause-divisions : goal.returns-in-Ok-left-clause-divisions
 returns-in-Ok-left-clause-divisions c =
     let x : Divided = record { due = c.args.due; walk = c.args.walk; residual = c.in-Ok-left.residual } in
-    divisions_kept c.args.rows.now c.args.self.now c.keep.new.self x c.keep.result c.requires.divisions c.keep.ensures.firsts
+    divisions_kept c.args.rows.now c.args.self.now c.keep.new.self x c.keep.result c.requires.divisions c.keep.ensures.firsts c.keep.ensures.steady
     (divided c.args.rows.now c.args.due c.index-rows-due.result c.args.walk c.in-Ok.asked c.in-Ok-left.residual
     (got c.args.rows.now c.args.due c.index-rows-due.result c.requires.due c.index-rows-due.is) c.in-Ok.ensures c.in-Ok-left.ensures.answer.0 c.in-Ok-left.ensures.answer.1)
     c.keep.ensures.kept
