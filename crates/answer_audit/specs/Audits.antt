@@ -6,7 +6,7 @@ use Rattle.std.specs.Str.Lines.{lines}
 use Rattle.csv_records.specs.Records.{most_file_bytes}
 use Rattle.teg_net.specs.Nets.{NetLists}
 use Rattle.teg_outside.specs.Shelves.{ShelfState}
-use Rattle.answer_audit.specs.AnswerFindings.{IsFound, IsFoundAlone, IsPlanFound, IsShownLateFor, IsShownReleasesFor, IsShownDateOf, IsShownKeptFor, IsShownRecoveredFor}
+use Rattle.answer_audit.specs.AnswerFindings.{IsFound, IsFoundAlone, IsPlanFound, IsShownLateFor, IsShownLateOrderFor, IsShownReleasesFor, IsShownDateOf, IsShownKeptFor, IsShownRecoveredFor}
 use Rattle.answer_audit.specs.AnswerWords.{kind_of_text}
 use Rattle.answer_audit.specs.AuditFiles.{OpensFileOf, SaysNetOf, SaysText, SaysDue, SaysEndlessDue, SaysTable, most_answer_bytes}
 use Rattle.answer_audit.specs.Claims.{claims_text}
@@ -14,7 +14,7 @@ use Rattle.answer_audit.specs.declared.finding.Finding.{Finding}
 use Rattle.answer_audit.specs.declared.finding.Finding.TheVariants.{NoChecker}
 use Rattle.answer_audit.specs.declared.kinds.Alone.{Alone}
 use Rattle.answer_audit.specs.declared.kinds.Kind.{Kind}
-use Rattle.answer_audit.specs.declared.kinds.Kind.TheVariants.{OfNet, Plan, Releases, LateRow, OneDate, Kept, Recovered}
+use Rattle.answer_audit.specs.declared.kinds.Kind.TheVariants.{OfNet, Plan, Releases, LateRow, LateOrder, OneDate, Kept, Recovered}
 use Rattle.answer_audit.specs.declared.question.Beside.{Beside}
 use Rattle.answer_audit.specs.declared.question.Beside.TheVariants.{File, Timetable}
 use Rattle.answer_audit.specs.declared.question.Question.{Question}
@@ -56,6 +56,12 @@ abbrev pub FindsLate : NetLists → Beside → List ℕ → ShelfState → Shelf
 FindsLate net (File name) text old new found = FindsByFile (SaysDue net) (λ due. IsFound net (IsShownLateFor net text due)) name most_file_bytes old new found
 FindsLate net beside text old new found = FindsNoChecker old new found
 
+-- what is found of a firing that comes late of due dates without end, by the due file
+abbrev pub FindsLateOrder : NetLists → Beside → List ℕ → ShelfState → ShelfState → Option Finding → Type 0
+FindsLateOrder net (File name) text old new found =
+    FindsByFile (SaysEndlessDue net) (λ due. IsFound net (IsShownLateOrderFor net text due)) name most_file_bytes old new found
+FindsLateOrder net beside text old new found = FindsNoChecker old new found
+
 -- what is found of one date, by a list of dates
 abbrev pub FindsDate : NetLists → Beside → List ℕ → ShelfState → ShelfState → Option Finding → Type 0
 FindsDate net (File name) text old new found = FindsByFile SaysText (λ list. IsFound net (IsShownDateOf net text)) name most_answer_bytes old new found
@@ -80,6 +86,7 @@ FindsOf net beside (Some (OfNet kind)) text old new found = FindsAlone net kind 
 FindsOf net beside (Some Plan) text old new found = FindsPlan net beside text old new found
 FindsOf net beside (Some Releases) text old new found = FindsReleases net beside text old new found
 FindsOf net beside (Some LateRow) text old new found = FindsLate net beside text old new found
+FindsOf net beside (Some LateOrder) text old new found = FindsLateOrder net beside text old new found
 FindsOf net beside (Some OneDate) text old new found = FindsDate net beside text old new found
 FindsOf net beside (Some Kept) text old new found = FindsKept net beside text old new found
 FindsOf net beside (Some Recovered) text old new found = FindsRecovered net beside text old new found

@@ -4,7 +4,9 @@ ghost use Rattle.answer_audit.specs.Audits.{Audits, AuditsNet, AuditsText, Finds
 ghost use Rattle.answer_audit.specs.AuditMeanings.{told_meant};
 
 use crate::alone::alone_finding;
-use crate::by_file::{find_date, find_kept, find_late, find_plan, find_recovered, find_releases};
+use crate::by_file::{
+    find_date, find_kept, find_late, find_late_order, find_plan, find_recovered, find_releases,
+};
 use crate::claims::claims_of;
 use crate::files::{open_net, open_text};
 use crate::finding::Finding;
@@ -42,6 +44,7 @@ fn find<S: Shelf>(
         Some(Kind::Plan) => find_plan(alloc, net, beside, text, shelf),
         Some(Kind::Releases) => find_releases(alloc, net, beside, text, shelf),
         Some(Kind::LateRow) => find_late(alloc, net, beside, text, shelf),
+        Some(Kind::LateOrder) => find_late_order(alloc, net, beside, text, shelf),
         Some(Kind::OneDate) => find_date(alloc, net, beside, text, shelf),
         Some(Kind::Kept) => find_kept(alloc, net, beside, text, shelf),
         Some(Kind::Recovered) => find_recovered(alloc, net, beside, text, shelf),
