@@ -128,7 +128,7 @@ def odd_witnesses(command, folder, checker):
     for asked in ASKS.findall(command):
         words = asked.split()
         text = run(words, folder)[1]
-        if not text.startswith(FOREVER if words[1] == "forever" else CLAIMS):
+        if not text.startswith(CLAIMS):
             continue
         further = {"jit": words[3:], "forever": words[3:], "timetable": words[3:5]}
         files = [words[2], "answer.txt", *further.get(words[1], [])]

@@ -16,6 +16,7 @@ use Rattle.dating_check.specs.declared.table_faults.TableFault.TheVariants.{Othe
 use Rattle.dating_check.specs.declared.settled.ShownSettled.{ShownSettled}
 use Rattle.delay_check.specs.ShownDelays.{IsShownKept, IsShownRecovered}
 use Rattle.forever_check.specs.ShownReleases.{IsShownForever}
+use Rattle.forever_check.specs.ShownLate.{IsShownEndlessLate}
 use Rattle.bound_check.specs.ShownBounds.{IsShownBound}
 use Rattle.bound_check.specs.declared.bound.ShownBound.{ShownBound}
 use Rattle.answer_audit.specs.declared.files.EndlessDue.{EndlessDue}
@@ -37,6 +38,10 @@ IsShownPlanFor net text due = (numbers : ℕ) × IsShownTable net due.rows.items
 -- the text tells the latest inputs for these due dates without end
 abbrev pub IsShownReleasesFor : NetLists → List ℕ → EndlessDue → Type 0
 IsShownReleasesFor net text due = IsShownForever net due.rows.items text
+
+-- the text tells the first firing that comes late of these due dates without end
+abbrev pub IsShownLateOrderFor : NetLists → List ℕ → EndlessDue → Type 0
+IsShownLateOrderFor net text due = IsShownEndlessLate net due.rows.items text
 
 -- the text tells the first of these due dates that comes late
 abbrev pub IsShownLateFor : NetLists → List ℕ → Due → Type 0

@@ -9,14 +9,14 @@ use Rattle.audit_calls.specs.AuditCalls.{CallsAudit}
 use Rattle.audit_calls.specs.AnswerAudits.{FindsByFile, FindsNoChecker}
 use Rattle.audit_calls.specs.declared.finding.Finding.{Finding}
 use Rattle.audit_calls.specs.declared.kinds.Kind.{Kind}
-use Rattle.audit_calls.specs.declared.kinds.Kind.TheVariants.{OfNet, OfSearch, Plan, Releases, LateRow, OneDate, Kept, Recovered}
+use Rattle.audit_calls.specs.declared.kinds.Kind.TheVariants.{OfNet, OfSearch, Plan, Releases, LateRow, LateOrder, OneDate, Kept, Recovered}
 use Rattle.audit_calls.specs.declared.kinds.Searched.{Searched}
 use Rattle.audit_calls.specs.declared.question.Beside.{Beside}
 use Rattle.audit_calls.specs.declared.question.Beside.TheVariants.{File, Timetable}
 use Rattle.audit_calls.specs.declared.status.AuditStatus.{AuditStatus}
 use Rattle.pace_audit.specs.PaceAudits.{FindsAlone, FindsDate}
 use Rattle.pace_audit.specs.PaceFindings.{IsFound}
-use Rattle.answer_audit.specs.AnswerFindings.{IsPlanFound, IsShownLateFor, IsShownReleasesFor, IsShownKeptFor, IsShownRecoveredFor, IsShownSearched}
+use Rattle.answer_audit.specs.AnswerFindings.{IsPlanFound, IsShownLateFor, IsShownLateOrderFor, IsShownReleasesFor, IsShownKeptFor, IsShownRecoveredFor, IsShownSearched}
 use Rattle.answer_audit.specs.RowFiles.{SaysDue, SaysEndlessDue, SaysTable}
 
 -- no file is read, and this is found on the net alone, of what a search goes through
@@ -40,6 +40,12 @@ abbrev pub FindsLate : NetLists → Beside → List ℕ → ShelfState → Shelf
 FindsLate net (File name) text old new found = FindsByFile (SaysDue net) (λ due. IsFound net (IsShownLateFor net text due)) name most_file_bytes old new found
 FindsLate net beside text old new found = FindsNoChecker old new found
 
+-- what is found of a firing that comes late of due dates without end, by the due file
+abbrev pub FindsLateOrder : NetLists → Beside → List ℕ → ShelfState → ShelfState → Option Finding → Type 0
+FindsLateOrder net (File name) text old new found =
+    FindsByFile (SaysEndlessDue net) (λ due. IsFound net (IsShownLateOrderFor net text due)) name most_file_bytes old new found
+FindsLateOrder net beside text old new found = FindsNoChecker old new found
+
 -- what is found of delays that are kept, by the timetable
 abbrev pub FindsKept : NetLists → Beside → List ℕ → ShelfState → ShelfState → Option Finding → Type 0
 FindsKept net (Timetable period name) text old new found =
@@ -60,6 +66,7 @@ FindsOf net beside (Some (OfSearch kind)) text old new found = FindsSearched net
 FindsOf net beside (Some Plan) text old new found = FindsPlan net beside text old new found
 FindsOf net beside (Some Releases) text old new found = FindsReleases net beside text old new found
 FindsOf net beside (Some LateRow) text old new found = FindsLate net beside text old new found
+FindsOf net beside (Some LateOrder) text old new found = FindsLateOrder net beside text old new found
 FindsOf net beside (Some OneDate) text old new found = FindsDate net beside text old new found
 FindsOf net beside (Some Kept) text old new found = FindsKept net beside text old new found
 FindsOf net beside (Some Recovered) text old new found = FindsRecovered net beside text old new found

@@ -1,7 +1,9 @@
 //! The audit of all answers.
 ghost use Rattle.answer_audit.specs.Audits.{AuditsWords, FindsOf};
 
-use crate::by_file::{find_kept, find_late, find_plan, find_recovered, find_releases};
+use crate::by_file::{
+    find_kept, find_late, find_late_order, find_plan, find_recovered, find_releases,
+};
 use crate::searched::searched_finding;
 use audit_calls::{AuditStatus, Auditor, Beside, Finding, Kind, audit_words};
 use pace_audit::{alone_finding, find_date};
@@ -35,6 +37,7 @@ impl Auditor for AllAnswers {
             Some(Kind::Plan) => find_plan(alloc, net, beside, text, shelf),
             Some(Kind::Releases) => find_releases(alloc, net, beside, text, shelf),
             Some(Kind::LateRow) => find_late(alloc, net, beside, text, shelf),
+            Some(Kind::LateOrder) => find_late_order(alloc, net, beside, text, shelf),
             Some(Kind::OneDate) => find_date(alloc, net, beside, text, shelf),
             Some(Kind::Kept) => find_kept(alloc, net, beside, text, shelf),
             Some(Kind::Recovered) => find_recovered(alloc, net, beside, text, shelf),

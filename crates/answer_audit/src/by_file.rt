@@ -3,8 +3,8 @@ ghost use Rattle.std.specs.Prelude.{IfOk};
 ghost use Rattle.csv_records.specs.Records.{most_file_bytes};
 ghost use Rattle.audit_calls.specs.AnswerAudits.{FindsByFile};
 ghost use Rattle.pace_audit.specs.PaceFindings.{IsFound};
-ghost use Rattle.answer_audit.specs.AnswerFindings.{IsPlanFound, IsShownKeptFor, IsShownLateFor, IsShownRecoveredFor, IsShownReleasesFor};
-ghost use Rattle.answer_audit.specs.Audits.{FindsKept, FindsLate, FindsPlan, FindsRecovered, FindsReleases};
+ghost use Rattle.answer_audit.specs.AnswerFindings.{IsPlanFound, IsShownKeptFor, IsShownLateFor, IsShownLateOrderFor, IsShownRecoveredFor, IsShownReleasesFor};
+ghost use Rattle.answer_audit.specs.Audits.{FindsKept, FindsLate, FindsLateOrder, FindsPlan, FindsRecovered, FindsReleases};
 ghost use Rattle.answer_audit.specs.RowFiles.{SaysDue, SaysEndlessDue, SaysTable};
 
 use crate::files::{EndlessDue, open_due, open_endless, open_table};
@@ -12,7 +12,7 @@ use audit_calls::{Beside, Finding};
 use dating_check::{TableFault, shown_first_late, shown_table, table_fault};
 use delay_check::{shown_kept, shown_recovered};
 use delay_laws::Timetable;
-use forever_check::shown_forever;
+use forever_check::{shown_endless_late, shown_forever};
 use std::alloc::Global;
 use teg_due::Due;
 use teg_net::{Net, OutOfMemory};
@@ -128,6 +128,58 @@ pub(crate) fn find_releases<S: Shelf>(
 {
     match beside {
         Beside::File { name } => releases_by_file(alloc, net, name.as_str(), text, shelf),
+        _ => Ok(Some(Finding::NoChecker)),
+    }
+}
+
+// Of `forever`, the first firing that comes late.
+fn late_order_finding(
+    alloc: Global,
+    net: &Net,
+    due: &EndlessDue,
+    text: &str,
+) -> Result<Finding, OutOfMemory>
+    ensures { IfOk result (IsFound net.now (IsShownLateOrderFor net.now text.now due.now)) }
+{
+    if shown_endless_late(alloc, net, &due.rows, text)? {
+        Ok(Finding::Shown)
+    } else {
+        Ok(Finding::NotShown)
+    }
+}
+
+// The same by the due file of this name.
+fn late_order_by_file<S: Shelf>(
+    alloc: Global,
+    net: &Net,
+    name: &str,
+    text: &str,
+    shelf: &mut S,
+) -> Result<Option<Finding>, OutOfMemory>
+    ensures { IfOk result (FindsByFile (SaysEndlessDue net.now)
+        (λ due. IsFound net.now (IsShownLateOrderFor net.now text.now due))
+        name.now most_file_bytes (S.state shelf.old) (S.state shelf.new)) }
+{
+    let Some(due) = open_endless(alloc, net, name, shelf)? else {
+        return Ok(None);
+    };
+    let finding = late_order_finding(alloc, net, &due, text)?;
+    Ok(Some(finding))
+}
+
+// The same by what it was asked with.
+pub(crate) fn find_late_order<S: Shelf>(
+    alloc: Global,
+    net: &Net,
+    beside: &Beside,
+    text: &str,
+    shelf: &mut S,
+) -> Result<Option<Finding>, OutOfMemory>
+    ensures { IfOk result (FindsLateOrder net.now beside.now text.now
+        (S.state shelf.old) (S.state shelf.new)) }
+{
+    match beside {
+        Beside::File { name } => late_order_by_file(alloc, net, name.as_str(), text, shelf),
         _ => Ok(Some(Finding::NoChecker)),
     }
 }

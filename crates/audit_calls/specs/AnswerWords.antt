@@ -5,7 +5,7 @@ use Rattle.std.specs.Str.Lines.{lines}
 use Rattle.audit_calls.specs.declared.kinds.Alone.TheVariants.{Live, Deadlock, Listed, NoCircuit, Slack, Cycle, Size}
 use Rattle.audit_calls.specs.declared.kinds.Searched.TheVariants.{Rounds, Settled, Bound}
 use Rattle.audit_calls.specs.declared.kinds.Kind.{Kind}
-use Rattle.audit_calls.specs.declared.kinds.Kind.TheVariants.{OfNet, OfSearch, Plan, Releases, LateRow, OneDate, Kept, Recovered}
+use Rattle.audit_calls.specs.declared.kinds.Kind.TheVariants.{OfNet, OfSearch, Plan, Releases, LateRow, LateOrder, OneDate, Kept, Recovered}
 use Rattle.audit_calls.specs.declared.question.Beside.{Beside}
 use Rattle.audit_calls.specs.declared.question.Beside.TheVariants.{Nothing, File, Timetable}
 
@@ -53,13 +53,14 @@ told_alone first second below last =
 abbrev pub plan_told : List ℕ → Kind
 plan_told line = if bytes_eq line (codes "latest inputs forever") then Releases else Plan
 
--- an answer of a late firing, by the first word of its second line: one with a path, or with a date from which it leads; one without, as
--- `forever` tells it, no checker reads
+-- an answer of a late firing, by the first word of its second line: one with a path, or with a date from which it leads, as `jit` tells
+-- it; or one of a line alone, as `forever` does
 abbrev pub late_told : List ℕ → Option Kind
 late_told below =
     if bytes_eq below (codes "path") then Some LateRow
     else (if bytes_eq below (codes "from") then Some LateRow
-    else None)
+    else (if bytes_eq below [] then Some LateOrder
+    else None))
 
 -- an answer that was asked with a file, by its first line, the first word of it and that of the second: latest dates, a late row, or one
 -- date

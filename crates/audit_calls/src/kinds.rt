@@ -49,6 +49,8 @@ pub enum Kind {
     Releases,
     /// `jit`: a row that comes late.
     LateRow,
+    /// `forever`: a firing that comes late.
+    LateOrder,
     /// `date`.
     OneDate,
     /// `timetable`: delays that are kept.
@@ -121,14 +123,15 @@ fn plan_told(line: &str) -> Kind
     }
 }
 
-// An answer of a late firing, by the first word of its second line; no checker reads one without a
-// path, as `forever` tells it.
+// An answer of a late firing, by the first word of its second line: one with a path, or without, as
+// `forever` tells it.
 fn late_told(below: &str) -> Option<Kind>
     ensures { result ≡ late_told below.now }
 {
     match below {
         "path" => Some(Kind::LateRow),
         "from" => Some(Kind::LateRow),
+        "" => Some(Kind::LateOrder),
         _ => None,
     }
 }

@@ -58,7 +58,7 @@ choice a ba 0
 ";
 
 // The files of the shelf, by name.
-pub(crate) const FILES: [(&str, &[u8]); 40] = [
+pub(crate) const FILES: [(&str, &[u8]); 41] = [
     (
         "loop",
         b"transition = [{ name = \"a\" }, { name = \"b\" }]
@@ -160,6 +160,7 @@ place = [
         "sooner releases",
         b"latest inputs forever\ninput material 13 19 period 2 step 15\n",
     ),
+    ("rush orders", b"ship,1,6,30\n"),
     ("late order", b"late ship 17 due 126 least 127\n"),
     (
         "table",
@@ -190,7 +191,7 @@ place = [
 // The words of a call, how it ends, and what it writes.
 pub(crate) type Call<'a> = (&'a [&'a str], AuditStatus, &'a str);
 
-const CALLS: [Call<'static>; 53] = [
+const CALLS: [Call<'static>; 54] = [
     (&["loop", "live"], AuditStatus::Shown, "shown live\n"),
     (
         &["loop", "other counts"],
@@ -264,9 +265,14 @@ const CALLS: [Call<'static>; 53] = [
         "no checker latest inputs forever\n",
     ),
     (
+        &["shop", "late order", "rush orders"],
+        AuditStatus::Shown,
+        "shown late ship 17 due 126 least 127\n",
+    ),
+    (
         &["shop", "late order", "orders"],
-        AuditStatus::NoChecker,
-        "no checker late ship 17 due 126 least 127\n",
+        AuditStatus::NotShown,
+        "not shown late ship 17 due 126 least 127\n",
     ),
     (&["plain", "none"], AuditStatus::Shown, "shown no circuit\n"),
     (

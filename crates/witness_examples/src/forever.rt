@@ -1,7 +1,8 @@
-//! Releases without end that are shown to meet what is due, and to be the latest that do.
+//! Releases without end that are shown to meet what is due, and to be the latest that do; and firings
+//! that are shown to come late.
 use endless_due::{EndlessRow, read_endless};
 use example_nets::{SHOP, ask_net};
-use forever_check::{shown_forever, shown_met};
+use forever_check::{shown_endless_late, shown_forever, shown_met};
 use std::alloc::Global;
 use std::test::Fail;
 use teg_net::Net;
@@ -66,6 +67,50 @@ const TEXTS: [(&str, &str, bool, bool); 13] = [
     ),
 ];
 
+// A part is due every 6, one sooner than the drill gives it.
+const RUSH: &str = "ship,1,6,30\n";
+
+// The first is due late enough for 10^12 parts.
+const FAR: &str = "ship,1,6,1000000000000\n";
+
+// Of two rows the first is never late, or the second would be sooner.
+const SECOND: &str = "drill,1,7,30\nship,1,6,30\n";
+
+const FIRST: &str = "ship,1,6,30\ndrill,1,6,8\n";
+
+// Due dates, the text of a firing that comes late, and whether it is shown to be the first.
+const LATE: [(&str, &str, bool); 18] = [
+    (RUSH, "late ship 17 due 126 least 127\n", true),
+    (SECOND, "late ship 17 due 126 least 127\n", true),
+    (FIRST, "late ship 17 due 126 least 127\n", true),
+    (
+        FAR,
+        "late ship 999999999987 due 6999999999916 least 6999999999917\n",
+        true,
+    ),
+    ("ship,2,14,9,16\n", "late ship 1 due 9 least 15\n", true),
+    // A firing that is late, and not the first of its row or its row not the first that has one.
+    (RUSH, "late ship 18 due 132 least 134\n", false),
+    (
+        FAR,
+        "late ship 999999999988 due 6999999999922 least 6999999999924\n",
+        false,
+    ),
+    ("ship,2,14,9,16\n", "late ship 2 due 16 least 22\n", false),
+    (FIRST, "late drill 3 due 20 least 21\n", false),
+    // One that comes just when it is due, or is never due.
+    (RUSH, "late ship 16 due 120 least 120\n", false),
+    (RUSH, "late drill 17 due 126 least 127\n", false),
+    (STEADY, "late ship 17 due 142 least 127\n", false),
+    // Other dates, and other words.
+    (RUSH, "late ship 17 due 125 least 127\n", false),
+    (RUSH, "late ship 17 due 126 least 128\n", false),
+    (RUSH, "late ship 17 due 126 least 0127\n", false),
+    (RUSH, "late ship 17 due 126 before 127\n", false),
+    (RUSH, "late ship 17 due 126 least 127", false),
+    (RUSH, "late ship 17 due 126 least 127\nno more\n", false),
+];
+
 // The rows of a file of due dates without end.
 fn rows_of(alloc: Global, net: &Net, file: &str) -> Result<Vec<EndlessRow>, Fail> {
     if file.len() > 4_194_304 {
@@ -95,4 +140,20 @@ fn are_met(alloc: Global, shop: &Net) -> Result<(), Fail> {
 #[test]
 fn releases_are_shown_to_meet(rt: HostRuntime) -> Result<(), Fail> {
     ask_net(rt.alloc(), SHOP, are_met)
+}
+
+// Whether each text shows so of the shop what is late; otherwise the line of the first that does not.
+fn are_late(alloc: Global, shop: &Net) -> Result<(), Fail> {
+    for (file, line, shown) in &LATE {
+        let rows = rows_of(alloc, shop, file)?;
+        if shown_endless_late(alloc, shop, &rows, *line)? != *shown {
+            return Err(Fail::new(*line));
+        }
+    }
+    Ok(())
+}
+
+#[test]
+fn late_firings_are_shown(rt: HostRuntime) -> Result<(), Fail> {
+    ask_net(rt.alloc(), SHOP, are_late)
 }
