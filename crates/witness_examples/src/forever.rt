@@ -1,5 +1,5 @@
 //! Releases without end that are shown to meet what is due, and to be the latest that do; and firings
-//! that are shown to come late.
+//! that are shown to come late, the first of its row by `least_late` of `endless_laws`.
 use endless_due::{EndlessRow, read_endless};
 use example_nets::{SHOP, ask_net};
 use forever_check::{shown_endless_late, shown_forever, shown_met};
