@@ -12,7 +12,7 @@ use answer_check::{refutes_list, shown_list, shown_no_circuit, shown_slack};
 use bound_check::{refutes_bound, shown_bound};
 use dating_check::shown_settled;
 use pace_check::{shown_pace, shown_size};
-use round_check::shown_rounds;
+use round_check::{refutes_rounds, shown_rounds};
 use std::alloc::{AllocError, Global};
 use teg_net::{Net, OutOfMemory};
 use witness_check::{is_seen_live, shows_deadlock};
@@ -116,9 +116,12 @@ fn cycle_finding(alloc: Global, net: &Net, text: &str) -> Result<Finding, OutOfM
 fn rounds_finding(alloc: Global, net: &Net, text: &str) -> Result<Finding, OutOfMemory>
     ensures { IfOk result (IsFound net.now (IsShownAlone net.now Alone.Rounds text.now)) }
 {
-    match shown_rounds(alloc, net, text)? {
-        Some(_) => Ok(Finding::Shown),
-        None => Ok(Finding::NotShown),
+    if shown_rounds(alloc, net, text)?.is_some() {
+        Ok(Finding::Shown)
+    } else if refutes_rounds(alloc, net, text)? {
+        Ok(Finding::Refuted)
+    } else {
+        Ok(Finding::NotShown)
     }
 }
 

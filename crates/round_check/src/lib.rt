@@ -5,8 +5,9 @@
 //! its circuit, its ratio and its potentials. [`check_run`] looks at all rounds of a part: whether
 //! they are a policy run (`IsPolicyRun`), in a live net exactly. [`shown_rounds`] reads the text of `cycle --rounds`
 //! without a promise, lets [`check_run`] and the checks of `pace_check` look at what was read, prints
-//! the text anew, and compares (`IsShownRounds`). Whatever found the rounds, nothing is believed but
-//! the net and these.
+//! the text anew, and compares (`IsShownRounds`). [`refutes_rounds`] tells that a text with right
+//! cycle times has other rounds than those of the net (`IsOtherRounds`, which [`is_other_rounds`] decides
+//! of given ones). Whatever found the rounds, nothing is believed but the net and these.
 //!
 //! The crate stands on `policy_rounds` for what a round and a run are and for lemmas on choices,
 //! policies and their circuits, and on no crate that finds rounds; on `pace_check` and
@@ -17,6 +18,7 @@
 
 mod choices;
 mod circuits;
+mod other;
 mod parts;
 mod policies;
 mod reading;
@@ -25,6 +27,7 @@ mod routing;
 mod runs;
 mod shown;
 
+pub use other::{is_other_rounds, refutes_rounds};
 pub use rounds::check_round;
 pub use runs::check_run;
 pub use shown::shown_rounds;

@@ -1,14 +1,16 @@
 //! The text of `teg cycle --rounds`.
-ghost use Rattle.std.specs.Prelude.{◌≡◌, ◌↔◌, ◌<◌, ◌++◌, All, IfOk, IfSome, IsTrue, Some, length, map, slice_index_or};
+ghost use Rattle.std.specs.Prelude.{ℕ, ◌≡◌, ◌↔◌, ◌<◌, ◌≤◌, ◌++◌, All, IfNone, IfOk, IfSome, IsTrue, Some, drop, length, map, slice_index_or};
 ghost use Rattle.teg_net.specs.Certificates.{IsCertificate};
 ghost use Rattle.teg_net.specs.declared.answers.PartAnswer.TheVariants.{NoCircuit};
-ghost use Rattle.policy_rounds.specs.RunAnswers.{IsAnswerOf, KeepsLimits, potential_of};
+ghost use Rattle.teg_net.specs.Circuits.{IsLive};
+ghost use Rattle.teg_net.specs.Parts.{IsMember};
+ghost use Rattle.policy_rounds.specs.RunAnswers.{IsAnswerOf, IsAnswerOfLast, KeepsLimits, potential_of};
 ghost use Rattle.policy_rounds.specs.LastRounds.{AreRunsFrom, rounds_of_runs};
 ghost use Rattle.teg_certificates.specs.BestRatios.{best_ratio_of};
 ghost use Rattle.teg_text.specs.Lines.{written};
 ghost use Rattle.teg_lines.specs.CycleLines.{cycle_lines};
 ghost use Rattle.teg_lines.specs.CycleMeanings.{cycle_lists, runs_lists};
-ghost use Rattle.teg_lines.specs.RoundLines.{IsRunKept, runs_lines, told_runs};
+ghost use Rattle.teg_lines.specs.RoundLines.{AreRunsTold, IsRunKept, runs_lines, told_runs};
 ghost use Rattle.round_check.specs.ShownRounds.{EndsIn, IsShownRounds, RunsGoOn};
 
 use crate::reading::rounds_in;
@@ -23,14 +25,14 @@ use teg_net::{
 
 // Whether the potential is that of the choice.
 fn is_potential_of(told: Potential, choice: Choice) -> bool
-    ensures { IsTrue result → told ≡ potential_of choice }
+    ensures { IsTrue result ↔ (told ≡ potential_of choice) }
 {
     told.transition == choice.transition && told.value == choice.value
 }
 
 // Whether the potentials are those of the choices.
 fn are_potentials_of(told: &[Potential], choices: &[Choice]) -> bool
-    ensures { IsTrue result → told.now ≡ map potential_of choices.now }
+    ensures { IsTrue result ↔ (told.now ≡ map potential_of choices.now) }
 {
     if told.len() != choices.len() {
         return false;
@@ -45,7 +47,7 @@ fn are_potentials_of(told: &[Potential], choices: &[Choice]) -> bool
 
 // Whether ratio, circuit and potentials are those of the round.
 fn has_answer(round: &Round, ratio: Ratio, circuit: &[PlaceId], potentials: &[Potential]) -> bool
-    ensures { IsTrue result → ((ratio ≡ round.now.ratio)
+    ensures { IsTrue result ↔ ((ratio ≡ round.now.ratio)
         × (circuit.now ≡ round.now.circuit.places.items)
         × (potentials.now ≡ map potential_of round.now.choices.items)) }
 {
@@ -56,7 +58,7 @@ fn has_answer(round: &Round, ratio: Ratio, circuit: &[PlaceId], potentials: &[Po
 
 // Whether the answer is that of the round.
 fn is_answer_of(round: &Round, answer: &PartAnswer) -> bool
-    ensures { IsTrue result → IsAnswerOf round.now answer.now }
+    ensures { IsTrue result ↔ IsAnswerOf round.now answer.now }
 {
     match answer {
         PartAnswer::NoCircuit => false,
@@ -68,7 +70,27 @@ fn is_answer_of(round: &Round, answer: &PartAnswer) -> bool
     }
 }
 
-// Whether the rounds are a policy run of the part that ends in its answer.
+// The number as that of a part; none where no transition has it.
+fn number_of(part_of: &[u32], number: usize) -> Option<u32>
+    ensures some { IfSome result (λ part. part ≡ number) }
+    ensures none { IfNone result ((t : ℕ) → IsMember part_of.now number t → ⊥) }
+{
+    match u32::try_from(number) {
+        Ok(part) => Some(part),
+        Err(_) => None,
+    }
+}
+
+// Whether the answer is that of the last of the rounds.
+fn ends_in(rounds: &[Round], answer: &PartAnswer) -> bool
+    requires { 0 < length rounds.now }
+    ensures { IsTrue result ↔ IsAnswerOfLast rounds.now answer.now }
+{
+    is_answer_of(&rounds[rounds.len() - 1], answer)
+}
+
+// Whether the rounds are a policy run of the part that ends in its answer. In a live net they are no
+// such run where it says no.
 fn is_run_of(
     alloc: Global,
     net: &Net,
@@ -78,20 +100,25 @@ fn is_run_of(
 ) -> Result<bool, OutOfMemory>
     requires count { length answer.now.part_of.items ≡ length net.now.transitions }
     requires number { number < length answer.now.parts.items }
-    ensures { IfOk result (λ yes. IsTrue yes → EndsIn net.now answer.now.part_of.items number
+    ensures sure { IfOk result (λ yes. IsTrue yes → EndsIn net.now answer.now.part_of.items number
         (slice_index_or answer.now.parts.items number NoCircuit) rounds.now) }
+    ensures all { IsLive net.now → IfOk result (λ yes. EndsIn net.now answer.now.part_of.items number
+        (slice_index_or answer.now.parts.items number NoCircuit) rounds.now → IsTrue yes) }
 {
-    let Ok(part) = u32::try_from(number) else {
+    if rounds.len() == 0 {
+        return Ok(false);
+    }
+    let Some(part) = number_of(&answer.part_of, number) else {
         return Ok(false);
     };
-    if rounds.len() == 0 || !is_answer_of(&rounds[rounds.len() - 1], &answer.parts[number]) {
+    if !ends_in(rounds, &answer.parts[number]) {
         return Ok(false);
     }
     check_run(alloc, net, &answer.part_of, part, rounds)
 }
 
 // How many runs are told with that of this part, where so many are told before it; none where its
-// run is not told.
+// run is not told, which in a live net is only where the runs are not those of the parts.
 fn told_with(
     alloc: Global,
     net: &Net,
@@ -102,8 +129,13 @@ fn told_with(
 ) -> Result<Option<usize>, OutOfMemory>
     requires count { length answer.now.part_of.items ≡ length net.now.transitions }
     requires number { number < length answer.now.parts.items }
-    ensures { IfOk result (λ next. IfSome next (RunsGoOn net.now answer.now.part_of.items
+    ensures some { IfOk result (λ next. IfSome next (RunsGoOn net.now answer.now.part_of.items
         answer.now.parts.items (rounds_of_runs runs.now) number told)) }
+    ensures within { IfOk result (λ next. IfSome next (λ n. told ≤ length runs.now
+        → n ≤ length runs.now)) }
+    ensures none { IsLive net.now → IfOk result (λ next. IfNone next (AreRunsFrom net.now
+        answer.now.part_of.items number (drop number answer.now.parts.items) (drop told
+        (rounds_of_runs runs.now)) → ⊥)) }
 {
     match &answer.parts[number] {
         PartAnswer::NoCircuit => Ok(Some(told)),
@@ -128,16 +160,18 @@ fn are_all(told: usize, count: usize) -> bool
 }
 
 // Whether the runs are those of the parts with a circuit, in order, each ending in its part's
-// answer.
-fn are_runs(
+// answer. In a live net they are not where it says no.
+pub(crate) fn are_runs(
     alloc: Global,
     net: &Net,
     answer: &CycleAnswer,
     runs: &[Vec<Round>],
 ) -> Result<bool, OutOfMemory>
     requires { length answer.now.part_of.items ≡ length net.now.transitions }
-    ensures { IfOk result (λ yes. IsTrue yes → AreRunsFrom net.now answer.now.part_of.items 0
+    ensures sure { IfOk result (λ yes. IsTrue yes → AreRunsFrom net.now answer.now.part_of.items 0
         answer.now.parts.items (rounds_of_runs runs.now)) }
+    ensures all { IsLive net.now → IfOk result (λ yes. AreRunsFrom net.now answer.now.part_of.items
+        0 answer.now.parts.items (rounds_of_runs runs.now) → IsTrue yes) }
 {
     let mut told = 0;
     for number in 0..answer.parts.len() {
@@ -171,7 +205,7 @@ fn keep_limits(answer: &CycleAnswer) -> bool
 }
 
 // Whether the whole text is that of these cycle times and of these rounds.
-fn tells_rounds(
+pub(crate) fn tells_rounds(
     alloc: Global,
     net: &Net,
     text: &str,
@@ -181,12 +215,11 @@ fn tells_rounds(
 ) -> Result<bool, OutOfMemory>
     requires certificate { IsCertificate net.now answer.now }
     requires best { best_ratio_of answer.now ≡ Some ratio }
-    requires runs { AreRunsFrom net.now answer.now.part_of.items 0 answer.now.parts.items
-        (rounds_of_runs runs.now) }
-    ensures text { IfOk result (λ yes. IsTrue yes → text.now
+    requires runs { AreRunsTold net.now (cycle_lists answer.now).parts (runs_lists runs.now) }
+    ensures text { IfOk result (λ yes. IsTrue yes ↔ (text.now
         ≡ written (cycle_lines net.now (cycle_lists answer.now)
         ++ runs_lines net.now (told_runs (cycle_lists answer.now).parts
-        (Some (runs_lists runs.now))))) }
+        (Some (runs_lists runs.now)))))) }
     ensures kept { IfOk result (λ _. All IsRunKept (runs_lists runs.now)) }
 {
     certificates_can_be_told();

@@ -1,7 +1,7 @@
 //! Rounds of policy iteration as they are told, and texts with rounds that are none of their policies,
 //! that do not follow from one another, or that do not end in the cycle times.
 use example_nets::read;
-use round_check::shown_rounds;
+use round_check::{refutes_rounds, shown_rounds};
 use std::alloc::Global;
 use std::test::Fail;
 
@@ -102,32 +102,34 @@ choice west_in west_round 0
 choice west_out west_run 11
 ";
 
-// Lines of rounds behind the cycle times, and whether the whole is shown.
-const RUNS: [(&str, &str, bool); 11] = [
-    (FIRST, SECOND, true),
-    (FIRST, "", false),
-    ("", "", false),
-    ("", SECOND, false),
-    (SECOND, FIRST, false),
-    (ALONE, "", false),
-    (RAISED, SECOND, false),
-    (OTHER, SECOND, false),
-    (TURNED, SECOND, false),
-    (FIRST, DOUBLED, false),
-    (FIRST, THIRD, false),
+// Lines of rounds behind the cycle times, whether the whole is shown, and whether it tells other
+// rounds: not where no round is told, a round has another number or a ratio is written otherwise.
+const RUNS: [(&str, &str, bool, bool); 11] = [
+    (FIRST, SECOND, true, false),
+    (FIRST, "", false, true),
+    ("", "", false, false),
+    ("", SECOND, false, false),
+    (SECOND, FIRST, false, false),
+    (ALONE, "", false, true),
+    (RAISED, SECOND, false, true),
+    (OTHER, SECOND, false, true),
+    (TURNED, SECOND, false, true),
+    (FIRST, DOUBLED, false, false),
+    (FIRST, THIRD, false, false),
 ];
 
-// Whether the cycle times with these lines behind them are shown.
-fn is_shown(alloc: Global, first: &str, second: &str) -> Result<bool, Fail> {
+// Whether the cycle times with these lines behind them are shown, and whether they are refuted.
+fn is_told(alloc: Global, first: &str, second: &str) -> Result<(bool, bool), Fail> {
     let net = read(alloc, TRACK)?;
     let text = format!(in alloc; "{TIMES}{first}{second}")?;
-    Ok(shown_rounds(alloc, &net, text.as_str())?.is_some())
+    let is_shown = shown_rounds(alloc, &net, text.as_str())?.is_some();
+    Ok((is_shown, refutes_rounds(alloc, &net, text.as_str())?))
 }
 
 #[test]
 fn only_the_rounds_of_the_run_are_shown(rt: HostRuntime) -> Result<(), Fail> {
-    for (first, second, wanted) in RUNS {
-        if is_shown(rt.alloc(), first, second)? != wanted {
+    for (first, second, is_shown, is_refuted) in RUNS {
+        if is_told(rt.alloc(), first, second)? != (is_shown, is_refuted) {
             return Err(Fail::new(first));
         }
     }
