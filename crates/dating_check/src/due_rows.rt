@@ -39,9 +39,10 @@ fn are_once(alloc: Global, net: &Net, rows: &[DueRow]) -> Result<bool, OutOfMemo
     Ok(true)
 }
 
-// Whether the rows are a due list of the net: each a firing that may be due, and no firing twice. It
-// takes 10,001 bytes for each transition, and a step a row.
-pub(crate) fn is_due_list(alloc: Global, net: &Net, due: &Due) -> Result<bool, OutOfMemory>
+/// Whether these rows are a due list of the net, as [`is_due_of`](teg_due::is_due_of) tells it: each
+/// row a firing that may be due (rules of due files), and no firing twice. It takes 10,001 bytes for
+/// each transition, and a step a row. `OutOfMemory` comes only where no memory is found.
+pub fn is_due_list(alloc: Global, net: &Net, due: &Due) -> Result<bool, OutOfMemory>
     ensures due { IfOk result (λ yes. IsTrue yes → IsDueOf net.now due.now.rows.items) }
     ensures all { IfOk result (λ yes. IsDueOf net.now due.now.rows.items → IsTrue yes) }
 {

@@ -42,6 +42,7 @@ mod walk_reading;
 mod ways;
 mod wrong_line;
 
+pub use due_rows::is_due_list;
 pub use first_late::shown_first_late;
 pub use late::shown_late;
 pub use latest::{ShownLatest, shown_latest};

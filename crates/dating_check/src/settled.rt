@@ -25,7 +25,7 @@ pub struct ShownSettled {
     pub period: u64,
 }
 
-// A number, a period, so many rows of dates, each of this width, and steps.
+// A number, a period, so many rows of dates, each of this width, and a step for each column.
 #[derive(Clone, Copy)]
 struct FormRows<'t> {
     after: u64,
@@ -34,6 +34,9 @@ struct FormRows<'t> {
     width: usize,
     dates: &'t [Date],
     steps: &'t [i128],
+    ghost all: { count ≡ after + period },
+    ghost rows: { count * width ≤ length dates.now },
+    ghost each: { length steps.now ≡ width },
 }
 
 // How many dates of each transition the form tells, where it has them and a step for each.
@@ -101,9 +104,6 @@ fn push_form_line(
 ) -> Result<(), AllocError>
     requires index { index < length net.now.transitions }
     requires width { form.width ≡ length net.now.transitions }
-    requires count { form.count ≡ form.after + form.period }
-    requires rows { form.count * form.width ≤ length form.dates.now }
-    requires steps { length form.steps.now ≡ form.width }
     ensures { IfOk result (λ _. string_bytes text.new ≡ string_bytes text.old
         ++ line_then (form_line net.now (form_by_rows form.entry.width form.entry.dates.now
         form.entry.after form.entry.period form.entry.steps.now) index) []) }
@@ -116,10 +116,7 @@ fn push_form_line(
 
 // The lines of the form.
 fn lines_of(alloc: Global, net: &Net, form: FormRows<'_>) -> Result<String, AllocError>
-    requires width { form.width ≡ length net.now.transitions }
-    requires count { form.count ≡ form.after + form.period }
-    requires rows { form.count * form.width ≤ length form.dates.now }
-    requires steps { length form.steps.now ≡ form.width }
+    requires { form.width ≡ length net.now.transitions }
     ensures { IfOk result (λ text. string_bytes text ≡ written (lines_of_form net.now
         (form_by_rows form.entry.width form.entry.dates.now form.entry.after form.entry.period
         form.entry.steps.now))) }

@@ -1,5 +1,6 @@
 //! The witness of all lines of `teg jit`: the table of latest dates itself.
 ghost use Rattle.std.specs.Prelude.{◌≡◌, ◌+◌, ◌*◌, ◌<◌, ◌≤◌, ◌++◌, [], All, IfOk, IfSome, IsTrue, length, string_bytes};
+ghost use Rattle.teg_net.specs.Limits.{most_transitions};
 ghost use Rattle.teg_text.specs.Lines.{further_then, line_then, written};
 ghost use Rattle.dating_check.specs.ShownTables.{IsShownTable, IsWayIn, firing_line, firing_lines, role_told, table_told_lines, way_words};
 
@@ -97,8 +98,8 @@ fn push_firing(
     }
 }
 
-// Rows of dates and steps up to a number, each of this width; a due list, and where in it the row of
-// each firing stands.
+// Rows of dates and steps up to a number, each as wide as a net at most; a due list, and where in it
+// the row of each firing stands.
 #[derive(Clone, Copy)]
 pub(crate) struct TableRows<'t> {
     pub(crate) numbers: u32,
@@ -107,6 +108,9 @@ pub(crate) struct TableRows<'t> {
     pub(crate) ways: &'t [Option<Step>],
     pub(crate) due: &'t [DueRow],
     pub(crate) due_places: &'t [usize],
+    ghost few: { width ≤ most_transitions },
+    ghost dated: { numbers * width ≤ length dates.now },
+    ghost led: { numbers * width ≤ length ways.now },
 }
 
 // Appends the lines of the transition of this number.
@@ -118,8 +122,6 @@ fn push_firings(
 ) -> Result<(), AllocError>
     requires index { index < length net.now.transitions }
     requires width { rows.width ≡ length net.now.transitions }
-    requires dates { rows.numbers * rows.width ≤ length rows.dates.now }
-    requires ways { rows.numbers * rows.width ≤ length rows.ways.now }
     requires in_net { All (IsWayIn net.now) rows.ways.now }
     ensures { IfOk result (λ _. string_bytes text.new ≡ string_bytes text.old ++ written
         (firing_lines net.now rows.entry.width rows.entry.numbers rows.entry.dates.now
@@ -141,8 +143,6 @@ fn push_firings(
 // The lines of the table.
 fn lines_of(alloc: Global, net: &Net, rows: TableRows<'_>) -> Result<String, AllocError>
     requires width { rows.width ≡ length net.now.transitions }
-    requires dates { rows.numbers * rows.width ≤ length rows.dates.now }
-    requires ways { rows.numbers * rows.width ≤ length rows.ways.now }
     requires in_net { All (IsWayIn net.now) rows.ways.now }
     ensures { IfOk result (λ text. string_bytes text ≡ written (table_told_lines net.now
         rows.entry.width rows.entry.numbers rows.entry.dates.now rows.entry.ways.now)) }

@@ -15,7 +15,6 @@ use teg_net::{Net, PlaceId, Step, TransitionId};
 
 // The date of this firing in the rows, and Never past the last number.
 fn date_up_to(rows: TableRows<'_>, transition: TransitionId, number: u64) -> Date
-    requires width { rows.width ≤ most_transitions }
     requires number { 1 ≤ number }
     ensures { result ≡ date_up_to rows.entry.numbers rows.entry.width rows.entry.dates.now transition.index number }
 {
@@ -56,7 +55,6 @@ fn leads_on(
     transition: TransitionId,
     number: u32,
 ) -> bool
-    requires width { rows.width ≤ most_transitions }
     requires number { 1 ≤ number }
     ensures from { IsTrue result → from_of net.now place ≡ transition.index }
     ensures tight { IsTrue result → date_up_to rows.entry.numbers rows.entry.width rows.entry.dates.now
@@ -75,7 +73,6 @@ fn leads_on(
 
 // Whether the firing comes with the next one.
 fn comes_with_next(rows: TableRows<'_>, transition: TransitionId, number: u32) -> bool
-    requires width { rows.width ≤ most_transitions }
     requires number { 1 ≤ number }
     ensures { IsTrue result → date_up_to rows.entry.numbers rows.entry.width rows.entry.dates.now
         transition.index (number + 1)
@@ -96,7 +93,6 @@ fn cell(width: usize, transition: TransitionId, number: u32) -> usize
 
 // The step of this firing.
 fn way_at(rows: TableRows<'_>, transition: TransitionId, number: u32) -> Option<Step>
-    requires width { rows.width ≤ most_transitions }
     requires number { 1 ≤ number }
     ensures { result ≡ way_in_rows rows.entry.width rows.entry.ways.now transition.index number }
 {
@@ -108,7 +104,6 @@ fn way_at(rows: TableRows<'_>, transition: TransitionId, number: u32) -> Option<
 
 // Whether the firing is free, or its date is attained by its step.
 fn is_attained(net: &Net, rows: TableRows<'_>, transition: TransitionId, number: u32) -> bool
-    requires width { rows.width ≤ most_transitions }
     requires number { 1 ≤ number }
     ensures { IsTrue result → IsAttained net.now rows.entry.due.now rows.entry.numbers rows.entry.width
         rows.entry.dates.now rows.entry.ways.now transition.index number }
@@ -132,7 +127,6 @@ fn is_attained(net: &Net, rows: TableRows<'_>, transition: TransitionId, number:
 
 // Whether so is each firing of this number.
 fn are_attained_at(net: &Net, rows: TableRows<'_>, number: u32) -> bool
-    requires width { rows.width ≤ most_transitions }
     requires number { 1 ≤ number }
     ensures { IsTrue result → (t : ℕ) → t < rows.entry.width → IsAttained net.now rows.entry.due.now
         rows.entry.numbers rows.entry.width rows.entry.dates.now rows.entry.ways.now t number }
@@ -147,7 +141,6 @@ fn are_attained_at(net: &Net, rows: TableRows<'_>, number: u32) -> bool
 
 // Whether so is each firing of the table.
 pub(crate) fn are_attained(net: &Net, rows: TableRows<'_>) -> bool
-    requires width { rows.width ≤ most_transitions }
     ensures { IsTrue result → AreAttained net.now rows.entry.due.now rows.entry.numbers rows.entry.width
         rows.entry.dates.now rows.entry.ways.now }
 {

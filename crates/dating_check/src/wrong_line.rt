@@ -38,12 +38,13 @@ fn tells_date(
     is_latest_word(buffer, word, date)
 }
 
-// Rows of dates from number 1 up to a number, each of this width.
+// Rows of dates from number 1 up to a number, each as wide as a net at most.
 #[derive(Clone, Copy)]
 pub(crate) struct DateRows<'t> {
     pub(crate) numbers: u32,
     pub(crate) width: usize,
     pub(crate) dates: &'t [Date],
+    ghost few: { width ≤ most_transitions },
 }
 
 // The number of the first line of the transition of this number that tells another date.
@@ -53,7 +54,6 @@ fn first_other_of(
     rows: DateRows<'_>,
     index: usize,
 ) -> Result<Option<u32>, AllocError>
-    requires width { rows.width ≤ most_transitions }
     requires index { index < rows.width }
     requires dates { length rows.dates.now ≡ rows.numbers * rows.width }
     ensures { IfOk result (FirstOtherOf (map (λ x. x.now) lines.now) rows.entry.numbers
@@ -76,7 +76,6 @@ pub(crate) fn first_other(
     lines: &[&str],
     rows: DateRows<'_>,
 ) -> Result<Option<(TransitionId, u32)>, AllocError>
-    requires width { rows.width ≤ most_transitions }
     requires dates { length rows.dates.now ≡ rows.numbers * rows.width }
     ensures { IfOk result (FirstOther (map (λ x. x.now) lines.now) rows.entry.numbers
         rows.entry.width rows.entry.dates.now) }

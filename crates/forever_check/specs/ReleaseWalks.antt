@@ -7,7 +7,7 @@ use Rattle.teg_net.specs.declared.entries.Again.{Again}
 use Rattle.teg_net.specs.declared.entries.InputList.{InputList}
 use Rattle.teg_net.specs.Inputs.{list_date}
 use Rattle.teg_net.specs.Circuits.{IsLive}
-use Rattle.teg_net.specs.Nets.{NetLists, IsNet}
+use Rattle.teg_net.specs.Nets.{NetLists, EndsOrGoesOn, IsNet}
 use Rattle.teg_due.specs.declared.rows.DueRow.{DueRow}
 use Rattle.teg_model.specs.Datings.{as_date, listed_releases}
 use Rattle.teg_text.specs.Lines.{written}
@@ -47,6 +47,14 @@ pub record GoesByTurn (listed : ℕ) (a : Again) (turn : Turn) : Type 0 where
 abbrev pub GoesWith : List ℕ → Option Again → Turn → Type 0
 GoesWith dates None turn = ⊥
 GoesWith dates (Some a) turn = GoesByTurn (length dates) a turn
+
+-- the net is live, the rows are due dates of it, and the list, of one of its transitions, goes on with the turn
+pub record IsGoingRelease (net : NetLists) (rows : List EndlessRow) (l : InputList) (turn : Turn) : Type 0 where
+  pub live : IsLive net
+  pub due : IsEndlessOf net rows
+  pub input : l.transition.index < length net.transitions
+  pub rule : EndsOrGoesOn l.dates l.again
+  pub goes : GoesWith l.dates l.again turn
 
 -- ---- the shortest of lists that tell the same dates
 

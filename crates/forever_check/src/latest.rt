@@ -8,7 +8,7 @@ ghost use Rattle.teg_model.specs.Datings.{as_date};
 ghost use Rattle.endless_due.specs.EndlessRows.{IsEndlessOf, due_on};
 ghost use Rattle.dating_certificates.specs.LatestRows.{ListsDues};
 ghost use Rattle.forever_check.specs.ShownReleases.{EndsAtOnce, IsShownForever};
-ghost use Rattle.forever_check.specs.ReleaseWalks.{AreShownBetween, AreShownInTurn, GoesWith, IsReleaseShown, IsToldAt};
+ghost use Rattle.forever_check.specs.ReleaseWalks.{AreShownBetween, AreShownInTurn, IsGoingRelease, IsReleaseShown, IsToldAt};
 
 use crate::due_rows::{are_dues, are_turning, dues_to, turning_to};
 use crate::made_rows::latest_dates;
@@ -72,108 +72,87 @@ fn are_told(net: &Net, last: u32, dates: &[Date], list: &InputList, past: u32, u
     true
 }
 
+// A list of a net with rows that are due, and the turn with which it goes on.
+#[derive(Clone, Copy)]
+struct Release<'a> {
+    net: &'a Net,
+    rows: &'a [EndlessRow],
+    list: &'a InputList,
+    turn: Turn,
+}
+
 // Whether walks to these due firings show the dates of the list past a number and up to another.
 fn are_shown_by(
     alloc: Global,
-    net: &Net,
+    of: &Release<'_>,
     due: &Due,
     last: u32,
-    list: &InputList,
     past: u32,
     until: u32,
 ) -> Result<bool, OutOfMemory>
-    requires live { IsLive net.now }
-    requires due { IsDueOf net.now due.now.rows.items }
-    requires input { list.now.transition.index < length net.now.transitions }
+    requires of { IsGoingRelease of.now.net.now of.now.rows.now of.now.list.now of.now.turn }
+    requires due { IsDueOf of.now.net.now due.now.rows.items }
     requires last { until ≤ last }
-    requires rule { EndsOrGoesOn list.now.dates list.now.again }
     ensures { IfOk result (λ yes. IsTrue yes → (dues : ℕ → ℕ → Option ℕ)
-        → ListsDues due.now.rows.items dues → AreShownBetween net.now dues list.now past until) }
+        → ListsDues due.now.rows.items dues
+        → AreShownBetween of.now.net.now dues of.now.list.now past until) }
 {
-    let dates = latest_dates(alloc, net, &due.rows, last)?;
-    if !check_latest(alloc, net, due, last, &dates)? {
+    let dates = latest_dates(alloc, of.net, &due.rows, last)?;
+    if !check_latest(alloc, of.net, due, last, &dates)? {
         return Ok(false);
     }
-    Ok(are_told(net, last, &dates, list, past, until))
+    Ok(are_told(of.net, last, &dates, of.list, past, until))
 }
 
 // Whether walks to due firings up to a number show the dates of the list up to the turn.
-fn are_firsts_shown(
-    alloc: Global,
-    net: &Net,
-    rows: &[EndlessRow],
-    list: &InputList,
-    turn: Turn,
-    last: u32,
-) -> Result<bool, OutOfMemory>
-    requires live { IsLive net.now }
-    requires due { IsEndlessOf net.now rows.now }
-    requires input { list.now.transition.index < length net.now.transitions }
-    requires last { turn.past ≤ last }
-    requires rule { EndsOrGoesOn list.now.dates list.now.again }
-    ensures { IfOk result (λ yes. IsTrue yes
-        → AreShownBetween net.now (due_on rows.now) list.now 0 turn.past) }
+fn are_firsts_shown(alloc: Global, of: &Release<'_>, last: u32) -> Result<bool, OutOfMemory>
+    requires of { IsGoingRelease of.now.net.now of.now.rows.now of.now.list.now of.now.turn }
+    requires last { of.now.turn.past ≤ last }
+    ensures { IfOk result (λ yes. IsTrue yes → AreShownBetween of.now.net.now
+        (due_on of.now.rows.now) of.now.list.now 0 of.now.turn.past) }
 {
-    let due = dues_to(alloc, rows, last)?;
-    if !is_due_of(net, &due) {
+    let due = dues_to(alloc, of.rows, last)?;
+    if !is_due_of(of.net, &due) {
         return Ok(false);
     }
-    if !are_dues(rows, &due.rows) {
+    if !are_dues(of.rows, &due.rows) {
         return Ok(false);
     }
-    let shown = are_shown_by(alloc, net, &due, last, list, 0, turn.past)?;
+    let shown = are_shown_by(alloc, of, &due, last, 0, of.turn.past)?;
     Ok(shown)
 }
 
 // Whether walks that turn as the list does show its dates in the first turn.
-fn are_turns_shown(
-    alloc: Global,
-    net: &Net,
-    rows: &[EndlessRow],
-    list: &InputList,
-    turn: Turn,
-    last: u32,
-) -> Result<bool, OutOfMemory>
-    requires live { IsLive net.now }
-    requires input { list.now.transition.index < length net.now.transitions }
-    requires last { turn.past + turn.firings ≤ last }
-    requires rule { EndsOrGoesOn list.now.dates list.now.again }
-    ensures { IfOk result (λ yes. IsTrue yes → AreShownInTurn net.now rows.now list.now turn) }
+fn are_turns_shown(alloc: Global, of: &Release<'_>, last: u32) -> Result<bool, OutOfMemory>
+    requires of { IsGoingRelease of.now.net.now of.now.rows.now of.now.list.now of.now.turn }
+    requires last { of.now.turn.past + of.now.turn.firings ≤ last }
+    ensures { IfOk result (λ yes. IsTrue yes → AreShownInTurn of.now.net.now of.now.rows.now
+        of.now.list.now of.now.turn) }
 {
-    let due = turning_to(alloc, rows, turn, last)?;
-    if !is_due_of(net, &due) {
+    let turn = of.turn;
+    let due = turning_to(alloc, of.rows, turn, last)?;
+    if !is_due_of(of.net, &due) {
         return Ok(false);
     }
-    if !are_turning(turn, rows, &due.rows) {
+    if !are_turning(turn, of.rows, &due.rows) {
         return Ok(false);
     }
     let until = turn.past + turn.firings;
-    let shown = are_shown_by(alloc, net, &due, last, list, turn.past, until)?;
+    let shown = are_shown_by(alloc, of, &due, last, turn.past, until)?;
     Ok(shown)
 }
 
-// Whether walks to due firings up to a number show all dates of the list, which goes on with the
-// turn.
-fn is_shown_to(
-    alloc: Global,
-    net: &Net,
-    rows: &[EndlessRow],
-    list: &InputList,
-    turn: Turn,
-    last: u32,
-) -> Result<bool, OutOfMemory>
-    requires live { IsLive net.now }
-    requires due { IsEndlessOf net.now rows.now }
-    requires input { list.now.transition.index < length net.now.transitions }
-    requires last { turn.past + turn.firings ≤ last }
-    requires rule { EndsOrGoesOn list.now.dates list.now.again }
-    requires goes { GoesWith list.now.dates list.now.again turn }
-    ensures { IfOk result (λ yes. IsTrue yes → IsReleaseShown net.now rows.now list.now) }
+// Whether walks to due firings up to a number show all dates of the list.
+fn is_shown_to(alloc: Global, of: &Release<'_>, last: u32) -> Result<bool, OutOfMemory>
+    requires of { IsGoingRelease of.now.net.now of.now.rows.now of.now.list.now of.now.turn }
+    requires last { of.now.turn.past + of.now.turn.firings ≤ last }
+    ensures { IfOk result (λ yes. IsTrue yes
+        → IsReleaseShown of.now.net.now of.now.rows.now of.now.list.now) }
 {
-    if !are_firsts_shown(alloc, net, rows, list, turn, last)? {
+    if !are_firsts_shown(alloc, of, last)? {
         return Ok(false);
     }
-    let shown = are_turns_shown(alloc, net, rows, list, turn, last)?;
+    let shown = are_turns_shown(alloc, of, last)?;
     Ok(shown)
 }
 
@@ -184,30 +163,21 @@ fn most_number(net: &Net, rows: &[EndlessRow]) -> u32 {
     MOST_NUMBER.min(MOST_DATES / width).min(by_rows) as u32
 }
 
-// Whether walks to due firings up to some number show all dates of the list, which goes on with the
-// turn.
-fn is_shown_in(
-    alloc: Global,
-    net: &Net,
-    rows: &[EndlessRow],
-    list: &InputList,
-    turn: Turn,
-) -> Result<bool, OutOfMemory>
-    requires live { IsLive net.now }
-    requires due { IsEndlessOf net.now rows.now }
-    requires input { list.now.transition.index < length net.now.transitions }
-    requires rule { EndsOrGoesOn list.now.dates list.now.again }
-    requires goes { GoesWith list.now.dates list.now.again turn }
-    ensures { IfOk result (λ yes. IsTrue yes → IsReleaseShown net.now rows.now list.now) }
+// Whether walks to due firings up to some number show all dates of the list.
+fn is_shown_in(alloc: Global, of: &Release<'_>) -> Result<bool, OutOfMemory>
+    requires { IsGoingRelease of.now.net.now of.now.rows.now of.now.list.now of.now.turn }
+    ensures { IfOk result (λ yes. IsTrue yes
+        → IsReleaseShown of.now.net.now of.now.rows.now of.now.list.now) }
 {
-    let most = most_number(net, rows);
+    let most = most_number(of.net, of.rows);
+    let turn = of.turn;
     let window = turn.past.saturating_add(turn.firings);
     let mut last = window.saturating_add(16).min(most);
     for _ in 0..16 {
         if u64::from(turn.past) + u64::from(turn.firings) > u64::from(last) {
             return Ok(false);
         }
-        if is_shown_to(alloc, net, rows, list, turn, last)? {
+        if is_shown_to(alloc, of, last)? {
             return Ok(true);
         }
         if last >= most {
@@ -236,7 +206,13 @@ fn is_going_shown(
     if !net.contains_transition(list.transition) || !goes_with(list, turn) {
         return Ok(false);
     }
-    is_shown_in(alloc, net, rows, list, turn)
+    let of = Release {
+        net,
+        rows,
+        list,
+        turn,
+    };
+    is_shown_in(alloc, &of)
 }
 
 // Whether walks to due firings show all dates of the list, which has none if it ends.

@@ -1,5 +1,5 @@
 //! Turns in which the dates of an input and due dates go on together.
-ghost use Rattle.std.specs.Prelude.{IsTrue, length};
+ghost use Rattle.std.specs.Prelude.{IsTrue};
 ghost use Rattle.forever_check.specs.ReleaseWalks.{GoesByTurn, GoesWith, IsTurnOf};
 
 use endless_due::EndlessRow;

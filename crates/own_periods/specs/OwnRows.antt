@@ -1,6 +1,7 @@
 -- Working definitions of what the first 10,000 rows of a least dating tell of transitions that go on by periods of their own.
 use Rattle.std.specs.Prelude.{ℕ, ℤ, pos, ◌+◌, ◌-◌, ◌*ℤ◌, ◌+ℤ◌, ◌-ℤ◌, ◌^◌, ◌<◌, ◌≤◌, ◌≤ℤ◌, ◌≡◌, ◌⊎◌, List, length, get_or, All}
 use Rattle.std.specs.Int.{◌∣◌}
+use Rattle.std.proofs.Props.{props}
 use Rattle.std.specs.Int.RustNames.{unsigned_abs}
 use Rattle.dioid.specs.declared.dates.Date.{Date}
 use Rattle.dioid.specs.declared.dates.Date.TheVariants.{Early, At, Never}
@@ -30,6 +31,15 @@ pub record IsShort (d : Date) : Type 0 where
 pub record AreShortRows (rows : TableDates) : Type 0 where
   pub count : rows.count ≡ 10000
   pub short : (t k : ℕ) → t < rows.width → 1 ≤ k → k ≤ 10000 → IsShort (date_at rows t k)
+
+IsShort-prop : (d : Date) → IsProp (IsShort d)
+IsShort-prop Early = hlevel props
+IsShort-prop (At x) = hlevel props
+IsShort-prop Never = hlevel props
+
+-- which has one proof at most
+pub AreShortRows-prop : (rows : TableDates) → IsProp (AreShortRows rows)
+AreShortRows-prop rows = hlevel (props, IsShort-prop)
 
 -- ---- periods
 
@@ -66,6 +76,10 @@ pub record AreOwn (rows : TableDates) (owns : List OwnPeriod) : Type 0 where
   pub count : length owns ≡ rows.width
   pub each : (t : ℕ) → t < rows.width → IsOwn rows t (own_of owns t)
 
+-- which has one proof at most
+pub AreOwn-prop : (rows : TableDates) (owns : List OwnPeriod) → IsProp (AreOwn rows owns)
+AreOwn-prop rows owns = hlevel props
+
 -- the period of the transition
 abbrev pub period_in : List OwnPeriod → ℕ → ℕ
 period_in owns t = (own_of owns t).period
@@ -79,6 +93,13 @@ pub record IsPace (pace : OwnPeriod) : Type 0 where
 -- the period goes on at the pace of this one
 abbrev pub IsAtPace : OwnPeriod → OwnPeriod → Type 0
 IsAtPace pace own = pos pace.period *ℤ own.step ≡ pos own.period *ℤ pace.step
+
+-- the place leads between transitions of the rows, and has no more tokens and holds no longer than a net allows
+pub record IsPlaceIn (rows : TableDates) (p : Place) : Type 0 where
+  pub start : p.from.index < rows.width
+  pub end : p.to.index < rows.width
+  pub hold : p.hold ≤ 1000000000
+  pub tokens : p.tokens ≤ 1000
 
 -- ---- slack
 

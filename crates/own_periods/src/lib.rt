@@ -21,6 +21,7 @@
 
 mod meets;
 mod numbers;
+mod own_rows;
 mod periods;
 mod slack;
 

@@ -6,12 +6,13 @@ ghost use Rattle.teg_net.specs.Nets.{IsInput};
 ghost use Rattle.date_rows.specs.DateTables.{HasLeastDates};
 ghost use Rattle.own_period_laws.specs.OwnForms.{IsLeastCommon};
 ghost use Rattle.own_periods.specs.OwnNumbers.{AreLeastNumbers};
-ghost use Rattle.own_periods.specs.OwnRows.{AreOwn, AreShortRows, GoOnInRows, IsLatestStart, IsLeastMultiple, IsOwn, IsPace, IsStart, period_in};
+ghost use Rattle.own_periods.specs.OwnRows.{GoOnInRows, IsLatestStart, IsLeastMultiple, IsOwn, IsStart, period_in};
 
 use crate::meets::all_met;
-use crate::periods::{OwnPeriod, is_moved, own_periods};
+use crate::own_rows::OwnRows;
+use crate::periods::{DatesOf, OwnPeriod, is_moved, own_periods};
 use crate::slack::{all_keep_slack, have_one_pace};
-use date_rows::{Table, first_dates};
+use date_rows::first_dates;
 use std::alloc::{AllocError, Global};
 use teg_check::Live;
 use teg_net::{Net, OutOfMemory, TransitionId};
@@ -33,15 +34,13 @@ pub struct OwnNumbers {
 }
 
 // The least number past which the dates of the transition go on by its period.
-fn own_start(rows: &Table, transition: TransitionId, own: OwnPeriod) -> u64
-    requires rows { AreShortRows rows.now }
-    requires transition { transition.index < rows.now.width }
-    requires own { IsOwn rows.now transition.index own }
-    ensures { IsStart rows.now transition.index own result }
+fn own_start(of: DatesOf<'_>, own: OwnPeriod) -> u64
+    requires { IsOwn of.rows.now of.transition.index own }
+    ensures { IsStart of.entry.rows.now of.entry.transition.index own result }
 {
     let mut after = 0;
     for number in 1..FROM + 1 {
-        if !is_moved(rows, transition, number, own) {
+        if !is_moved(of, number, own) {
             after = number;
         }
     }
@@ -58,19 +57,20 @@ fn later(a: u64, b: u64) -> u64
 }
 
 // The least past which those of all do.
-fn latest_start(rows: &Table, owns: &[OwnPeriod]) -> u64
-    requires rows { AreShortRows rows.now }
-    requires owns { AreOwn rows.now owns.now }
-    ensures { IsLatestStart rows.now owns.now (length owns.now) result }
+fn latest_start(of: &OwnRows<'_>) -> u64
+    ensures { IsLatestStart of.now.rows.now of.now.owns.now (length of.now.owns.now) result }
 {
     // The table keeps its limits.
-    let _count = rows.count();
+    let _count = of.rows.count();
     let mut after = 0;
-    for index in 0..owns.len() {
-        let id = TransitionId {
-            index: index as u32,
+    for index in 0..of.owns.len() {
+        let dates = DatesOf {
+            rows: of.rows,
+            transition: TransitionId {
+                index: index as u32,
+            },
         };
-        after = later(after, own_start(rows, id, owns[index]));
+        after = later(after, own_start(dates, of.owns[index]));
     }
     after
 }
@@ -92,68 +92,52 @@ fn least_multiple(a: u64, b: u64) -> Option<u64>
 }
 
 // That of all periods.
-fn whole_period(_rows: &Table, owns: &[OwnPeriod]) -> Option<u64>
-    requires owns { AreOwn _rows.now owns.now }
-    ensures { IfSome result (IsLeastCommon (length owns.now) (period_in owns.now)) }
+fn whole_period(of: &OwnRows<'_>) -> Option<u64>
+    ensures { IfSome result (IsLeastCommon (length of.now.owns.now) (period_in of.now.owns.now)) }
 {
     let mut whole = 1;
-    for own in owns {
+    for own in of.owns {
         whole = least_multiple(whole, own.period)?;
     }
     Some(whole)
 }
 
 // Whether the rows tell that all transitions go on by their periods.
-fn go_on(
-    alloc: Global,
-    net: &Net,
-    rows: &Table,
-    pace: OwnPeriod,
-    owns: &[OwnPeriod],
-) -> Result<bool, AllocError>
-    requires rows { AreShortRows rows.now }
-    requires width { rows.now.width ≡ length net.now.transitions }
-    requires owns { AreOwn rows.now owns.now }
-    requires pace { IsPace pace }
-    ensures { IfOk result (λ go. IsTrue go → GoOnInRows net.now rows.now pace owns.now) }
+fn go_on(alloc: Global, of: &OwnRows<'_>) -> Result<bool, AllocError>
+    ensures { IfOk result (λ go. IsTrue go
+        → GoOnInRows of.now.net.now of.now.rows.now of.now.pace of.now.owns.now) }
 {
-    if !have_one_pace(rows, pace, owns) {
+    if !have_one_pace(of) {
         return Ok(false);
     }
-    if !all_keep_slack(net, rows, pace, owns) {
+    if !all_keep_slack(of) {
         return Ok(false);
     }
-    let met = all_met(alloc, net, rows, owns)?;
+    let met = all_met(alloc, of)?;
     Ok(met)
 }
 
 // The number and the period, if the rows and the periods of the transitions tell them.
 fn told_numbers(
     alloc: Global,
-    net: &Net,
+    of: &OwnRows<'_>,
     _live: &Live,
-    rows: &Table,
-    owns: &[OwnPeriod],
 ) -> Result<Option<OwnNumbers>, OutOfMemory>
-    requires stands { IsRanking net.now _live.now }
-    requires alone { (t : ℕ) → IsInput net.now t → ⊥ }
-    requires some { 0 < length net.now.transitions }
-    requires rows { AreShortRows rows.now }
-    requires width { rows.now.width ≡ length net.now.transitions }
-    requires least { HasLeastDates net.now rows.now }
-    requires owns { AreOwn rows.now owns.now }
-    ensures { IfOk result (λ found. IfSome found (AreLeastNumbers net.now)) }
+    requires stands { IsRanking of.now.net.now _live.now }
+    requires alone { (t : ℕ) → IsInput of.now.net.now t → ⊥ }
+    requires least { HasLeastDates of.now.net.now of.now.rows.now }
+    ensures { IfOk result (λ found. IfSome found (AreLeastNumbers of.now.net.now)) }
 {
     // The net keeps its rules.
-    net.rules();
-    let go = go_on(alloc, net, rows, owns[0], owns)?;
+    of.net.rules();
+    let go = go_on(alloc, of)?;
     if !go {
         return Ok(None);
     }
-    match whole_period(rows, owns) {
+    match whole_period(of) {
         None => Ok(None),
         Some(period) => {
-            let after = latest_start(rows, owns);
+            let after = latest_start(of);
             Ok(Some(OwnNumbers { after, period }))
         }
     }
@@ -177,6 +161,15 @@ pub fn own_numbers(alloc: Global, net: &Net, live: &Live) -> Result<Option<OwnNu
     let rows = first_dates(alloc, net, live, ROWS)?;
     match own_periods(alloc, &rows)? {
         None => Ok(None),
-        Some(owns) => told_numbers(alloc, net, live, &rows, &owns),
+        Some(owns) => {
+            let owns = owns.as_slice();
+            let of = OwnRows {
+                net,
+                rows: &rows,
+                owns,
+                pace: owns[0],
+            };
+            told_numbers(alloc, &of, live)
+        }
     }
 }

@@ -1,14 +1,14 @@
 //! Whether each place keeps its slack wherever numbers of its two ends meet, each of a period of
 //! its own.
-ghost use Rattle.std.specs.Prelude.{ℕ, pos, ◌≡◌, ◌+◌, ◌-ℤ◌, ◌*ℤ◌, ◌%◌, ◌^◌, ◌<◌, ◌≤◌, ◌≤ℤ◌, ◌⊎◌, All, IsTrue, length};
+ghost use Rattle.std.specs.Prelude.{ℕ, pos, ◌≡◌, ◌+◌, ◌-ℤ◌, ◌*ℤ◌, ◌%◌, ◌^◌, ◌<◌, ◌≤◌, ◌≤ℤ◌, ◌⊎◌, All, IsTrue};
 ghost use Rattle.std.specs.Int.{IsGcd};
 ghost use Rattle.std.specs.Int.RustNames.{unsigned_abs};
 ghost use Rattle.own_period_laws.specs.OwnPeriods.{place_worth};
-ghost use Rattle.own_periods.specs.OwnRows.{AreOwn, AreShortRows, IsAtPace, IsInTime, IsPace, KeepsOwnSlack, worth_past};
+ghost use Rattle.own_periods.specs.OwnRows.{IsAtPace, IsInTime, IsPace, IsPlaceIn, KeepsOwnSlack, worth_past};
 
-use crate::periods::{OwnPeriod, instant};
-use date_rows::Table;
-use teg_net::{Net, Place, TransitionId};
+use crate::own_rows::{OwnRows, Rests};
+use crate::periods::{DatesOf, OwnPeriod, instant};
+use teg_net::{Place, TransitionId};
 
 // Past which number dates are worth so much.
 const FIRST: u64 = 5_001;
@@ -35,16 +35,18 @@ fn worth_of(pace: OwnPeriod, date: i128, number: u64) -> i128
 }
 
 // What the date of number `at` past 5,000 is worth at the pace.
-fn worth_past(rows: &Table, pace: OwnPeriod, transition: TransitionId, at: u64) -> i128
-    requires rows { AreShortRows rows.now }
-    requires transition { transition.index < rows.now.width }
+fn worth_past(of: &OwnRows<'_>, transition: TransitionId, at: u64) -> i128
+    requires transition { transition.index < of.now.rows.now.width }
     requires at { at < 4000 }
-    requires pace { IsPace pace }
-    ensures value { result ≡ worth_past rows.now pace transition.index at }
+    ensures value { result ≡ worth_past of.now.rows.now of.now.pace transition.index at }
     ensures small { unsigned_abs result ≤ 2 ^ 100 }
 {
     let number = FIRST + at;
-    worth_of(pace, instant(rows, transition, number), number)
+    let dates = DatesOf {
+        rows: of.rows,
+        transition,
+    };
+    worth_of(of.pace, instant(dates, number), number)
 }
 
 // What a place adds to that.
@@ -59,17 +61,17 @@ fn place_worth(pace: OwnPeriod, place: &Place) -> i128
 }
 
 // Of two numbers past 5,000 that of the date that is worth least.
-fn lesser(rows: &Table, pace: OwnPeriod, transition: TransitionId, a: u64, b: u64) -> u64
-    requires rows { AreShortRows rows.now }
-    requires transition { transition.index < rows.now.width }
+fn lesser(of: &OwnRows<'_>, transition: TransitionId, a: u64, b: u64) -> u64
+    requires transition { transition.index < of.now.rows.now.width }
     requires first { a < 4000 }
     requires second { b < 4000 }
-    requires pace { IsPace pace }
-    ensures first { worth_past rows.now pace transition.index result ≤ℤ worth_past rows.now pace transition.index a }
-    ensures second { worth_past rows.now pace transition.index result ≤ℤ worth_past rows.now pace transition.index b }
+    ensures first { worth_past of.now.rows.now of.now.pace transition.index result ≤ℤ worth_past
+        of.now.rows.now of.now.pace transition.index a }
+    ensures second { worth_past of.now.rows.now of.now.pace transition.index result ≤ℤ worth_past
+        of.now.rows.now of.now.pace transition.index b }
     ensures which { (result ≡ a) ⊎ (result ≡ b) }
 {
-    if worth_past(rows, pace, transition, b) < worth_past(rows, pace, transition, a) {
+    if worth_past(of, transition, b) < worth_past(of, transition, a) {
         b
     } else {
         a
@@ -77,44 +79,34 @@ fn lesser(rows: &Table, pace: OwnPeriod, transition: TransitionId, a: u64, b: u6
 }
 
 // The number of the date of a period that is worth least, of those with this rest.
-fn least_at(
-    rows: &Table,
-    pace: OwnPeriod,
-    transition: TransitionId,
-    period: u64,
-    apart: u64,
-    rest: u64,
-) -> u64
-    requires rows { AreShortRows rows.now }
-    requires transition { transition.index < rows.now.width }
-    requires pace { IsPace pace }
-    requires few { period ≤ 4000 }
-    requires apart { apart ≤ period }
-    requires rest { rest < apart }
-    ensures within { result < period }
-    ensures least { (a : ℕ) → a < period → a % apart ≡ rest → worth_past rows.now pace transition.index result ≤ℤ worth_past rows.now pace transition.index a }
+fn least_at(of: &OwnRows<'_>, transition: TransitionId, which: Rests) -> u64
+    requires { transition.index < of.now.rows.now.width }
+    ensures within { result < which.period }
+    ensures least { (a : ℕ) → a < which.period → a % which.apart ≡ which.rest → worth_past
+        of.now.rows.now of.now.pace transition.index result ≤ℤ worth_past of.now.rows.now
+        of.now.pace transition.index a }
 {
-    let mut best = rest;
-    let mut at = rest;
-    'rests: while at < period {
-        best = lesser(rows, pace, transition, best, at);
-        at += apart;
+    let mut best = which.rest;
+    let mut at = which.rest;
+    'rests: while at < which.period {
+        best = lesser(of, transition, best, at);
+        at += which.apart;
     }
     best
 }
 
 // Of two numbers past 5,000 that of the date that is worth most.
-fn greater(rows: &Table, pace: OwnPeriod, transition: TransitionId, a: u64, b: u64) -> u64
-    requires rows { AreShortRows rows.now }
-    requires transition { transition.index < rows.now.width }
+fn greater(of: &OwnRows<'_>, transition: TransitionId, a: u64, b: u64) -> u64
+    requires transition { transition.index < of.now.rows.now.width }
     requires first { a < 4000 }
     requires second { b < 4000 }
-    requires pace { IsPace pace }
-    ensures first { worth_past rows.now pace transition.index a ≤ℤ worth_past rows.now pace transition.index result }
-    ensures second { worth_past rows.now pace transition.index b ≤ℤ worth_past rows.now pace transition.index result }
+    ensures first { worth_past of.now.rows.now of.now.pace transition.index a ≤ℤ worth_past
+        of.now.rows.now of.now.pace transition.index result }
+    ensures second { worth_past of.now.rows.now of.now.pace transition.index b ≤ℤ worth_past
+        of.now.rows.now of.now.pace transition.index result }
     ensures which { (result ≡ a) ⊎ (result ≡ b) }
 {
-    if worth_past(rows, pace, transition, a) < worth_past(rows, pace, transition, b) {
+    if worth_past(of, transition, a) < worth_past(of, transition, b) {
         b
     } else {
         a
@@ -122,47 +114,32 @@ fn greater(rows: &Table, pace: OwnPeriod, transition: TransitionId, a: u64, b: u
 }
 
 // The number of the date of a period that is worth most, of those with this rest.
-fn greatest_at(
-    rows: &Table,
-    pace: OwnPeriod,
-    transition: TransitionId,
-    period: u64,
-    apart: u64,
-    rest: u64,
-) -> u64
-    requires rows { AreShortRows rows.now }
-    requires transition { transition.index < rows.now.width }
-    requires pace { IsPace pace }
-    requires few { period ≤ 4000 }
-    requires apart { apart ≤ period }
-    requires rest { rest < apart }
-    ensures within { result < period }
-    ensures greatest { (a : ℕ) → a < period → a % apart ≡ rest → worth_past rows.now pace transition.index a ≤ℤ worth_past rows.now pace transition.index result }
+fn greatest_at(of: &OwnRows<'_>, transition: TransitionId, which: Rests) -> u64
+    requires { transition.index < of.now.rows.now.width }
+    ensures within { result < which.period }
+    ensures greatest { (a : ℕ) → a < which.period → a % which.apart ≡ which.rest → worth_past
+        of.now.rows.now of.now.pace transition.index a ≤ℤ worth_past of.now.rows.now of.now.pace
+        transition.index result }
 {
-    let mut best = rest;
-    let mut at = rest;
-    'rests: while at < period {
-        best = greater(rows, pace, transition, best, at);
-        at += apart;
+    let mut best = which.rest;
+    let mut at = which.rest;
+    'rests: while at < which.period {
+        best = greater(of, transition, best, at);
+        at += which.apart;
     }
     best
 }
 
 // Whether the token of the place is there in time at two numbers that meet.
-fn is_in_time(rows: &Table, pace: OwnPeriod, place: &Place, a: u64, b: u64) -> bool
-    requires rows { AreShortRows rows.now }
-    requires start { place.now.from.index < rows.now.width }
-    requires end { place.now.to.index < rows.now.width }
-    requires hold { place.now.hold ≤ 1000000000 }
-    requires tokens { place.now.tokens ≤ 1000 }
-    requires pace { IsPace pace }
+fn is_in_time(of: &OwnRows<'_>, place: &Place, a: u64, b: u64) -> bool
+    requires place { IsPlaceIn of.now.rows.now place.now }
     requires ends { a < 4000 }
     requires starts { b < 4000 }
-    ensures { IsTrue result → IsInTime rows.now pace place.now a b }
+    ensures { IsTrue result → IsInTime of.now.rows.now of.now.pace place.now a b }
 {
-    let start = worth_past(rows, pace, place.from, b);
-    let end = worth_past(rows, pace, place.to, a);
-    let sum = start + place_worth(pace, place);
+    let start = worth_past(of, place.from, b);
+    let end = worth_past(of, place.to, a);
+    let sum = start + place_worth(of.pace, place);
     if end < sum {
         return false;
     }
@@ -183,52 +160,38 @@ fn common_divisor(a: u64, b: u64) -> u64
     x
 }
 
-// Whether the place keeps its slack where numbers of this rest meet.
-fn keeps_slack_at(
-    rows: &Table,
-    pace: OwnPeriod,
-    place: &Place,
-    starts: u64,
-    ends: u64,
-    apart: u64,
-    rest: u64,
-) -> bool
-    requires rows { AreShortRows rows.now }
-    requires start { place.now.from.index < rows.now.width }
-    requires end { place.now.to.index < rows.now.width }
-    requires hold { place.now.hold ≤ 1000000000 }
-    requires tokens { place.now.tokens ≤ 1000 }
-    requires pace { IsPace pace }
-    requires starts { starts ≤ 4000 }
-    requires ends { ends ≤ 4000 }
-    requires apart { apart ≤ starts }
-    requires apart_too { apart ≤ ends }
-    requires rest { rest < apart }
-    ensures { IsTrue result → (a b : ℕ) → a < ends → b < starts → b % apart ≡ rest
-        → a % apart ≡ (rest + place.now.tokens) % apart → IsInTime rows.now pace place.now a b }
+// Whether the place keeps its slack wherever numbers of these rests meet.
+fn keeps_slack_at(of: &OwnRows<'_>, place: &Place, starts: Rests, ends: Rests) -> bool
+    requires { IsPlaceIn of.now.rows.now place.now }
+    ensures { IsTrue result → (a b : ℕ) → a < ends.period → b < starts.period
+        → b % starts.apart ≡ starts.rest → a % ends.apart ≡ ends.rest
+        → IsInTime of.now.rows.now of.now.pace place.now a b }
 {
-    let met = (rest + u64::from(place.tokens)) % apart;
-    let least = least_at(rows, pace, place.to, ends, apart, met);
-    let greatest = greatest_at(rows, pace, place.from, starts, apart, rest);
-    is_in_time(rows, pace, place, least, greatest)
+    let least = least_at(of, place.to, ends);
+    let greatest = greatest_at(of, place.from, starts);
+    is_in_time(of, place, least, greatest)
 }
 
 // Whether it does wherever numbers meet.
-fn keeps_slack(rows: &Table, pace: OwnPeriod, owns: &[OwnPeriod], place: &Place) -> bool
-    requires rows { AreShortRows rows.now }
-    requires owns { AreOwn rows.now owns.now }
-    requires start { place.now.from.index < rows.now.width }
-    requires end { place.now.to.index < rows.now.width }
-    requires hold { place.now.hold ≤ 1000000000 }
-    requires tokens { place.now.tokens ≤ 1000 }
-    requires pace { IsPace pace }
-    ensures { IsTrue result → KeepsOwnSlack rows.now pace owns.now place.now }
+fn keeps_slack(of: &OwnRows<'_>, place: &Place) -> bool
+    requires { IsPlaceIn of.now.rows.now place.now }
+    ensures { IsTrue result → KeepsOwnSlack of.now.rows.now of.now.pace of.now.owns.now place.now }
 {
-    let starts = owns[place.from.index()].period;
-    let ends = owns[place.to.index()].period;
+    let starts = of.owns[place.from.index()].period;
+    let ends = of.owns[place.to.index()].period;
     let apart = common_divisor(starts, ends);
     for rest in 0..apart {
-        if !keeps_slack_at(rows, pace, place, starts, ends, apart, rest) {
+        let first = Rests {
+            period: starts,
+            apart,
+            rest,
+        };
+        let met = Rests {
+            period: ends,
+            apart,
+            rest: (rest + u64::from(place.tokens)) % apart,
+        };
+        if !keeps_slack_at(of, place, first, met) {
             return false;
         }
     }
@@ -236,17 +199,14 @@ fn keeps_slack(rows: &Table, pace: OwnPeriod, owns: &[OwnPeriod], place: &Place)
 }
 
 // Whether each place does.
-pub(crate) fn all_keep_slack(net: &Net, rows: &Table, pace: OwnPeriod, owns: &[OwnPeriod]) -> bool
-    requires rows { AreShortRows rows.now }
-    requires width { rows.now.width ≡ length net.now.transitions }
-    requires owns { AreOwn rows.now owns.now }
-    requires pace { IsPace pace }
-    ensures { IsTrue result → All (KeepsOwnSlack rows.now pace owns.now) net.now.places }
+pub(crate) fn all_keep_slack(of: &OwnRows<'_>) -> bool
+    ensures { IsTrue result → All (KeepsOwnSlack of.now.rows.now of.now.pace of.now.owns.now)
+        of.now.net.now.places }
 {
     // The net keeps its rules.
-    net.rules();
-    for place in net.places() {
-        if !keeps_slack(rows, pace, owns, place) {
+    of.net.rules();
+    for place in of.net.places() {
+        if !keeps_slack(of, place) {
             return false;
         }
     }
@@ -263,13 +223,11 @@ fn is_at_pace(pace: OwnPeriod, own: OwnPeriod) -> bool
 }
 
 // Whether each does.
-pub(crate) fn have_one_pace(_rows: &Table, pace: OwnPeriod, owns: &[OwnPeriod]) -> bool
-    requires pace { IsPace pace }
-    requires owns { AreOwn _rows.now owns.now }
-    ensures { IsTrue result → All (IsAtPace pace) owns.now }
+pub(crate) fn have_one_pace(of: &OwnRows<'_>) -> bool
+    ensures { IsTrue result → All (IsAtPace of.now.pace) of.now.owns.now }
 {
-    for own in owns {
-        if !is_at_pace(pace, *own) {
+    for own in of.owns {
+        if !is_at_pace(of.pace, *own) {
             return false;
         }
     }

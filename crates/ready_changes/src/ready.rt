@@ -1,7 +1,6 @@
 //! Other ready dates of a place of a live net.
-ghost use Rattle.std.specs.Prelude.{◌≡◌, ◌<◌, All, Any, IfErr, IfNone, IfOk, IfSome, OnErr, OnOk, length, slice_set};
+ghost use Rattle.std.specs.Prelude.{◌≡◌, ◌<◌, IfErr, IfNone, IfOk, IfSome, OnErr, OnOk, length};
 ghost use Rattle.teg_net.specs.Circuits.{place_at};
-ghost use Rattle.teg_net.specs.Limits.{greatest_input_date};
 ghost use Rattle.ready_changes.specs.ReadyChanges.{IsReadyRefusal, IsReadyRefusalOf, MayHaveReady, place_with_ready, with_ready};
 
 use crate::refusal::NotReady;

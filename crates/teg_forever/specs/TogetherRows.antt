@@ -21,6 +21,12 @@ pub record AreLeastDates (net : NetLists) (k : ℕ) (dates : List Date) : Type 0
   pub numbers : (t : ℕ) → t < length net.transitions → (m : ℕ) × (slice_index_or dates t Early ≡ At (pos m))
   pub least : (t : ℕ) → t < length net.transitions → InLeastAtZero net (λ x. slice_index_or dates t Early ≡ x t k)
 
+-- the same, of a number that a firing may have
+pub record AreFiringDates (net : NetLists) (k : ℕ) (dates : List Date) : Type 0 where
+  pub first : 1 ≤ k
+  pub last : k ≤ greatest_firing_number
+  pub dates_at : AreLeastDates net k dates
+
 -- firing k of the row's transition is not late
 abbrev pub IsInTimeAt : NetLists → EndlessRow → ℕ → Type 0
 IsInTimeAt net r k = InLeastAtZero net (λ x. (due least : ℕ) → IsLateAt x r k due least → ⊥)

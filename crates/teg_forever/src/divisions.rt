@@ -5,7 +5,7 @@ ghost use Rattle.teg_forever.specs.LateFirings.{IsGoingRow};
 ghost use Rattle.teg_forever.specs.Divisions.{AreAlike, AreDivisions, AreFirstsTo, IsAlikeAt, IsKeptIn, IsMisfit, IsDividedAt, StandsAt};
 
 use crate::gains::due_gain;
-use dioid::{Dioid, Refused};
+use dioid::Refused;
 use endless_due::EndlessRow;
 use series_ops::Gain;
 use std::alloc::{AllocError, Global};

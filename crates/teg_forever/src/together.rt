@@ -5,7 +5,7 @@ ghost use Rattle.date_rows.specs.Streams.{IsStreamOf, rows_given};
 ghost use Rattle.endless_due.specs.EndlessRows.{IsEndlessRow};
 ghost use Rattle.teg_net.specs.Limits.{greatest_firing_number};
 ghost use Rattle.teg_net.specs.Nets.{without_inputs};
-ghost use Rattle.teg_forever.specs.TogetherRows.{AreInTimeAt, AreLasts, AreLeastDates, IsInTimeAt, IsLateAmong, IsLateFiringAt, IsSearchedTo, IsSearchedThrough, IsTold};
+ghost use Rattle.teg_forever.specs.TogetherRows.{AreFiringDates, AreInTimeAt, AreLasts, AreLeastDates, IsInTimeAt, IsLateAmong, IsLateFiringAt, IsSearchedTo, IsSearchedThrough, IsTold};
 
 use crate::alone::{last_of, late_to, most_numbers, number_of};
 use crate::asked::DueRows;
@@ -111,9 +111,7 @@ fn write_least(due: &DueRows<'_>, plain: &Net, stream: &mut LeastRows, dates: &m
 // The firing of this number of the row's transition, if it is late, by the dates of this number.
 fn late_at(net: &Net, row: &EndlessRow, dates: &[Date], number: u64) -> Option<LateFiring>
     requires row { IsEndlessRow net.now row.now }
-    requires dates { AreLeastDates net.now number dates.now }
-    requires first { 1 ≤ number }
-    requires last { number ≤ greatest_firing_number }
+    requires dates { AreFiringDates net.now number dates.now }
     ensures none { IfNone result (IsInTimeAt net.now row.now number) }
     ensures some { IfSome result (IsLateFiringAt net.now row.now number) }
 {
@@ -132,9 +130,7 @@ fn late_at(net: &Net, row: &EndlessRow, dates: &[Date], number: u64) -> Option<L
 // The first of the first rows whose firing of this number is late.
 fn late_among(due: &DueRows<'_>, dates: &[Date], count: usize, number: u64) -> Option<LateRow>
     requires count { count ≤ length due.now.rows }
-    requires dates { AreLeastDates due.now.net number dates.now }
-    requires first { 1 ≤ number }
-    requires last { number ≤ greatest_firing_number }
+    requires dates { AreFiringDates due.now.net number dates.now }
     ensures none { IfNone result (AreInTimeAt due.now.net due.now.rows count number) }
     ensures some { IfSome result (IsLateAmong due.now.net due.now.rows count number) }
 {
@@ -149,9 +145,7 @@ fn late_among(due: &DueRows<'_>, dates: &[Date], count: usize, number: u64) -> O
 // The search after the dates of one number more.
 fn searched(due: &DueRows<'_>, lasts: &[u64], dates: &[Date], number: u64, before: Search) -> Search
     requires lasts { AreLasts due.now.net due.now.rows lasts.now }
-    requires dates { AreLeastDates due.now.net number dates.now }
-    requires first { 1 ≤ number }
-    requires last { number ≤ greatest_firing_number }
+    requires dates { AreFiringDates due.now.net number dates.now }
     requires before { IsSearchedTo due.now.net due.now.rows lasts.now (number - 1) before }
     ensures { IsSearchedTo due.now.net due.now.rows lasts.now number result }
 {

@@ -23,7 +23,7 @@ returns c =
     let before = string_bytes c.args.text.now in
     let body = further_then (map word numbers ++ last) [] in
     let row : map date_word (row_of (form_by_rows form.width form.dates.now form.after form.period form.steps.now) t) ≡ map word numbers =
-    rw c.requires.count (words_of_row form.width form.dates.now form.after form.period form.steps.now t (rw c.requires.width c.requires.index)) in
+    rw form.all (words_of_row form.width form.dates.now form.after form.period form.steps.now t (rw c.requires.width c.requires.index)) in
     let ended : string_bytes c.end_form_line.new.text ≡ string_bytes c.push_told.new.text ++ further_then last [] = search rules in
     line_goes_on word numbers last (string_bytes c.begin_form_line.new.text) (string_bytes c.push_told.new.text) _ c.in_ok-push_told.ensures ended
     ∙ (ap (λ (l : List ℕ). l ++ body) c.in_ok-begin_form_line.ensures

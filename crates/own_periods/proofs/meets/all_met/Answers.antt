@@ -10,12 +10,12 @@ loop-index-preserved c = λ t l a m.
     (λ (q : t < n). c.loop-index.invariant t q a m)
     (λ (q : n ≤ t).
     let is : n ≡ t = omega (arith, q, l) in
-    subst (λ i. IsMetIn c.args.net.now c.args.rows.now c.args.owns.now i (5001 + a)) is
-    (c.are_met.ensures c.if-not-are_met.false a (subst (λ i. a < period_in c.args.owns.now i) (sym is) m)))
+    subst (λ i. IsMetIn c.args.of.now.net.now c.args.of.now.rows.now c.args.of.now.owns.now i (5001 + a)) is
+    (c.are_met.ensures c.if-not-are_met.false a (subst (λ i. a < period_in c.args.of.now.owns.now i) (sym is) m)))
     (cases_lt t n)
 
 pub returns : goal.returns
 returns c = λ yes t l.
     let end = c.loop-index-test.false in
-    let count = c.requires.owns.count in
+    let count = c.args.of.now.own.count in
     c.loop-index.invariant t (omega (arith, l, end, count))

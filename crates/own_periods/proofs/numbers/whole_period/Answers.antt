@@ -12,4 +12,4 @@ loop-own-init c = record {
 
 pub loop-own-preserved : goal.loop-own-preserved
 loop-own-preserved c =
-    common_more c.args.owns.now c.loop-own.own-index c.loop-own.whole c.in_ok-whole.whole c.loop-own.invariant c.in_ok-whole.ensures
+    common_more c.args.of.now.owns.now c.loop-own.own-index c.loop-own.whole c.in_ok-whole.whole c.loop-own.invariant c.in_ok-whole.ensures

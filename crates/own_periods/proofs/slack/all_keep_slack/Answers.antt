@@ -13,14 +13,14 @@ loop-place-preserved c = λ i d l.
     (λ (q : n ≤ i).
     let is : n ≡ i = omega (arith, q, l) in
     let same : get_or items n d ≡ c.place-item.result = get_or_default items n d c.place-item.result c.loop-place-test.true ∙ sym c.place-item.is in
-    subst (λ j. KeepsOwnSlack c.args.rows.now c.args.pace c.args.owns.now (get_or items j d)) is
-    (subst (KeepsOwnSlack c.args.rows.now c.args.pace c.args.owns.now) (sym same) (c.keeps_slack.ensures c.if-not-keeps_slack.false)))
+    subst (λ j. KeepsOwnSlack c.args.of.now.rows.now c.args.of.now.pace c.args.of.now.owns.now (get_or items j d)) is
+    (subst (KeepsOwnSlack c.args.of.now.rows.now c.args.of.now.pace c.args.of.now.owns.now) (sym same) (c.keeps_slack.ensures c.if-not-keeps_slack.false)))
     (cases_lt i n)
 
 pub returns : goal.returns
 returns c = λ yes i d l.
     let own = c.places-place-items.result.now in
-    let same : own ≡ c.args.net.now.places = c.places-place-items.ensures.value in
+    let same : own ≡ c.args.of.now.net.now.places = c.places-place-items.ensures.value in
     let end : c.loop-place.place-index ≡ length own = omega arith in
     let there : i < length own = rw same l in
-    subst (λ ps. KeepsOwnSlack c.args.rows.now c.args.pace c.args.owns.now (get_or ps i d)) same (c.loop-place.invariant i d (omega (arith, there, end)))
+    subst (λ ps. KeepsOwnSlack c.args.of.now.rows.now c.args.of.now.pace c.args.of.now.owns.now (get_or ps i d)) same (c.loop-place.invariant i d (omega (arith, there, end)))

@@ -4,4 +4,4 @@ use Rattle.own_periods.specs.OwnRows.{KeepsOwnSlack}
 use Rattle.own_periods.proofs.slack.all_keep_slack.Given as goal
 
 abbrev pub invariant-loop-place : goal.invariant-loop-place
-invariant-loop-place l = (i : ℕ) (d : Place) → i < l.place-index → KeepsOwnSlack l.rows l.pace l.owns (get_or l.place-items i d)
+invariant-loop-place l = (i : ℕ) (d : Place) → i < l.place-index → KeepsOwnSlack l.of.rows.now l.of.pace l.of.owns.now (get_or l.place-items i d)

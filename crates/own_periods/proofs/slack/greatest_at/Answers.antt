@@ -8,8 +8,8 @@ pub rests-preserved : goal.rests-preserved
 rests-preserved c =
     let old = c.rests.invariant in
     let at = c.rests.at in
-    let apart = c.args.apart in
-    let rest = c.requires.rest in
+    let apart = c.args.which.apart in
+    let rest = c.args.which.rest_in in
     record {
       at_rest = rest_on at apart ∙ old.at_rest;
       best_in = ⊎_elim (λ e. rw e old.best_in) (λ e. rw e c.rests-test.true) c.greater-best.ensures.which;

@@ -1,4 +1,4 @@
-use Rattle.std.proofs.Common.{◌+◌, ◌%◌, ◌<◌, ◌≤◌, ◌≡◌, refl, ap, ◌∙◌, arith, mod-lt, ⊎_elim}
+use Rattle.std.proofs.Common.{◌+◌, ◌%◌, ◌<◌, ◌≤◌, ◌≡◌, refl, sym, ap, ◌∙◌, arith, mod-lt, ⊎_elim}
 use Rattle.std.specs.Int.{◌∣◌}
 use Rattle.std.proofs.lemmas.Bool.{cases_lt}
 use Rattle.std.proofs.lemmas.Nat.Gcd.{le_of_dvd}
@@ -6,35 +6,37 @@ use Rattle.own_periods.specs.OwnRows.{own_of, period_in}
 use Rattle.own_periods.proofs.Rests.{rests_meet, some_divisor}
 use Rattle.own_periods.proofs.slack.keeps_slack.Goals as goal
 
-pub keeps_slack_at-requires-clause-apart : goal.keeps_slack_at-requires-clause-apart
-keeps_slack_at-requires-clause-apart c =
-    let own = c.requires.owns.each c.args.place.now.from.index c.requires.start in
-    let some : 1 ≤ (own_of c.args.owns.now c.index.result).period = rw c.index.ensures own.one in
-    le_of_dvd some c.common_divisor-apart.ensures.0
+pub invariant_of-first : goal.invariant_of-first
+invariant_of-first c =
+    let own = c.args.of.now.own.each c.args.place.now.from.index c.requires.start in
+    let some : 1 ≤ (own_of c.args.of.now.owns.now c.index.result).period = rw c.index.ensures own.one in
+    record { few = rw c.index.ensures own.few; within = le_of_dvd some c.common_divisor-apart.ensures.0; rest_in = c.loop-rest-test.true }
 
-pub keeps_slack_at-requires-clause-apart_too : goal.keeps_slack_at-requires-clause-apart_too
-keeps_slack_at-requires-clause-apart_too c =
-    let own = c.requires.owns.each c.args.place.now.to.index c.requires.end in
-    let some : 1 ≤ (own_of c.args.owns.now c.index-2.result).period = rw c.index-2.ensures own.one in
-    le_of_dvd some c.common_divisor-apart.ensures.1
+pub invariant_of-met : goal.invariant_of-met
+invariant_of-met c =
+    let own = c.args.of.now.own.each c.args.place.now.to.index c.requires.end in
+    let some : 1 ≤ (own_of c.args.of.now.owns.now c.index-2.result).period = rw c.index-2.ensures own.one in
+    record { few = rw c.index-2.ensures own.few; within = le_of_dvd some c.common_divisor-apart.ensures.1; rest_in = mod-lt _ (omega (arith, c.loop-rest-test.true)) }
 
 pub loop-rest-preserved : goal.loop-rest-preserved
 loop-rest-preserved c = λ r a b l la lb rb ra.
     let n = c.loop-rest.rest in
+    let apart = c.common_divisor-apart.result in
     ⊎_elim
     (λ (q : r < n). c.loop-rest.invariant r a b q la lb rb ra)
     (λ (q : n ≤ r).
     let is : r ≡ n = omega (arith, q, l) in
-    c.keeps_slack_at.ensures c.if-not-keeps_slack_at.false a b la lb (rb ∙ is) (ra ∙ ap (λ i. (i + c.args.place.now.tokens) % c.common_divisor-apart.result) is))
+    c.keeps_slack_at.ensures c.if-not-keeps_slack_at.false a b la lb (rb ∙ is)
+    (ra ∙ (ap (λ i. (i + c.args.place.now.tokens) % apart) is ∙ ap (λ i. (n + i) % apart) (sym c.from.ensures))))
     (cases_lt r n)
 
 pub returns : goal.returns
 returns c = λ yes a b h.
-    let owns = c.args.owns.now in
+    let owns = c.args.of.now.owns.now in
     let from = c.args.place.now.from.index in
     let to = c.args.place.now.to.index in
     let apart = c.common_divisor-apart.result in
-    let own = c.requires.owns.each from c.requires.start in
+    let own = c.args.of.now.own.each from c.requires.start in
     let starts : apart ∣ period_in owns from = rw c.index.ensures at c.common_divisor-apart.ensures.0 in
     let ends : apart ∣ period_in owns to = rw c.index-2.ensures at c.common_divisor-apart.ensures.1 in
     let some : 0 < apart = some_divisor apart (period_in owns from) own.one starts in

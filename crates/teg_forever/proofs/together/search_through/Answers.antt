@@ -27,7 +27,11 @@ pub searched-search-requires-clause-dates : goal.searched-search-requires-clause
 searched-search-requires-clause-dates c =
     let given = c.loop-number.invariant.given in
     let same : rows_given c.loop-number.stream + 1 ≡ c.loop-number.number = omega arith in
-    dates_at c.args.due.now.net _ _ c.loop-number.number same c.write_least.ensures.least
+    record {
+      first = search rules;
+      last = search rules;
+      dates_at = dates_at c.args.due.now.net _ _ c.loop-number.number same c.write_least.ensures.least;
+    }
 
 pub loop-number-preserved : goal.loop-number-preserved
 loop-number-preserved c =
