@@ -1,4 +1,4 @@
-use Rattle.std.proofs.Common.{◌≡◌, arith}
+use Rattle.std.proofs.Common.{arith}
 use Rattle.own_periods.specs.OwnRows.{AreOwn}
 use Rattle.own_periods.proofs.Short.{short_rows}
 use Rattle.own_periods.proofs.numbers.own_numbers.Goals as goal

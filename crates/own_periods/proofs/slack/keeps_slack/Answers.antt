@@ -6,6 +6,14 @@ use Rattle.own_periods.specs.OwnRows.{own_of, period_in}
 use Rattle.own_periods.proofs.Rests.{rests_meet, some_divisor}
 use Rattle.own_periods.proofs.slack.keeps_slack.Goals as goal
 
+pub overflow_add-met : goal.overflow_add-met
+overflow_add-met c =
+    let own = c.args.of.now.own.each c.args.place.now.from.index c.requires.start in
+    let some : 1 ≤ (own_of c.args.of.now.owns.now c.index.result).period = rw c.index.ensures own.one in
+    let few : (own_of c.args.of.now.owns.now c.index.result).period ≤ 4000 = rw c.index.ensures own.few in
+    let up = le_of_dvd some c.common_divisor-apart.ensures.0 in
+    omega (arith, c.loop-rest-test.true, up, few, c.from.ensures, c.requires.tokens)
+
 pub invariant_of-first : goal.invariant_of-first
 invariant_of-first c =
     let own = c.args.of.now.own.each c.args.place.now.from.index c.requires.start in
