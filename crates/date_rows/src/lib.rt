@@ -9,7 +9,7 @@
 //! tell, and so do [`FirstRows`], up to number 10,000, in cells of eight bytes, which keep theirs
 //! to themselves. The crate stands on `teg_net`, on `teg_check` for the ranks, on `teg_model` for
 //! what a least dating is, on `circular_buffer`, and on `dioid` for dates. Its examples stand in
-//! `date_examples`, in `own_rows.rt`.
+//! `net_examples`, in `own_rows.rt`.
 //!
 //! ## How it works
 //!

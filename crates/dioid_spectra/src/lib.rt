@@ -8,7 +8,7 @@
 //! stands on `dioid_matrix` and `dioid` for matrices; the eigenvalue is the pace of the net of the
 //! matrix, so it stands on `teg_howard`, `teg_parts`, `teg_check` and `teg_net` for it, and on
 //! `pace_laws` for the law that the potentials of a pace are met. Its examples stand in
-//! `series_examples`, in `spectra.rt`.
+//! `net_examples`, in `spectra.rt`.
 //!
 //! ## How it works
 //!

@@ -5,7 +5,7 @@
 //! [`is_endless_of`] tells whether rows keep the rules for a net. What is asked of such rows is
 //! answered by `teg_forever`. The crate stands on `csv_records` for rows of files, on `teg_due` for
 //! names in rows, and on `teg_net` for nets. Its examples stand in
-//! `date_examples`, in `kept_delays.rt`.
+//! `net_examples`, in `kept_delays.rt`.
 #![tactic(auto)]
 
 mod numbers;

@@ -9,7 +9,7 @@
 //! `forever_laws`, `due_laws` and `latest_laws` for what is due and latest dates, on `endless_due`
 //! for rows, on `settled_forms` and `settled_laws` for settled forms, on `teg_model` for datings, on
 //! `teg_net` for nets and on `dioid` for dates; no search is below it. Its examples stand in
-//! `date_examples`, in `kept_orders.rt`.
+//! `net_examples`, in `kept_orders.rt`.
 #![tactic(auto)]
 
 mod kept_rows;

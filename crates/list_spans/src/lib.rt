@@ -6,7 +6,7 @@
 //! [`list_number`] which list is a transition's. A list that ends goes on evenly too: past its end
 //! all is `Never`. The crate waits for no rows of dates: `teg_settle` stands on it. It stands on
 //! `settled_laws` for dates that go on, on `teg_model` for dates of lists, on `teg_net` for nets,
-//! and on `dioid` for dates. It is tried by what is asked of `teg_settle`, in `date_examples`.
+//! and on `dioid` for dates. It is tried by what is asked of `teg_settle`, in `net_examples`.
 #![tactic(auto)]
 
 mod lists;

@@ -8,7 +8,7 @@
 //! reaches each, as `eigen` asks; [`matrix_text`] is a text for people. The crate stands on
 //! `dioid_matrix` and `dioid` for matrices, on `dioid_spectra` for transposes and for ways from row
 //! to row, on `dioid_laws` for products that commute, on `teg_text` for words of dates, and on
-//! `teg_parts` for lemmas on marks. Its examples stand in `series_examples`, in `matrices.rt`.
+//! `teg_parts` for lemmas on marks. Its examples stand in `net_examples`, in `matrices.rt`.
 //!
 //! ## How it works
 //!

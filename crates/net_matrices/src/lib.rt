@@ -8,7 +8,7 @@
 //! `dioid_matrix` for matrices, on `series_ops` and `series_form` for series, on `teg_settle` and
 //! `periodic_laws` for transfers and settled forms, on `io_laws` and `realization_laws` for laws of
 //! transfers, on `dioid_laws` for laws of sums, on `teg_check` and `teg_net` for nets, and on
-//! `dioid` for dates. Its examples stand in `series_examples`, in `net_series.rt`.
+//! `dioid` for dates. Its examples stand in `net_examples`, in `net_series.rt`.
 #![tactic(auto)]
 
 mod laws;

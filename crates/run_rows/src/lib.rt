@@ -8,7 +8,7 @@
 //! quicker. [`date_past_rows`] goes on from rows that a caller has, for one that asks the form of
 //! these rows too. The crate stands on `jump_laws` for how far turns go on, on `date_rows` for
 //! rows, on `teg_check` for ranks, on `teg_model` for datings, on `teg_net` for nets, and on
-//! `dioid` for dates. Its examples stand in `date_examples`, in `jumps.rt`.
+//! `dioid` for dates. Its examples stand in `net_examples`, in `jumps.rt`.
 //!
 //! ## How it works
 //!

@@ -3,7 +3,7 @@
 //! of each operation is that of the functions: the result has their values at every shift, and the
 //! refusals come exactly where the need or a number is too great. The crate stands
 //! on `series_laws` for the definitions and their laws, on `dioid` for dates, and on `thiserror`.
-//! Its examples stand in `series_examples`.
+//! Its examples stand in `net_examples`.
 //!
 //! A [`Series`] has at most 20,000 values, and numbers of a magnitude up to 10^18. Two of the free
 //! calls are for every user, [`sum`] and [`least`]; the others are for the operations of

@@ -3,7 +3,7 @@
 //! book's definition gives, and the refusals come exactly where the need or a number is too great.
 //! The crate stands on `series_laws` for the definitions and their laws, on `series_form` for
 //! series, and on `dioid` for dates.
-//! Its examples stand in `series_examples`.
+//! Its examples stand in `net_examples`.
 //!
 //! ## Call it
 //!

@@ -7,7 +7,7 @@
 //! whole net; those that only write or compare them stand on this crate alone. [`back_from`] and
 //! [`moved`] lead a number back into the first period, and its date on again. The crate stands on
 //! `settled_laws` for what settled forms are, on `teg_net` for transitions, and on `dioid` for
-//! dates. It is tried by what is asked of `teg_settle`, in `date_examples`.
+//! dates. It is tried by what is asked of `teg_settle`, in `net_examples`.
 #![tactic(auto)]
 
 mod back;

@@ -7,7 +7,7 @@
 //! that length. Where the second series is not steady, or is outrun by the first, `Gain::left`
 //! answers. The crate stands on `series_laws`, `series_form` and `series_ops` for series and their
 //! residuals, and on `dioid` for dates. It is tried by what is asked of `forever`, in
-//! `date_examples`.
+//! `net_examples`.
 #![tactic(auto)]
 
 mod leads;

@@ -6,7 +6,7 @@
 //! operations. [`print`] writes a series as a line. The crate stands on `series_form` and
 //! `series_ops` for series, on `series_laws` for what they mean, on `dioid` for dates, on
 //! `teg_text` for words, on `teg_net` for want of memory, and on `thiserror`.
-//! Its examples stand in `series_examples`.
+//! Its examples stand in `net_examples`.
 //!
 //! ## How it works
 //!

@@ -7,7 +7,7 @@
 //! `date_rows`, whose calls and types this crate hands on: [`Rows`] of any system, [`LeastRows`]
 //! and [`FirstRows`] of a net. The crate stands on `date_rows` for rows, on `teg_form` for the form
 //! that a stream can be asked with, on `teg_check` for ranks, on `teg_net` and on `dioid` for
-//! dates. Its examples stand in `library_examples`, in `chapters_plans.rt`, and in `date_examples`,
+//! dates. Its examples stand in `library_examples`, in `chapters_plans.rt`, and in `net_examples`,
 //! in `streams.rt`.
 //!
 //! ## Call it

@@ -11,7 +11,7 @@
 //! on alike, on `series_laws`, `series_form`, `series_ops`, `steady_series`, `periodic_laws` and
 //! `dioid_matrix` for residuals of series, on `endless_due` and `teg_due` for rows, on `teg_text`
 //! for texts, on `teg_model` for datings, on `teg_net` and `teg_check` for nets, and on `dioid` for
-//! dates. Its examples stand in `date_examples`, in `kept_delays.rt`.
+//! dates. Its examples stand in `net_examples`, in `kept_delays.rt`.
 //!
 //! A refusal is told by its first cause: the first row that is late; then, of the first input that
 //! is not fine, walk times without a settled form of at most 20,000 numbers, or else the first row

@@ -19,7 +19,7 @@
 //! there is a settled form, on `slope_laws` for its slopes, on `settled_laws` for what settled forms
 //! are and what rows tell, on `teg_check` for ranks, on `teg_model` for datings, on `teg_net` for
 //! nets, on `dioid` for dates, and on `thiserror`. Its examples stand in `library_examples`, in
-//! `chapters_plans.rt`, and in `date_examples`, in `one_dates.rt` and `own_rows.rt`.
+//! `chapters_plans.rt`, and in `net_examples`, in `one_dates.rt` and `own_rows.rt`.
 //!
 //! ## How it works
 //!

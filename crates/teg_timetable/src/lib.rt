@@ -9,7 +9,7 @@
 //! also waits for an input of its own. The crate stands on `delay_laws` for what delays are, on
 //! `timetable_files` for files, on `release_nets` for that net, on `teg_settle` and `settled_laws`
 //! for settled forms, on `teg_text` for texts, on `teg_net` and `teg_check` for nets, and on `dioid`
-//! for dates. Its examples stand in `date_examples`, in `kept_delays.rt`.
+//! for dates. Its examples stand in `net_examples`, in `kept_delays.rt`.
 //!
 //! A refusal of [`spread`] is told by its first cause: a net that is too large, the lowest numbered
 //! place that does not get its time, a form that is longer than the limit.

@@ -3,7 +3,7 @@
 //! [`read_timetable`] answers the timetable that a file says of a net, or its first faulty row with
 //! the first of its faults: a [`TableRefusal`]. The crate stands on `delay_laws` for timetables, on
 //! `teg_due` and `csv_records` for the reader of rows, and on `teg_net` for nets; no search is below
-//! it. Its examples stand in `date_examples`, in `kept_delays.rt`.
+//! it. Its examples stand in `net_examples`, in `kept_delays.rt`.
 #![tactic(auto)]
 
 mod entries;

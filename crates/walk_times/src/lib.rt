@@ -11,7 +11,7 @@
 //! stands on it. It stands on `settled_forms` for forms that are spread out, on `periodic_laws` for
 //! that systems settle, on `settled_laws` for settled forms, on `teg_check` for ranks, on
 //! `teg_model` for datings, on `teg_net` for nets, and on `dioid` for dates. It is tried by what is
-//! asked of `teg_settle`, in `date_examples` and `law_examples`.
+//! asked of `teg_settle`, in `net_examples` and `law_examples`.
 #![tactic(auto)]
 
 mod laws;
