@@ -18,8 +18,8 @@ Each file of examples/ is named by a command of the guide, a script of examples/
 that takes a net alone, by the usage, answers for each net there: with status 0, or, where the net is refused, as `check`
 does.
 
-With --witnesses each answer of `check`, `list`, `cycle`, `dates`, `slack`, `size`, `bound`, `jit` and `timetable` that a command of
-the guide asks for is handed to the program witness_runner that `rt ci` leaves, which has to tell it as shown, and then with
+With --witnesses each answer of `check`, `list`, `cycle`, `dates`, `slack`, `size`, `bound`, `jit`, `forever` and `timetable` that a
+command of the guide asks for is handed to the program witness_runner that `rt ci` leaves, which has to tell it as shown, and then with
 one number of it made greater by one, or of a circuit that stands without numbers or keeps delays with the last place left
 out, which has to be told as not shown or refuted. PATH is another checker, as pace_runner: answers that it does not read are passed
 over and counted.

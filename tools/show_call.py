@@ -12,6 +12,7 @@ comment above them, those alone that the clauses name (tools/check_definitions.p
 of std are left out. The exit status is 0 where there is such a call, and else 1.
 """
 import re
+import signal
 import sys
 
 from check_definitions import Specs, imports_of
@@ -79,6 +80,15 @@ def named_by(use, text):
         if here in words if "◌" not in here else all(it in text for it in here.split("◌")):
             kept.append(name)
     return f"ghost use {path}.{{{', '.join(kept)}}};" if kept else ""
+
+
+def joined(lines):
+    """These lines of `use`: one for each module, with each of its names once."""
+    found = {}
+    for line in lines:
+        module, _, names = line.removesuffix("};").partition(".{")
+        found.setdefault(module, {}).update(dict.fromkeys(names.split(", ")))
+    return [f"{module}.{{{', '.join(names)}}};" if "" not in names else module for module, names in found.items()]
 
 
 def definition(specs, at):
@@ -151,7 +161,7 @@ def show(crate, kind, name):
             values = [named_by(use, seen[0]) for use in uses] if seen else [path_in_specs(origin, path, name)]
             print("\n".join(f"-- in specs/: {line.removeprefix('ghost ').removesuffix(';')}" for line in values if line))
         else:
-            for line in filter(None, (named_by(use, said) for use in uses)):
+            for line in joined(filter(None, (named_by(use, said) for use in uses))):
                 print(line)
         return True
     return False
@@ -168,4 +178,5 @@ def main():
 
 
 if __name__ == "__main__":
+    signal.signal(signal.SIGPIPE, signal.SIG_DFL)
     sys.exit(main())

@@ -352,6 +352,8 @@ impl Other {
 }
 
 impl Bag {
+    ghost use Rattle.low.specs.Few.{IsFew, low_limit};
+
     /// How many.
     pub fn size(&self) -> u8
         ensures { IsFew result }
@@ -364,7 +366,7 @@ impl Bag {
 """)
         text, found = printed(show_call.show, "low", "Bag", "size")
         self.assertTrue(found)
-        self.assertTrue(text.startswith("// crates/low/src/bags.rt:12\n/// How many.\npub fn size(&self) -> u8\n    ensures { IsFew result }\n\n"))
+        self.assertTrue(text.startswith("// crates/low/src/bags.rt:14\n/// How many.\npub fn size(&self) -> u8\n    ensures { IsFew result }\n\n"))
         self.assertTrue(text.endswith("\nuse low::Bag;\nghost use Rattle.low.specs.Few.{IsFew};\n"))
         self.assertEqual(printed(show_call.show, "low", "Bag", "own"), ("", False))
         self.assertEqual(printed(show_call.show, "low", None, "size"), ("", False))
