@@ -8,12 +8,12 @@ use Rattle.late_lines.specs.declared.late.LateFiring.{LateFiring}
 use Rattle.delay_laws.specs.declared.table.Timetable.{Timetable}
 use Rattle.round_check.specs.ShownRounds.{IsShownRounds}
 use Rattle.dating_check.specs.FirstLate.{IsShownFirstLate}
-use Rattle.dating_check.specs.ShownForms.{IsShownSettled}
+use Rattle.settled_check.specs.ShownForms.{IsShownSettled}
 use Rattle.dating_check.specs.ShownTables.{IsShownTable}
 use Rattle.dating_check.specs.TableTexts.{IsFalseTable, IsRightIfTable}
 use Rattle.dating_check.specs.declared.table_faults.TableFault.{TableFault}
 use Rattle.dating_check.specs.declared.table_faults.TableFault.TheVariants.{OtherNumbers, Line, Late}
-use Rattle.dating_check.specs.declared.settled.ShownSettled.{ShownSettled}
+use Rattle.settled_check.specs.declared.settled.ShownSettled.{ShownSettled}
 use Rattle.delay_check.specs.ShownDelays.{IsShownKept, IsShownRecovered}
 use Rattle.forever_check.specs.ShownReleases.{IsShownForever}
 use Rattle.forever_check.specs.ShownLate.{IsShownEndlessLate}

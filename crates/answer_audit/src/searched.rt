@@ -6,8 +6,8 @@ ghost use Rattle.answer_audit.specs.AnswerFindings.{IsShownSearched};
 
 use audit_calls::{Finding, Searched};
 use bound_check::{refutes_bound, shown_bound};
-use dating_check::shown_settled;
 use round_check::shown_rounds;
+use settled_check::shown_settled;
 use std::alloc::Global;
 use teg_net::{Net, OutOfMemory};
 use witness_check::is_seen_live;

@@ -12,12 +12,12 @@
 //! then the number of the first line is compared with the formula. Nothing rests on the parser, nor
 //! on what finds rows, ratio and circuit.
 //!
-//! The crate stands on `dating_check` and `witness_check` for rows that are found and whether a net is
-//! live, on `dating_certificates` and `teg_certificates` for checkers, on `teg_parts` for strong parts,
-//! on `bound_laws` for the formula, on `settled_laws` and `dioid` for forms and dates, on `teg_text`
-//! for words, and on `teg_net` for nets; no crate of the program's search is below it but that of
-//! parts. That what is shown is what the command says is a law of `answer_laws`. Its examples stand in
-//! `witness_examples`.
+//! The crate stands on `dating_certificates` for rows that are found, on `witness_check` for
+//! whether a net is live, on `settled_certificates` and `teg_certificates` for checkers, on
+//! `teg_parts` for strong parts, on `bound_laws` for the formula, on `settled_laws` and `dioid` for
+//! forms and dates, on `teg_text` for words, and on `teg_net` for nets; no crate of the program's
+//! search is below it but that of parts. That what is shown is what the command says is a law of
+//! `answer_laws`. Its examples stand in `witness_examples`.
 #![tactic(auto)]
 
 mod bound;

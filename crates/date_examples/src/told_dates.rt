@@ -2,9 +2,10 @@
 //! plans, and rows that show how dates go on for ever. With one number changed they show nothing.
 ghost use Rattle.teg_due.specs.RowRules.{IsDueOf};
 
-use dating_certificates::{check_latest, check_plan, check_settled, check_shortest};
 use dioid::Date;
 use example_nets::{KANBAN, LOOP, SHOP, ask_net, due_rows};
+use latest_certificates::{check_latest, check_plan};
+use settled_certificates::{check_settled, check_shortest};
 use std::alloc::Global;
 use std::test::Fail;
 use teg_due::Due;

@@ -2,9 +2,4 @@ pub mod FirstRows
 pub mod RowWaits
 pub mod WholeRows
 pub mod LeastRows
-pub mod SolvedRows
-pub mod PlanRows
-pub mod SettledWindows
-pub mod ListedDues
-pub mod ToldForms
-pub mod ShortestRows
+pub mod DatesUpTo

@@ -1,7 +1,7 @@
 -- Lists of dates that are told row after row, and what it means that these rows are tight (chapter 2).
-use Rattle.std.specs.Prelude.{ℕ, ◌+◌, ◌-◌, ◌*◌, ◌<◌, ◌≤◌, ◌≡◌, ◌↔◌, List, length, All, slice_index_or}
+use Rattle.std.specs.Prelude.{ℕ, ◌+◌, ◌-◌, ◌*◌, ◌<◌, ◌≤◌, ◌≡◌, ◌↔◌, List, length, All, slice_index_or, nat_le, if◌then◌else◌}
 use Rattle.dioid.specs.declared.dates.Date.{Date}
-use Rattle.dioid.specs.declared.dates.Date.TheVariants.{Early}
+use Rattle.dioid.specs.declared.dates.Date.TheVariants.{Early, Never}
 use Rattle.teg_net.specs.Limits.{greatest_firing_number}
 use Rattle.teg_net.specs.Nets.{NetLists, IsNet}
 use Rattle.teg_net.specs.Circuits.{IsLive}
@@ -12,6 +12,10 @@ use Rattle.dating_certificates.specs.TightRows.{AreTightUpTo}
 -- the date of firing k of transition t in rows of this many dates, of which the first is that of number 1
 abbrev pub date_in_rows : ℕ → List Date → ℕ → ℕ → Date
 date_in_rows width dates t k = slice_index_or dates ((k - 1) * width + t) Early
+
+-- the date of firing k of transition t in rows of this many dates up to a number, and never past it
+abbrev pub date_up_to : ℕ → ℕ → List Date → ℕ → ℕ → Date
+date_up_to numbers width dates t k = if nat_le k numbers then date_in_rows width dates t k else Never
 
 -- the dates are so many whole rows, one date for each transition
 pub record AreRowsOf (net : NetLists) (dates : List Date) (rows : ℕ) : Type 0 where

@@ -110,8 +110,9 @@ fn are_tight(net: &Net, dates: &[Date], row: &mut [Date], rows: u64) -> bool
     true
 }
 
-// How many whole rows the dates are, if they are whole rows and not too many.
-pub(crate) fn rows_of(net: &Net, dates: &[Date]) -> Option<u64>
+/// How many whole rows the dates are, if they are whole rows of the net and no more than the
+/// greatest firing number; none else.
+pub fn rows_of(net: &Net, dates: &[Date]) -> Option<u64>
     ensures none { IfNone result ((rows : ℕ) → AreRowsOf net.now dates.now rows → ⊥) }
     ensures rows { IfSome result (λ rows. AreRowsOf net.now dates.now rows) }
 {

@@ -73,8 +73,9 @@ pub(crate) fn date_before(net: &Net, dates: &[Date], transition: TransitionId, n
     }
 }
 
-// The date before which this firing is not released, which only an input waits for.
-pub(crate) fn release(net: &Net, transition: TransitionId, number: u64) -> Date
+/// The date before which this firing is not released, which only an input waits for: `Early` for one
+/// that is no input, and `Never` for one that its list does not release.
+pub fn release(net: &Net, transition: TransitionId, number: u64) -> Date
     requires transition { transition.index < length net.now.transitions }
     requires first { 1 ≤ number }
     requires last { number ≤ greatest_firing_number }

@@ -22,9 +22,10 @@ use Rattle.due_laws.proofs.LatestDates.{never_or_not}
 use Rattle.latest_laws.specs.BackwardSolutions.{AreDueUpTo}
 use Rattle.latest_laws.proofs.BackwardEquations.{least_ahead}
 use Rattle.latest_laws.proofs.LatestExist.{latest_exist}
-use Rattle.dating_certificates.specs.LatestRows.{AreLatestRows, IsRowOf, ListsDues, date_up_to}
-use Rattle.dating_certificates.proofs.SolvedRows.{never_past}
-use Rattle.dating_certificates.proofs.ToldForms.{told_in}
+use Rattle.dating_certificates.specs.CheckedRows.{date_up_to}
+use Rattle.latest_certificates.specs.LatestRows.{AreLatestRows, IsRowOf, ListsDues}
+use Rattle.latest_certificates.proofs.SolvedRows.{never_past}
+use Rattle.dating_certificates.proofs.DatesUpTo.{told_in}
 use Rattle.dating_check.specs.MadeRows.{AreFrom, IsLatestFor, IsMade, date_index}
 use Rattle.dating_check.proofs.Lowering.{cell_in, lowered, lowered_above, lowered_below, lowered_from, lowered_here}
 

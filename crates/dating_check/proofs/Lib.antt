@@ -2,7 +2,6 @@ mod BackOrder
 mod BegunRows
 mod Bounding
 mod FirstLate
-mod FormLines
 mod Lowering
 mod MadeRows
 mod TableFaults

@@ -11,8 +11,8 @@ use Rattle.dioid.specs.declared.dates.Date.TheVariants.{Early, At, Never}
 use Rattle.dioid.specs.Dates.{IsAtMostDate, delayed, earlier_of}
 use Rattle.dioid.proofs.DateOrder.{at_most_is, earlier_left, earlier_greatest, earlier_either}
 use Rattle.latest_laws.proofs.BackwardSolutions.{rows_below}
-use Rattle.dating_certificates.specs.LatestRows.{date_up_to}
-use Rattle.dating_certificates.proofs.ToldForms.{told_in}
+use Rattle.dating_certificates.specs.CheckedRows.{date_up_to}
+use Rattle.dating_certificates.proofs.DatesUpTo.{told_in}
 use Rattle.dating_check.specs.MadeRows.{AreFrom, date_index}
 
 -- ---- cells

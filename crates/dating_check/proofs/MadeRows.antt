@@ -16,7 +16,8 @@ use Rattle.due_laws.proofs.LatestDates.{delayed_back}
 use Rattle.latest_laws.specs.BackwardEquations.{IsLeastAhead}
 use Rattle.latest_laws.proofs.BackwardEquations.{last_in_time, least_ahead}
 use Rattle.witness_check.specs.Climbs.{RiseAlong}
-use Rattle.dating_certificates.specs.LatestRows.{IsRowOf, date_up_to}
+use Rattle.dating_certificates.specs.CheckedRows.{date_up_to}
+use Rattle.latest_certificates.specs.LatestRows.{IsRowOf}
 use Rattle.dating_check.specs.declared.back_order.Placed.{Placed}
 use Rattle.dating_check.specs.BackOrder.{IsBackOrder, placed_at}
 use Rattle.dating_check.specs.MadeRows.{AreKept, IsLatestFor, IsMade}

@@ -15,10 +15,10 @@ use Rattle.teg_due.specs.RowRules.{IsDueOf}
 use Rattle.due_laws.specs.LatestDates.{IsLatestDate}
 use Rattle.due_laws.proofs.LatestDates.{never_or_not}
 use Rattle.dating_certificates.specs.CheckedRows.{date_in_rows}
-use Rattle.dating_certificates.specs.LatestRows.{AreLatestRows, ListsDues}
-use Rattle.dating_certificates.specs.PlanRows.{ArePlanRows}
-use Rattle.dating_certificates.proofs.ListedDues.{dues_are_listed}
-use Rattle.dating_certificates.proofs.ToldForms.{told_in}
+use Rattle.latest_certificates.specs.LatestRows.{AreLatestRows, ListsDues}
+use Rattle.latest_certificates.specs.PlanRows.{ArePlanRows}
+use Rattle.latest_certificates.proofs.ListedDues.{dues_are_listed}
+use Rattle.dating_certificates.proofs.DatesUpTo.{told_in}
 use Rattle.word_lines.specs.WordLines.{IsTextOf}
 use Rattle.dating_check.specs.declared.table_faults.TableFault.{TableFault}
 use Rattle.dating_check.specs.declared.table_faults.TableFault.TheVariants.{OtherNumbers, Line, Late}

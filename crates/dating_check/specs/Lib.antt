@@ -2,7 +2,6 @@ pub mod BackOrder
 pub mod DueNumbers
 pub mod FirstLate
 pub mod MadeRows
-pub mod ShownForms
 pub mod ShownTables
 pub mod ShownWalks
 pub mod TableReading

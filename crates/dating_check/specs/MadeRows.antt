@@ -7,7 +7,8 @@ use Rattle.teg_net.specs.Nets.{NetLists}
 use Rattle.teg_net.specs.Circuits.{from_of, place_at}
 use Rattle.teg_due.specs.declared.rows.DueRow.{DueRow}
 use Rattle.due_laws.specs.LatestDates.{AreLatestDates}
-use Rattle.dating_certificates.specs.LatestRows.{ListsDues, date_up_to}
+use Rattle.dating_certificates.specs.CheckedRows.{date_up_to}
+use Rattle.latest_certificates.specs.LatestRows.{ListsDues}
 use Rattle.dating_check.specs.declared.back_order.Placed.{Placed}
 
 -- where the date of firing k of transition t stands

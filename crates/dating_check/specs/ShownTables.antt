@@ -15,9 +15,9 @@ use Rattle.due_laws.specs.MeetingDueDates.{AreLatestInputs}
 use Rattle.teg_due.specs.declared.rows.DueRow.{DueRow}
 use Rattle.teg_text.specs.Lines.{written}
 use Rattle.teg_text.specs.WordsOfNames.{name_of_place, name_of_transition, no_transition}
-use Rattle.dating_certificates.specs.CheckedRows.{date_in_rows}
-use Rattle.dating_certificates.specs.LatestRows.{date_up_to, IsRowOf, ListsDues}
-use Rattle.dating_certificates.specs.PlanRows.{ArePlanRows}
+use Rattle.dating_certificates.specs.CheckedRows.{date_in_rows, date_up_to}
+use Rattle.latest_certificates.specs.LatestRows.{IsRowOf, ListsDues}
+use Rattle.latest_certificates.specs.PlanRows.{ArePlanRows}
 use Rattle.dating_check.specs.DueNumbers.{IsGreatestNumber}
 
 -- how lines of a transition begin

@@ -13,7 +13,7 @@ use Rattle.due_laws.specs.MeetingDueDates.{InputsMeet, inputs_at_zero}
 use Rattle.teg_text.specs.Lines.{is_word, written}
 use Rattle.teg_text.specs.ValueWords.{date_word}
 use Rattle.teg_text.specs.WordsOfNames.{name_of_transition, no_transition}
-use Rattle.dating_certificates.specs.LatestRows.{ListsDues}
+use Rattle.latest_certificates.specs.LatestRows.{ListsDues}
 use Rattle.dating_check.specs.DueNumbers.{IsGreatestNumber}
 use Rattle.dating_check.specs.ShownTables.{role_told}
 use Rattle.dating_check.specs.declared.table_faults.TableFault.{TableFault}

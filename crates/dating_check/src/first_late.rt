@@ -10,9 +10,8 @@ ghost use Rattle.dating_check.specs.FirstLate.{AreLeastUpTo, IsFirstLate, IsFirs
 
 use crate::due_rows::is_due_list;
 use crate::late::shown_late;
-use crate::least_rows::least_dates;
 use crate::rows::{date_in_rows, greatest_number};
-use dating_certificates::check_rows;
+use dating_certificates::{check_rows, least_dates};
 use dioid::Date;
 use late_lines::LateFiring;
 use std::alloc::Global;

@@ -1,8 +1,8 @@
-//! Checks of printed dates: what a text shows of them, by the net, the due list and the text alone.
+//! Checks of printed latest dates: what a text shows of them, by the net, the due list and the text
+//! alone.
 //!
 //! | Answer | What is read | Call |
 //! |---|---|---|
-//! | `dates` | its dates and steps | [`shown_settled`] |
 //! | `jit`: all its lines | the dates and steps of the lines | [`shown_table`] |
 //! | `jit`: what is false | all lines; latest dates are made anew | [`table_fault`] |
 //! | `jit`: a line | the steps of the lines that it leads to | [`shown_latest`] |
@@ -16,11 +16,11 @@
 //! answer. Where it tells nothing, its clause says nothing, but of [`table_fault`]: it reads the
 //! lines whole, and so it tells nothing just where nothing is false or the text is no table.
 //!
-//! The crate stands on `dating_certificates` for checkers of dates, on `latest_laws` for what walks
-//! show, on `witness_check` for whether a net is live and for first lines, on `settled_laws` for
-//! settled forms, on `teg_due` and `csv_records` for rows that are due, on `teg_text`, `word_lines`
-//! and `late_lines` for texts, and on `teg_net` for nets; no crate of the program's search is below
-//! it.
+//! The crate stands on `dating_certificates` and `latest_certificates` for checkers of dates, on
+//! `latest_laws` for what walks show, on `witness_check` for whether a net is live, on `teg_due` and
+//! `csv_records` for rows that are due, on `seen_rows` for rows that are seen once, on `teg_text`,
+//! `word_lines` and `late_lines` for texts, and on `teg_net` for nets; no crate of the program's
+//! search is below it.
 //! Its examples stand in `witness_examples`.
 #![tactic(auto)]
 
@@ -29,11 +29,8 @@ mod due_rows;
 mod first_late;
 mod late;
 mod latest;
-mod least_rows;
 mod made_rows;
 mod rows;
-mod settled;
-mod settled_reading;
 mod table;
 mod table_faults;
 mod table_lines;
@@ -45,7 +42,5 @@ mod wrong_line;
 pub use first_late::shown_first_late;
 pub use late::shown_late;
 pub use latest::{ShownLatest, shown_latest};
-pub use least_rows::least_dates;
-pub use settled::{ShownSettled, shown_settled};
 pub use table::shown_table;
 pub use table_faults::{TableFault, table_fault};

@@ -8,7 +8,8 @@ ghost use Rattle.teg_net.specs.Circuits.{IsLive};
 ghost use Rattle.teg_net.specs.Limits.{greatest_hold, most_transitions};
 ghost use Rattle.teg_due.specs.declared.rows.DueRow.{DueRow};
 ghost use Rattle.teg_due.specs.RowRules.{IsDueOf, IsDueRow};
-ghost use Rattle.dating_certificates.specs.LatestRows.{AreLatestRows, ListsDues, date_up_to};
+ghost use Rattle.dating_certificates.specs.CheckedRows.{date_up_to};
+ghost use Rattle.latest_certificates.specs.LatestRows.{AreLatestRows, ListsDues};
 ghost use Rattle.dating_check.specs.BackOrder.{IsOrderBack};
 ghost use Rattle.dating_check.specs.MadeRows.{AreFrom, IsLatestFor, IsMade, IsNumberTo, date_index, greatest_fall};
 

@@ -8,7 +8,7 @@ use crate::made_rows::latest_rows;
 use crate::rows::greatest_number;
 use crate::table_lines::table_lines;
 use crate::wrong_line::{DateRows, first_other};
-use dating_certificates::{check_plan, due_rows_are_listed};
+use latest_certificates::{check_plan, due_rows_are_listed};
 use std::alloc::Global;
 use teg_due::Due;
 use teg_net::{Net, OutOfMemory, TransitionId};

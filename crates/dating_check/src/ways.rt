@@ -4,7 +4,8 @@ ghost use Rattle.dioid.specs.declared.dates.Date.TheVariants.{At};
 ghost use Rattle.dioid.specs.Dates.{delayed};
 ghost use Rattle.teg_net.specs.Circuits.{from_of, place_at};
 ghost use Rattle.teg_net.specs.Limits.{most_transitions};
-ghost use Rattle.dating_certificates.specs.LatestRows.{IsRowOf, date_up_to};
+ghost use Rattle.dating_certificates.specs.CheckedRows.{date_up_to};
+ghost use Rattle.latest_certificates.specs.LatestRows.{IsRowOf};
 ghost use Rattle.dating_check.specs.ShownTables.{AreAttained, IsAttained, way_in_rows};
 
 use crate::rows::date_in_rows;

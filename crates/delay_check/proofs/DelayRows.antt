@@ -6,7 +6,7 @@ use Rattle.std.proofs.lemmas.List.FromFn.{get_or-map-range_with_len, length-map-
 use Rattle.dioid.specs.declared.dates.Date.{Date}
 use Rattle.dioid.specs.declared.dates.Date.TheVariants.{Early}
 use Rattle.dating_certificates.specs.CheckedRows.{date_in_rows}
-use Rattle.dating_certificates.specs.SettledRows.{form_by_rows}
+use Rattle.settled_certificates.specs.SettledRows.{form_by_rows}
 use Rattle.delay_laws.specs.declared.table.Timetable.{Timetable}
 use Rattle.delay_laws.specs.Delays.{IsFormOfDelays}
 use Rattle.delay_laws.specs.PlannedTimetables.{planned}

@@ -2,7 +2,7 @@
 use Rattle.std.proofs.Common.{ℕ, ℤ, ◌+◌, ◌<◌, ◌≤◌, ◌≡◌, ◌⊎◌, List, length, inl, inr, sym, ◌∙◌, ⊎_elim, arith}
 use Rattle.std.proofs.lemmas.Bool.{cases_lt}
 use Rattle.dioid.specs.declared.dates.Date.{Date}
-use Rattle.dating_certificates.specs.SettledRows.{form_by_rows}
+use Rattle.settled_certificates.specs.SettledRows.{form_by_rows}
 use Rattle.delay_laws.specs.declared.table.Timetable.{Timetable}
 use Rattle.delay_laws.specs.DelayOutcomes.{IsRecovered}
 use Rattle.delay_laws.specs.Delays.{AreDelaysLeft, IsFormOfDelays}

@@ -1,7 +1,7 @@
 -- Working definitions of how rows of dates tell delays.
 use Rattle.std.specs.Prelude.{ℕ, ℤ, List}
 use Rattle.dioid.specs.declared.dates.Date.{Date}
-use Rattle.dating_certificates.specs.SettledRows.{form_by_rows}
+use Rattle.settled_certificates.specs.SettledRows.{form_by_rows}
 use Rattle.delay_laws.specs.declared.table.Timetable.{Timetable}
 use Rattle.delay_laws.specs.SettlingLaws.{delay_by_form}
 

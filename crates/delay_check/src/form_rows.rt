@@ -1,17 +1,17 @@
 //! The rows by which the delays of a timetable settle: that they can be followed in the net, and that
 //! the rows tell the form.
 ghost use Rattle.std.specs.Prelude.{◌≡◌, ◌+◌, ◌*◌, ◌≤◌, IfOk, IfSome, IsTrue, length};
-ghost use Rattle.dating_certificates.specs.SettledRows.{form_by_rows};
+ghost use Rattle.settled_certificates.specs.SettledRows.{form_by_rows};
 ghost use Rattle.delay_laws.specs.Delays.{IsFormOfDelays};
 ghost use Rattle.delay_laws.specs.PlannedTimetables.{IsTableOf};
 ghost use Rattle.release_nets.specs.PlannedNets.{greatest_period};
 
 use crate::spread_text::Rows;
 use crate::tables::is_table;
-use dating_certificates::check_shortest;
 use delay_laws::Timetable;
 use dioid::Date;
 use release_nets::{Planned, release_net};
+use settled_certificates::check_shortest;
 use std::alloc::Global;
 use teg_net::{Net, OutOfMemory};
 use witness_check::is_seen_live;

@@ -16,10 +16,10 @@
 //!
 //! The crate stands on `delay_laws` for timetables and what delays are, on `release_nets` for the
 //! net with the releases, on `csv_records` and `seen_rows` for that no departure is delayed twice,
-//! on `dating_certificates` for rows of dates, on `witness_check` for whether a net is live and how a
-//! circuit is told, on `teg_text` for words, on `settled_laws`, `teg_model` and `dioid` for forms and
-//! dates, and on `teg_net` for nets; no crate of the program's search is below it. Its examples stand
-//! in `witness_examples`.
+//! on `dating_certificates` and `settled_certificates` for rows of dates, on `witness_check` for
+//! whether a net is live and how a circuit is told, on `teg_text` for words, on `settled_laws`,
+//! `teg_model` and `dioid` for forms and dates, and on `teg_net` for nets; no crate of the
+//! program's search is below it. Its examples stand in `witness_examples`.
 #![tactic(auto)]
 
 mod form_rows;

@@ -1,6 +1,6 @@
 //! The number after which no delay is left, by the delays of rows.
 ghost use Rattle.std.specs.Prelude.{ℕ, ◌≡◌, ◌<◌, ◌≤◌, ◌⊎◌, true, false, IsTrue, length};
-ghost use Rattle.dating_certificates.specs.SettledRows.{form_by_rows};
+ghost use Rattle.settled_certificates.specs.SettledRows.{form_by_rows};
 ghost use Rattle.delay_laws.specs.Delays.{IsFormOfDelays};
 ghost use Rattle.delay_check.specs.DelayRows.{delay_by_rows};
 ghost use Rattle.delay_check.specs.ShownDelays.{EndsWhatIsLeft};

@@ -1,6 +1,6 @@
 //! What texts of delays that are kept and of delays that are over tell alike: the delays that are left.
 ghost use Rattle.std.specs.Prelude.{ℕ, ◌≡◌, ◌+◌, ◌≤◌, IfOk, IfSome, IsTrue, List, length};
-ghost use Rattle.dating_certificates.specs.SettledRows.{form_by_rows};
+ghost use Rattle.settled_certificates.specs.SettledRows.{form_by_rows};
 ghost use Rattle.delay_laws.specs.Delays.{IsFormOfDelays};
 ghost use Rattle.teg_text.specs.Lines.{written};
 ghost use Rattle.delay_check.specs.ShownDelays.{EndsWhatIsLeft, TellsDelays};

@@ -17,7 +17,7 @@ use Rattle.teg_net.proofs.InputDates.{IsInputDates-list_date}
 use Rattle.teg_due.specs.declared.rows.DueRow.{DueRow}
 use Rattle.teg_model.specs.Datings.{as_date}
 use Rattle.due_laws.specs.LatestDates.{IsDateToDue}
-use Rattle.dating_certificates.specs.LatestRows.{IsRowOf, ListsDues}
+use Rattle.latest_certificates.specs.LatestRows.{IsRowOf, ListsDues}
 use Rattle.endless_due.specs.declared.row.EndlessRow.{EndlessRow}
 use Rattle.endless_due.specs.EndlessRows.{row_due, due_on, IsEndlessOf}
 use Rattle.forever_laws.proofs.FirstLate.{on_by}

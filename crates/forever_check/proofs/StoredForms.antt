@@ -18,7 +18,7 @@ use Rattle.settled_laws.proofs.Telling.{form_tells}
 use Rattle.settled_forms.specs.KeptForms.{IsFormKept}
 use Rattle.settled_forms.specs.Stored.{IsStored, stored_form}
 use Rattle.dating_certificates.specs.CheckedRows.{date_in_rows}
-use Rattle.dating_certificates.specs.SettledRows.{form_by_rows}
+use Rattle.settled_certificates.specs.SettledRows.{form_by_rows}
 
 -- what is read of a list, number by number, is the list
 reads : {X : Type 0} (xs : List X) (d : X) (n : ℕ) → n ≤ length xs → map (λ i. get_or xs i d) (range_with_len 0 n) ≡ take n xs

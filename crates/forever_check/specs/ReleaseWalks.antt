@@ -13,7 +13,7 @@ use Rattle.teg_model.specs.Datings.{as_date, listed_releases}
 use Rattle.teg_text.specs.Lines.{written}
 use Rattle.due_laws.specs.LatestDates.{IsDateToDue}
 use Rattle.due_laws.specs.MeetingDueDates.{InputsMeet}
-use Rattle.dating_certificates.specs.LatestRows.{date_up_to}
+use Rattle.dating_certificates.specs.CheckedRows.{date_up_to}
 use Rattle.endless_due.specs.declared.row.EndlessRow.{EndlessRow}
 use Rattle.endless_due.specs.EndlessRows.{row_due, due_on, IsEndlessOf}
 use Rattle.endless_laws.specs.WalksToDues.{IsTurningWalk}

@@ -5,7 +5,7 @@ ghost use Rattle.std.specs.List.{range_with_len};
 ghost use Rattle.teg_net.specs.Limits.{most_rows, most_transitions};
 ghost use Rattle.settled_laws.specs.SettledForms.{IsSettledFormOf};
 ghost use Rattle.dating_certificates.specs.CheckedRows.{date_in_rows};
-ghost use Rattle.dating_certificates.specs.SettledRows.{form_by_rows};
+ghost use Rattle.settled_certificates.specs.SettledRows.{form_by_rows};
 ghost use Rattle.teg_net.specs.Circuits.{IsLive};
 
 use dioid::Date;

@@ -32,7 +32,7 @@ pub fn dates_jump_in()
 /// by the steps for ever (`ever`); and each transition has then one step for all its residues, so
 /// that the dates have settled (`settled`) (chapter 3). It does nothing when it runs.
 ///
-/// With one step for each transition it says what `windows_go_on` of `dating_certificates` says.
+/// With one step for each transition it says what `windows_go_on` of `settled_certificates` says.
 pub fn no_fall_is_for_ever()
     ensures ever { NoFallIsForEver }
     ensures settled { NoFallSettles }

@@ -13,9 +13,9 @@
 //! the lines, and neither on the parser nor on whatever found the answer. Clauses say what is so
 //! where it says yes; where it does not, they say nothing, but of the calls that find numbers, which
 //! say no just where a circuit is in the way. Paces and sizes are those of `pace_check`, dates those
-//! of `dating_check`, and delays those of `delay_check`. For them stand here how places are named
-//! and ratios told ([`places_named`], [`ratio_in`]), how a first line tells where dates settle
-//! ([`settled_in_line`]), and where circuits are told from ([`begins_lowest`]).
+//! of `dating_check` and `settled_check`, and delays those of `delay_check`. For them stand here
+//! how places are named and ratios told ([`places_named`], [`ratio_in`]), how a first line tells
+//! where dates settle ([`settled_in_line`]), and where circuits are told from ([`begins_lowest`]).
 //!
 //! The crate stands on `teg_net` for nets, on `teg_text` for texts, on `teg_certificates` for
 //! checkers, and on `teg_loops` for circuits in paths; no crate that finds paces, plans or dates is

@@ -1,9 +1,9 @@
 //! Nets with the releases of a timetable as inputs, and from where circuits are told.
 use crate::kept_delays::{RAILWAY, table};
-use dating_check::shown_settled;
 use delay_laws::{Timetable, is_table_of};
 use example_nets::ask_net;
 use release_nets::{Planned, Unplanned, release_net};
+use settled_check::shown_settled;
 use std::alloc::Global;
 use std::test::Fail;
 use teg_net::{Net, PlaceId, is_circuit};

@@ -1,6 +1,6 @@
 //! Texts of settled dates.
-use dating_check::shown_settled;
 use example_nets::{KANBAN, tells_all};
+use settled_check::shown_settled;
 use std::alloc::Global;
 use std::test::Fail;
 use teg_net::{Net, OutOfMemory};

@@ -3,7 +3,7 @@ use Rattle.std.proofs.lemmas.List.{length-set}
 use Rattle.dioid.specs.declared.dates.Date.{Date}
 use Rattle.dioid.specs.declared.dates.Date.TheVariants.{Early}
 use Rattle.dioid.specs.Dates.{earlier_of}
-use Rattle.dating_certificates.specs.LatestRows.{date_up_to}
+use Rattle.dating_certificates.specs.CheckedRows.{date_up_to}
 use Rattle.dating_check.specs.MadeRows.{AreFrom, IsMade, date_index}
 use Rattle.dating_check.proofs.Lowering.{lowered, lowered_from, up_to_from}
 use Rattle.dating_check.proofs.MadeRows.{next_passed}

@@ -7,7 +7,7 @@ use Rattle.teg_net.specs.declared.entries.Place.{Place}
 use Rattle.teg_net.specs.Circuits.{no_place, place_at}
 use Rattle.teg_net.specs.Nets.{IsPlaceOf}
 use Rattle.teg_net.proofs.Reading.{read_place}
-use Rattle.dating_certificates.specs.LatestRows.{date_up_to}
+use Rattle.dating_certificates.specs.CheckedRows.{date_up_to}
 use Rattle.dating_check.specs.declared.back_order.Placed.{Placed}
 use Rattle.dating_check.specs.MadeRows.{AreFrom, AreKept, IsMade, date_index, greatest_fall}
 use Rattle.dating_check.proofs.Lowering.{all_weaker, held_from, lowered, lowered_from, room_for, up_to_from}

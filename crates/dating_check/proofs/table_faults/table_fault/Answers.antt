@@ -3,7 +3,7 @@ use Rattle.std.proofs.lemmas.Bool.{iff_false}
 use Rattle.dioid.specs.declared.dates.Date.{Date}
 use Rattle.teg_net.specs.Circuits.{IsLive}
 use Rattle.teg_due.specs.RowRules.{IsDueOf}
-use Rattle.dating_certificates.specs.LatestRows.{AreLatestRows, ListsDues}
+use Rattle.latest_certificates.specs.LatestRows.{AreLatestRows, ListsDues}
 use Rattle.dating_check.specs.DueNumbers.{IsGreatestNumber}
 use Rattle.dating_check.specs.TableReading.{FirstOther, words_behind}
 use Rattle.dating_check.specs.TableTexts.{IsTableText}

@@ -1,5 +1,5 @@
 use Rattle.std.proofs.Common.{ℕ, length, subst, sym, ◌∙◌}
-use Rattle.dating_certificates.specs.SettledRows.{form_by_rows}
+use Rattle.settled_certificates.specs.SettledRows.{form_by_rows}
 use Rattle.delay_laws.specs.Delays.{IsFormOfDelays}
 use Rattle.delay_check.proofs.DelayRows.{as_wide}
 use Rattle.delay_check.proofs.form_rows.are_form_rows.Goals as goal

@@ -1,7 +1,8 @@
 use Rattle.std.proofs.Common.{ℕ, Option, ◌≡◌, ◌≢◌, ◌<◌, ◌≤◌, length, subst, ◌∙◌, sym, arith}
 use Rattle.dioid.specs.declared.dates.Date.{Date}
 use Rattle.due_laws.specs.LatestDates.{IsDateToDue, IsLatestDate}
-use Rattle.dating_certificates.specs.LatestRows.{AreLatestRows, date_up_to}
+use Rattle.dating_certificates.specs.CheckedRows.{date_up_to}
+use Rattle.latest_certificates.specs.LatestRows.{AreLatestRows}
 use Rattle.forever_check.specs.ReleaseWalks.{IsToldAt}
 use Rattle.forever_check.proofs.latest.are_shown_by.Goals as goal
 

@@ -1,4 +1,4 @@
-use Rattle.dating_certificates.proofs.ListedDues.{dues_are_listed}
+use Rattle.latest_certificates.proofs.ListedDues.{dues_are_listed}
 use Rattle.forever_check.specs.ShownReleases.{list_release}
 use Rattle.forever_check.proofs.ReleaseWalks.{turning_walk}
 use Rattle.forever_check.proofs.latest.are_turns_shown.Goals as goal

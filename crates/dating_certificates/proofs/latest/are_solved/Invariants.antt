@@ -1,6 +1,0 @@
-use Rattle.std.proofs.Common.{ℕ, ◌≤◌, ◌≡◌, length}
-use Rattle.dating_certificates.specs.ToldRows.{IsRowSolved}
-use Rattle.dating_certificates.proofs.latest.are_solved.Given as goal
-
-abbrev pub invariant-loop-before : goal.invariant-loop-before
-invariant-loop-before l = (length l.met ≡ length l.told.net.transitions) × ((k : ℕ) → 1 ≤ k → k ≤ l.before → IsRowSolved l.told l.rows k)

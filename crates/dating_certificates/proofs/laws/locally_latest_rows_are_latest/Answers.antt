@@ -1,5 +1,0 @@
-use Rattle.dating_certificates.proofs.SolvedRows.{local_latest}
-use Rattle.dating_certificates.proofs.laws.locally_latest_rows_are_latest.Goals as goal
-
-pub returns : goal.returns
-returns c = local_latest

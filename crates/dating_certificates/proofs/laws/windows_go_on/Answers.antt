@@ -1,5 +1,0 @@
-use Rattle.dating_certificates.proofs.SettledWindows.{windows_go_on}
-use Rattle.dating_certificates.proofs.laws.windows_go_on.Goals as goal
-
-pub returns : goal.returns
-returns c = windows_go_on

@@ -1,6 +1,0 @@
-use Rattle.std.proofs.Common.{ℕ, ◌≤◌}
-use Rattle.dating_certificates.specs.ToldStarts.{KeepsStarts}
-use Rattle.dating_certificates.proofs.plan.keep_starts.Given as goal
-
-abbrev pub invariant-loop-before : goal.invariant-loop-before
-invariant-loop-before l = (k : ℕ) → 1 ≤ k → k ≤ l.before → KeepsStarts l.told k

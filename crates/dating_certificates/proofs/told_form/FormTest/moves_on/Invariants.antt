@@ -1,6 +1,0 @@
-use Rattle.std.proofs.Common.{ℕ, ◌<◌}
-use Rattle.dating_certificates.specs.ToldForms.{MovesAt}
-use Rattle.dating_certificates.proofs.told_form.FormTest.moves_on.Given as goal
-
-abbrev pub invariant-loop-number : goal.invariant-loop-number
-invariant-loop-number l = (k : ℕ) → l.self.after < k → k < l.number → MovesAt l.self k

@@ -1,6 +1,0 @@
-use Rattle.std.proofs.Common.{ℕ, ◌<◌}
-use Rattle.dating_certificates.specs.ToldForms.{StaysStill}
-use Rattle.dating_certificates.proofs.told_form.FormTest.stay_still.Given as goal
-
-abbrev pub invariant-loop-index : goal.invariant-loop-index
-invariant-loop-index l = (t : ℕ) → t < l.index → StaysStill l.self t

@@ -1,7 +1,0 @@
-use Rattle.std.proofs.Common.{ℕ, ◌<◌, ◌+◌}
-use Rattle.dioid.specs.Dates.{IsAtMostDate}
-use Rattle.dating_certificates.specs.ToldRows.{date_told}
-use Rattle.dating_certificates.proofs.told_rows.ToldRows.keeps_next.Given as goal
-
-abbrev pub invariant-loop-index : goal.invariant-loop-index
-invariant-loop-index l = (t : ℕ) → t < l.index → IsAtMostDate (date_told l.self t l.number) (date_told l.self t (l.number + 1))

@@ -1,0 +1,3 @@
+pub mod SolvedRows
+pub mod PlanRows
+pub mod ListedDues

@@ -1,0 +1,4 @@
+pub mod LatestRows
+pub mod PlanRows
+pub mod SolvedRows
+pub mod ToldStarts

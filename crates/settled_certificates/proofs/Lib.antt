@@ -1,0 +1,3 @@
+pub mod SettledWindows
+pub mod ToldForms
+pub mod ShortestRows
