@@ -1,2 +1,3 @@
 mod Lowest
 mod Climbing
+mod NamedPlaces
