@@ -25,7 +25,7 @@ use Rattle.teg_text.proofs.Words.{date_is_word, decimal_is_word}
 use Rattle.word_lines.specs.WordLines.{IsTextOf}
 use Rattle.word_lines.proofs.Lines.{passes_at, same_lines}
 use Rattle.answer_check.specs.declared.date.ShownDate.{ShownDate}
-use Rattle.answer_check.specs.DateReading.{AreFiringWords, ComparesDate, FiringWords, IsListedDate, ReadsFiring, ReadsFiringWords}
+use Rattle.answer_check.specs.DateReading.{AreFiringWords, ComparesDate, FiringWords, IsListedDate, IsSmallWord, ReadsFiring, ReadsFiringWords}
 use Rattle.answer_check.specs.ShownDates.{HasRow, IsFiringText, IsOtherDate, IsShownDate, ShowsDate, line_of_firing}
 use Rattle.answer_check.specs.ShownLists.{IsListText, IsShownList}
 use Rattle.answer_check.specs.ListReading.{IsReadList}
@@ -83,6 +83,11 @@ not_named net words none told h =
 
 pub not_numbered : (net : NetLists) (words : List (List ℕ)) → ((n : ℕ) → n < 2 ^ 32 → slice_index_or words 2 [] ≡ decimal n → ⊥) → ReadsFiringWords net words None
 not_numbered net words none told h = none told.number h.number (ap (λ (ws : List (List ℕ)). slice_index_or ws 2 []) h.are)
+
+-- ---- numbers
+
+pub some_small : (word : List ℕ) (n : ℕ) → word ≡ decimal n → n ≤ 4294967295 → IsSmallWord word n
+some_small word n told most = record { few = omega (arith, most); told = told }
 
 -- ---- the line
 
@@ -250,13 +255,20 @@ refuted_by A false other none = (λ _. other refl, λ _. refl)
 pub known_firing : (net : NetLists) (list text : List ℕ) (t : TransitionId) (k : ℕ) (word : List ℕ) → ShowsDate net list text None → (IsOtherDate net list text → ⊥) → IsFiringText net text t k word
     → HasRow net list k → ⊥
 known_firing net list text t k word none same firing row =
-    same (t, k, word, row, firing, λ x least is.
-    none (record { transition = t; number = k; date = x t.index k }) row
-    (record {
-      live = row.4.live;
-      transition = firing.transition;
-      number = row.2;
-      small = row_small net list k row;
-      least = λ y other. only_least net (listed_releases net) x y least other t.index k firing.transition row.2;
-      told = firing.told ∙ ap (λ (w : List ℕ). written (line_of_firing net t k w ∷ [])) is;
-    }))
+    same (
+      t,
+      k,
+      word,
+      row,
+      firing,
+      λ x least is.
+          none (record { transition = t; number = k; date = x t.index k }) row
+          (record {
+            live = row.4.live;
+            transition = firing.transition;
+            number = row.2;
+            small = row_small net list k row;
+            least = λ y other. only_least net (listed_releases net) x y least other t.index k firing.transition row.2;
+            told = firing.told ∙ ap (λ (w : List ℕ). written (line_of_firing net t k w ∷ [])) is;
+          }),
+    )

@@ -16,9 +16,14 @@ pub record FiringWords : Type 0 where
   pub number : ℕ
   pub word : List ℕ
 
+-- the word writes the number, which has 32 bits
+pub record IsSmallWord (word : List ℕ) (n : ℕ) : Type 0 where
+  pub few : n < 2 ^ 32
+  pub told : word ≡ decimal n
+
 -- the number of 32 bits that the word writes; none just where it writes none
 abbrev pub ReadsSmall : List ℕ → Option ℕ → Type 0
-ReadsSmall word (Some n) = (n < 2 ^ 32) × (word ≡ decimal n)
+ReadsSmall word (Some n) = IsSmallWord word n
 ReadsSmall word None = (n : ℕ) → n < 2 ^ 32 → word ≡ decimal n → ⊥
 
 -- the words are those of the firing

@@ -1,5 +1,5 @@
 //! The witness of `teg date`: the dates of all firings up to the number of the one that is told.
-ghost use Rattle.std.specs.Prelude.{◌≡◌, ◌↔◌, ◌+◌, ◌*◌, ◌<◌, ◌≤◌, IfOk, IsTrue, length, slice_index_or};
+ghost use Rattle.std.specs.Prelude.{◌≡◌, ◌↔◌, ◌+◌, ◌*◌, ◌<◌, ◌≤◌, IfOk, IsTrue, MatchOption, length, slice_index_or};
 ghost use Rattle.std.specs.Option.{option_map};
 ghost use Rattle.dioid.specs.declared.dates.Date.TheVariants.{Early};
 ghost use Rattle.answer_check.specs.DateReading.{ComparesDate, ReadsListed, TellsDate};
@@ -41,11 +41,15 @@ fn date_of(dates: &[Date], width: usize, count: u32, before: u32, index: usize) 
     dates[before as usize * width + index]
 }
 
-// Whether the number is one from 1 to the count.
-fn is_within(number: u32, count: u32) -> bool
-    ensures { IsTrue result ↔ ((1 ≤ number) × (number ≤ count)) }
+// How many numbers are before this one, where it is one from 1 to the count.
+fn row_before(number: u32, count: u32) -> Option<u32>
+    ensures { MatchOption result (1 ≤ number → number ≤ count → ⊥)
+        (λ before. (before < count) × (number ≡ before + 1)) }
 {
-    1 <= number && number <= count
+    if number < 1 || count < number {
+        return None;
+    }
+    Some(number - 1)
 }
 
 // The date that the list tells of the firing, where it is shown to be that of the least dates and has
@@ -66,9 +70,9 @@ fn listed_date(
         return Ok(None);
     };
     let (count, dates) = (told.count, told.dates.as_slice());
-    if !is_within(number, count) {
+    let Some(before) = row_before(number, count) else {
         return Ok(None);
-    }
+    };
     if !is_seen_live(alloc, net)? {
         return Ok(None);
     }
@@ -76,7 +80,7 @@ fn listed_date(
         return Ok(None);
     }
     let width = net.transitions().len();
-    Ok(Some(date_of(dates, width, count, number - 1, transition.index as usize)))
+    Ok(Some(date_of(dates, width, count, before, transition.index as usize)))
 }
 
 // Whether the word tells this date, which the least dating gives to a firing.

@@ -20,13 +20,10 @@ fn small_number(alloc: Global, word: &str) -> Result<Option<u32>, AllocError>
     ensures { IfOk result (ReadsSmall word.now) }
 {
     let mut buffer = String::new(alloc);
-    let Some(number) = number_of(&mut buffer, word)? else {
-        return Ok(None);
-    };
-    if number > 4_294_967_295 {
-        return Ok(None);
+    match number_of(&mut buffer, word)? {
+        Some(number) if number <= 4_294_967_295 => Ok(Some(number as u32)),
+        _ => Ok(None),
     }
-    Ok(Some(number as u32))
 }
 
 // Whether there are just so many lines or words.
@@ -50,8 +47,11 @@ fn firing_of<'t>(
     words: &[&'t str],
 ) -> Result<Option<FiringTold<'t>>, AllocError>
     ensures { IfOk result (λ found. ReadsFiringWords net.now (map (λ x. x.now) words.now)
-        (option_map (λ told. record { transition = told.transition; number = told.number;
-        word = told.word.now }) found)) }
+        (option_map (λ told. record {
+          transition = told.transition;
+          number = told.number;
+          word = told.word.now;
+        }) found)) }
 {
     net.rules();
     if !has(words, 4) {
@@ -80,8 +80,11 @@ pub(crate) fn firing_in<'t>(
     text: &'t str,
 ) -> Result<Option<FiringTold<'t>>, AllocError>
     ensures { IfOk result (λ found. ReadsFiring net.now text.now
-        (option_map (λ told. record { transition = told.transition; number = told.number;
-        word = told.word.now }) found)) }
+        (option_map (λ told. record {
+          transition = told.transition;
+          number = told.number;
+          word = told.word.now;
+        }) found)) }
 {
     net.rules();
     let Some(lines) = lines_of(alloc, text)? else {

@@ -13,8 +13,8 @@
 //! [`find_date`] for an audit of all answers, which waits for more proofs.
 //!
 //! It stands on `audit_calls` for calls, on `witness_check`, `pace_check` and `answer_check` for what
-//! answers show, on `teg_text` for the words of lines, on `teg_outside` for the shelf and the sink,
-//! and on `teg_net` for nets. Its examples stand in `witness_examples`.
+//! answers show, on `teg_outside` for the shelf and the sink, and on `teg_net` for nets. Its examples
+//! stand in `witness_examples`.
 #![tactic(auto)]
 
 mod alone;

@@ -173,19 +173,22 @@ pub shown_is_read : (net : NetLists) (text : List ℕ) (read : Option SizeWords)
     → (told : SizeWords) × (read ≡ Some told) × IsToldAs net text told shown
 shown_is_read net text read (Enough place target extra) ok h (asked, (circuit, tells), enough, fewest) =
     ⊎_elim
-    (λ (none : (extra ≡ 0) × (text ≡ written (enough_words net place target extra ∷ []))).
-    (record { place = place; target = target; extra = Some extra; circuit = [] },
-    h.alone place target extra asked (let zero_is = none.0 in omega (arith, zero_is)) none.1,
-    (refl, refl, refl, inl none, enough)))
-    (λ (some : (1 ≤ extra) × IsStillAbove net target place (extra - 1) circuit × (text ≡ written (enough_words net place target extra ∷ circuit_line net circuit ∷ []))).
-    (record { place = place; target = target; extra = Some extra; circuit = circuit },
-    h.enough place target extra circuit asked (extra_small net target place extra circuit ok asked.within enough some.0 some.1) (circuit_in net circuit some.1.circuit) some.2,
-    (refl, refl, refl, inr some, enough)))
+    (λ (none : (extra ≡ 0) × (text ≡ written (enough_words net place target extra ∷ []))). (
+      record { place = place; target = target; extra = Some extra; circuit = [] },
+      h.alone place target extra asked (let zero_is = none.0 in omega (arith, zero_is)) none.1,
+      (refl, refl, refl, inl none, enough),
+    ))
+    (λ (some : (1 ≤ extra) × IsStillAbove net target place (extra - 1) circuit × (text ≡ written (enough_words net place target extra ∷ circuit_line net circuit ∷ []))). (
+      record { place = place; target = target; extra = Some extra; circuit = circuit },
+      h.enough place target extra circuit asked (extra_small net target place extra circuit ok asked.within enough some.0 some.1) (circuit_in net circuit some.1.circuit) some.2,
+      (refl, refl, refl, inr some, enough),
+    ))
     tells
-shown_is_read net text read (Impossible place target) ok h (asked, (circuit, tells), none) =
-    (record { place = place; target = target; extra = None; circuit = circuit },
-    h.impossible place target circuit asked (circuit_in net circuit tells.0.circuit) tells.1,
-    (refl, refl, refl, tells))
+shown_is_read net text read (Impossible place target) ok h (asked, (circuit, tells), none) = (
+  record { place = place; target = target; extra = None; circuit = circuit },
+  h.impossible place target circuit asked (circuit_in net circuit tells.0.circuit) tells.1,
+  (refl, refl, refl, tells),
+)
 
 -- what is told with such a circuit is at most what is enough
 pub tells_fewest : (net : NetLists) (text : List ℕ) (place : PlaceId) (target : Fraction) (extra : ℕ) (circuit : List PlaceId) → TellsEnoughBy net text place target extra circuit

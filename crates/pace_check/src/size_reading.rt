@@ -49,8 +49,11 @@ fn first_of(
     place: Option<PlaceId>,
     target: Option<Ratio>,
 ) -> Option<FirstTold>
-    ensures { option_map (λ told. record { place = told.place; target = told.target;
-        extra = told.extra }) result ≡ first_of extra place target }
+    ensures { option_map (λ told. record {
+      place = told.place;
+      target = told.target;
+      extra = told.extra;
+    }) result ≡ first_of extra place target }
 {
     let Some(extra) = extra else {
         return None;
@@ -71,7 +74,10 @@ fn first_of(
 // The place, the target and the number of these words.
 fn first_in(net: &Net, words: &[&str]) -> Option<FirstTold>
     ensures { ReadsFirst net.now (map (λ x. x.now) words.now) (option_map (λ told. record {
-        place = told.place; target = told.target; extra = told.extra }) result) }
+      place = told.place;
+      target = told.target;
+      extra = told.extra;
+    }) result) }
 {
     net.rules();
     let place = net.find_place(text_at(words, 1));
@@ -91,11 +97,7 @@ fn circuit_in(alloc: Global, net: &Net, line: &str) -> Result<Option<Vec<PlaceId
 }
 
 // Those of the second of these lines; none of them where there is no second.
-fn second_in(
-    alloc: Global,
-    net: &Net,
-    lines: &[&str],
-) -> Result<Option<Vec<PlaceId>>, AllocError>
+fn second_in(alloc: Global, net: &Net, lines: &[&str]) -> Result<Option<Vec<PlaceId>>, AllocError>
     ensures { IfOk result (λ found. ReadsSecond net.now (map (λ x. x.now) lines.now)
         (option_map (λ places. places.items) found)) }
 {
@@ -108,10 +110,17 @@ fn second_in(
 
 // The two together, where each is told.
 fn size_of(first: Option<FirstTold>, places: Option<Vec<PlaceId>>) -> Option<SizeTold>
-    ensures { option_map (λ told. record { place = told.place; target = told.target;
-        extra = told.extra; circuit = told.circuit.places.items }) result
-        ≡ size_of (option_map (λ told. record { place = told.place; target = told.target;
-        extra = told.extra }) first) (option_map (λ ps. ps.items) places) }
+    ensures { option_map (λ told. record {
+      place = told.place;
+      target = told.target;
+      extra = told.extra;
+      circuit = told.circuit.places.items;
+    }) result
+        ≡ size_of (option_map (λ told. record {
+          place = told.place;
+          target = told.target;
+          extra = told.extra;
+        }) first) (option_map (λ ps. ps.items) places) }
 {
     let Some(first) = first else {
         return None;
@@ -136,8 +145,11 @@ fn size_of(first: Option<FirstTold>, places: Option<Vec<PlaceId>>) -> Option<Siz
 // net.
 pub(crate) fn size_in(alloc: Global, net: &Net, text: &str) -> Result<Option<SizeTold>, AllocError>
     ensures { IfOk result (λ found. ReadsSize net.now text.now (option_map (λ told. record {
-        place = told.place; target = told.target; extra = told.extra;
-        circuit = told.circuit.places.items }) found)) }
+      place = told.place;
+      target = told.target;
+      extra = told.extra;
+      circuit = told.circuit.places.items;
+    }) found)) }
 {
     net.rules();
     let Some(lines) = lines_of(alloc, text)? else {

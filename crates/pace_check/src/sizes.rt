@@ -4,8 +4,7 @@ ghost use Rattle.std.specs.Prelude.{◌≡◌, ◌↔◌, ◌-◌, ◌<◌, ◌�
 ghost use Rattle.teg_net.specs.Circuits.{AreInRange};
 ghost use Rattle.teg_text.specs.Lines.{line_then, written};
 ghost use Rattle.teg_text.specs.WordsOfNames.{circuit_line};
-ghost use Rattle.teg_certificates.specs.Sizes.{IsAlwaysAbove, IsStillAbove};
-ghost use Rattle.pace_check.specs.PathPotentials.{IsTarget};
+ghost use Rattle.teg_certificates.specs.Sizes.{IsStillAbove};
 ghost use Rattle.pace_check.specs.ShownSizes.{IsAskedSize, ShowsSize, TellsEnoughBy, TellsImpossibleBy, enough_words, impossible_words};
 ghost use Rattle.pace_check.specs.SizeReading.{ReadsSize, ShowsEnoughBy, ShowsImpossibleBy};
 
@@ -272,8 +271,11 @@ fn shown_told(
     requires asked { IsAskedSize net.now told.now.place told.now.target }
     requires circuit { AreInRange net.now told.now.circuit.places.items }
     requires read { ReadsSize net.now text.now (Some (record {
-        place = told.now.place; target = told.now.target; extra = told.now.extra;
-        circuit = told.now.circuit.places.items })) }
+      place = told.now.place;
+      target = told.now.target;
+      extra = told.now.extra;
+      circuit = told.now.circuit.places.items;
+    })) }
     ensures { IfOk result (ShowsSize net.now text.now) }
 {
     net.rules();

@@ -1,3 +1,3 @@
 mod Lowest
 mod Climbing
-mod NamedPlaces
+pub mod NamedPlaces

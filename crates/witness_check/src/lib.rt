@@ -31,6 +31,4 @@ pub use circuits::begins_lowest;
 pub use climbs::rising_numbers;
 pub use deadlock::shows_deadlock;
 pub use live::{is_seen_live, shows_live};
-pub use names::{
-    number_in, places_named, places_of, ratio_in, settled_in_line, words_behind,
-};
+pub use names::{number_in, places_named, places_of, ratio_in, settled_in_line, words_behind};

@@ -12,6 +12,9 @@ returns-in_default-2 c =
     let read = rw c.in-Some.is at c.in_ok-firing.ensures in
     none_compared c.args.net.now c.args.list.now c.args.text.now firing.transition firing.number firing.word.now c.rules.ensures read (rw c.in_default-2.is at c.in_ok-date.ensures)
 
+pub listed_date-requires : goal.listed_date-requires
+listed_date-requires c = let read = rw c.in-Some.is at c.in_ok-firing.ensures in read.1.transition
+
 pub returns : goal.returns
 returns c =
     let firing = c.in-Some.firing in

@@ -5,6 +5,7 @@ use Rattle.std.specs.Option.{IsSomeAnd}
 use Rattle.std.proofs.lemmas.Bool.{iff_false}
 use Rattle.std.proofs.lemmas.List.{length-map}
 use Rattle.teg_net.specs.declared.entries.Transition.{Transition}
+use Rattle.answer_check.specs.DateReading.{IsSmallWord}
 use Rattle.answer_check.proofs.Firings.{not_first, not_four, not_named, not_numbered, words_are}
 use Rattle.answer_check.proofs.firing_reading.firing_of.Goals as goal
 
@@ -37,8 +38,8 @@ returns c =
     let words : List (List ℕ) = map (λ x. x.now) c.args.words.now in
     let t = c.in-Some.transition in
     let long : length words ≡ length c.args.words.now = length-map c.args.words.now (λ (x : Bor (List ℕ)). x.now) in
-    let number = rw c.in-Some-2.is at c.in_ok-number.ensures in
+    let number : IsSmallWord c.text_at-3.result.now c.in-Some-2.number = rw c.in-Some-2.is at c.in_ok-number.ensures in
     let named : IsSomeAnd (slice_get net.transitions t.index) (λ (x : Transition). x.name ≡ slice_index_or words 1 []) =
     subst (λ (w : List ℕ). IsSomeAnd (slice_get net.transitions t.index) (λ (x : Transition). x.name ≡ w)) c.text_at-2.ensures c.in-Some.ensures.found in
     rw c.text_at-4.ensures
-    (words_are net words t c.in-Some-2.number (long ∙ c.has.ensures.0 (search rules)) (sym c.text_at.ensures ∙ c.is_date.ensures.0 (search rules)) named number.0 (sym c.text_at-3.ensures ∙ number.1))
+    (words_are net words t c.in-Some-2.number (long ∙ c.has.ensures.0 (search rules)) (sym c.text_at.ensures ∙ c.is_date.ensures.0 (search rules)) named number.few (sym c.text_at-3.ensures ∙ number.told))

@@ -9,4 +9,4 @@ returns c =
     let net = c.args.net.now in
     let circuit = c.args.circuit.now.places.items in
     let above : IsAlwaysAbove net c.args.target c.args.place circuit = search rules in
-    (c.requires.asked, (circuit, above, c.in_ok-tells_impossible.ensures.0 (search rules)), always_above net c.args.target c.args.place circuit above)
+    (c.requires.asked, (circuit, (above, c.in_ok-tells_impossible.ensures.0 (search rules))), always_above net c.args.target c.args.place circuit above)
