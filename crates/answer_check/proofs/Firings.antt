@@ -1,8 +1,8 @@
 -- The line of one date is read whole, and what it tells is compared with a list.
-use Rattle.std.proofs.Common.{ℕ, ◌+◌, ◌<◌, ◌≤◌, ◌≡◌, ◌≢◌, ◌^◌, ◌↔◌, Bool, true, false, not, IsTrue, Option, Some, None, IfSome, List, [], ◌∷◌, length, map, get_or, slice_index_or, refl, sym, ap, subst, ◌∙◌, arith, codes}
+use Rattle.std.proofs.Common.{ℕ, ◌<◌, ◌≤◌, ◌≡◌, ◌≢◌, ◌^◌, ◌↔◌, Bool, true, false, not, IsTrue, Option, Some, None, List, [], ◌∷◌, length, map, get_or, slice_index_or, refl, sym, ap, subst, ◌∙◌, arith, codes}
 use Rattle.std.specs.Prelude.{All}
 use Rattle.std.specs.Fmt.{decimal}
-use Rattle.std.specs.List.{list_all, slice_get}
+use Rattle.std.specs.List.{slice_get}
 use Rattle.std.specs.Option.{IsSomeAnd}
 use Rattle.std.proofs.lemmas.Bool.{and_parts, false≢true, iff_false}
 use Rattle.std.proofs.lemmas.List.{get_or-map, length-map}
@@ -27,7 +27,7 @@ use Rattle.word_lines.proofs.Lines.{passes_at, same_lines}
 use Rattle.answer_check.specs.declared.date.ShownDate.{ShownDate}
 use Rattle.answer_check.specs.DateReading.{AreFiringWords, ComparesDate, FiringWords, IsListedDate, IsSmallWord, ReadsFiring, ReadsFiringWords}
 use Rattle.answer_check.specs.ShownDates.{HasRow, IsFiringText, IsOtherDate, IsShownDate, ShowsDate, line_of_firing}
-use Rattle.answer_check.specs.ShownLists.{IsListText, IsShownList}
+use Rattle.answer_check.specs.ShownLists.{IsListText}
 use Rattle.answer_check.specs.ListReading.{IsReadList}
 use Rattle.answer_check.proofs.ListLines.{list_is_text, same_words}
 use Rattle.answer_check.proofs.ListedRows.{least_date}
@@ -95,7 +95,7 @@ firing_is_line : (net : NetLists) (t : TransitionId) (k : ℕ) (word : List ℕ)
 firing_is_line net t k word ok l h = rw (transition_is_word net t ok l, decimal_is_word k, h) refl
 
 pub firing_is_text : (net : NetLists) (text : List ℕ) (t : TransitionId) (k : ℕ) (word : List ℕ) → IsNet net → IsFiringText net text t k word → IsTextOf text (line_of_firing net t k word ∷ [])
-firing_is_text net text t k word ok h = record { are = firing_is_line net t k word ok h.transition h.word; told = h.told }
+firing_is_text net text t k word ok h = record { are = firing_is_line net t k word ok h.transition h.plain; told = h.told }
 
 one_read : (text : List ℕ) (lines : List (List ℕ)) (line : List (List ℕ)) → IsTextOf text (map phrase lines) → IsTextOf text (line ∷ []) → (length lines ≡ 1) × (phrase (slice_index_or lines 0 []) ≡ line)
 one_read text lines line read told =
@@ -118,13 +118,13 @@ last_is_word net t k word h = passes_at is_word (line_of_firing net t k word) 3 
 -- what is read of the words of the one line is read of the text
 pub firing_read : (net : NetLists) (text : List ℕ) (lines : List (List ℕ)) (found : Option FiringWords) → IsNet net → IsTextOf text (map phrase lines) → length lines ≡ 1
     → ReadsFiringWords net (phrase (slice_index_or lines 0 [])) found → ReadsFiring net text found
-firing_read net text lines None ok read one none t k word small h =
-    none (record { transition = t; number = k; word = word })
+firing_read net text lines None ok read one none =
+    λ t k word small h. none (record { transition = t; number = k; word = word })
     (record { transition = h.transition; number = small; are = (one_read text lines (line_of_firing net t k word) read (firing_is_text net text t k word ok h)).1 })
 firing_read net text lines (Some told) ok read one h =
     let same : map phrase lines ≡ line_of_firing net told.transition told.number told.word ∷ [] = one_line lines one ∙ ap (λ (l : List (List ℕ)). l ∷ []) h.are in
     let whole : IsTextOf text (line_of_firing net told.transition told.number told.word ∷ []) = subst (IsTextOf text) same read in
-    (h.number, record { transition = h.transition; word = last_is_word net told.transition told.number told.word whole.are; told = whole.told })
+    (h.number, record { transition = h.transition; plain = last_is_word net told.transition told.number told.word whole.are; told = whole.told })
 
 -- one text tells one firing, and one word
 pub one_firing : (net : NetLists) (text : List ℕ) (t s : TransitionId) (j k : ℕ) (word other : List ℕ) → IsNet net → j < 2 ^ 32 → k < 2 ^ 32 → IsFiringText net text t j word → IsFiringText net text s k other
@@ -142,7 +142,7 @@ one_firing net text t s j k word other ok small low one two =
 
 -- what is shown is the text of a firing
 pub shown_is_firing : (net : NetLists) (text : List ℕ) (shown : ShownDate) → IsShownDate net text shown → IsFiringText net text shown.transition shown.number (date_word shown.date)
-shown_is_firing net text shown h = record { transition = h.transition; word = date_is_word shown.date; told = h.told }
+shown_is_firing net text shown h = record { transition = h.transition; plain = date_is_word shown.date; told = h.told }
 
 row_small : (net : NetLists) (list : List ℕ) (k : ℕ) → HasRow net list k → k < 2 ^ 32
 row_small net list k row = let few = row.1 in let within = row.3 in omega (arith, few, within)

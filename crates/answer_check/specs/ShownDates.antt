@@ -41,7 +41,7 @@ ShowsDate net list text None = (shown : ShownDate) → HasRow net list shown.num
 -- the whole text is the line of a firing of some transition of the net, with some word for its date
 pub record IsFiringText (net : NetLists) (text : List ℕ) (t : TransitionId) (k : ℕ) (word : List ℕ) : Type 0 where
   pub transition : t.index < length net.transitions
-  pub word : is_word word ≡ true
+  pub plain : is_word word ≡ true
   pub told : text ≡ written (line_of_firing net t k word ∷ [])
 
 -- the text tells, of a firing that the list has, another date than the least dating gives to it

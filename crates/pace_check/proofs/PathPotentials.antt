@@ -1,14 +1,14 @@
 -- Potentials of paths with ever more places: where a number of further tokens is enough, those of paths with as many places as there are
 -- transitions show it.
-use Rattle.std.proofs.Common.{ℕ, zero, suc, ◌+◌, ◌-◌, ◌*◌, ◌<◌, ◌≤◌, ◌≡◌, ◌≢◌, ◌⊎◌, inl, inr, List, [], ◌∷◌, true, false, eqb, length, get_or, set, replicate, refl, sym, ap, subst, ◌∙◌, ◌^◌, arith, ⊎_elim}
+use Rattle.std.proofs.Common.{ℕ, zero, suc, ◌+◌, ◌-◌, ◌*◌, ◌<◌, ◌≤◌, ◌≡◌, ◌≢◌, ◌⊎◌, inl, inr, List, [], ◌∷◌, true, eqb, length, get_or, set, replicate, refl, sym, ap, subst, ◌∙◌, ◌^◌, arith, ⊎_elim}
 use Rattle.std.specs.Prelude.{ℤ, pos, ◌+ℤ◌, ◌-ℤ◌, ◌≤ℤ◌, All, Contains, sum_by}
 use Rattle.std.proofs.Math.Nat.{mul-le-mul_left, mul-le-mul_right}
 use Rattle.std.proofs.lemmas.Int.{ints}
-use Rattle.std.proofs.lemmas.Bool.{cases_lt, cases_eq, eq-eqb}
+use Rattle.std.proofs.lemmas.Bool.{cases_eq, eq-eqb}
 use Rattle.std.proofs.lemmas.List.{length-set, get_or-set_same, get_or-set_other, get_or_default, get_or-replicate, length-replicate}
 use Rattle.std.proofs.lemmas.List.Sums.{sum_by-cons}
 use Rattle.teg_net.specs.declared.entries.PlaceId.{PlaceId}
-use Rattle.teg_net.specs.Circuits.{IsCircuit, IsPathBetween, from_of, no_place, place_at, time_of, tokens_of}
+use Rattle.teg_net.specs.Circuits.{from_of, no_place, place_at, time_of, tokens_of}
 use Rattle.teg_net.specs.Limits.{greatest_checked_potential, greatest_circuit_time, greatest_hold}
 use Rattle.teg_net.specs.Nets.{IsNet, IsPlaceOf, NetLists}
 use Rattle.teg_net.specs.Parts.{to_of}
@@ -18,7 +18,7 @@ use Rattle.teg_net.proofs.Reading.{same_id}
 use Rattle.teg_certificates.specs.Sizes.{AreTargetPotentials, IsEnough, IsStillAbove, LiftsNone, extra_at}
 use Rattle.teg_certificates.proofs.Short.{circuit_sums}
 use Rattle.teg_loops.specs.Loops.{EndsBelow, IsStraight}
-use Rattle.teg_loops.specs.Shortening.{NoCircuitGains, WeighsAtMost}
+use Rattle.teg_loops.specs.Shortening.{NoCircuitGains}
 use Rattle.teg_loops.proofs.Splitting.{shorten}
 use Rattle.teg_loops.proofs.Straight.{straight_short}
 use Rattle.teg_loops.proofs.Taking.{sum_most}

@@ -1,7 +1,6 @@
 -- Texts of numbers of tokens are read whole.
-use Rattle.std.proofs.Common.{ℕ, ◌+◌, ◌-◌, ◌<◌, ◌≤◌, ◌≡◌, ◌^◌, ◌⊎◌, inl, inr, true, Option, Some, None, IfSome, List, [], ◌∷◌, length, map, get_or, slice_index_or, drop, refl, sym, ap, subst, ◌∙◌, arith, ⊎_elim}
+use Rattle.std.proofs.Common.{ℕ, ◌-◌, ◌<◌, ◌≤◌, ◌≡◌, ◌^◌, ◌⊎◌, inl, inr, true, Option, Some, None, IfSome, List, [], ◌∷◌, length, map, get_or, slice_index_or, drop, refl, sym, ap, subst, ◌∙◌, arith, ⊎_elim}
 use Rattle.std.specs.Fmt.{decimal}
-use Rattle.std.proofs.lemmas.Bool.{cases_lt}
 use Rattle.std.proofs.lemmas.List.{get_or-map, length-map}
 use Rattle.teg_net.specs.declared.entries.PlaceId.{PlaceId}
 use Rattle.teg_net.specs.Circuits.{AreInRange, IsCircuit}
@@ -15,7 +14,7 @@ use Rattle.teg_text.proofs.NamesRead.{circuits, place_is_word}
 use Rattle.teg_text.proofs.Words.{decimal_is_word}
 use Rattle.teg_certificates.specs.Sizes.{IsEnough, IsStillAbove}
 use Rattle.teg_certificates.proofs.FurtherTokens.{still_above}
-use Rattle.witness_check.specs.NamedPlaces.{AreNamed, NamesEach, ReadsRatio}
+use Rattle.witness_check.specs.NamedPlaces.{NamesEach, ReadsRatio}
 use Rattle.witness_check.proofs.NamedPlaces.{same_named}
 use Rattle.word_lines.specs.WordLines.{IsTextOf}
 use Rattle.word_lines.proofs.Lines.{same_lines}

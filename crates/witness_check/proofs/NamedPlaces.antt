@@ -1,5 +1,5 @@
 -- Names behind blanks are read back, and so is the word of a ratio.
-use Rattle.std.proofs.Common.{ℕ, zero, suc, ◌+◌, ◌<◌, ◌≤◌, ◌≡◌, ◌≢◌, ◌==◌, ◌↔◌, nat_le, Bool, true, false, not, Option, Some, None, IfSome, List, [], ◌∷◌, ◌++◌, length, map, take, drop, get_or, refl, sym, ap, ◌∙◌, arith, leb-true, ne_eqb, decimal, codes}
+use Rattle.std.proofs.Common.{ℕ, zero, suc, ◌+◌, ◌<◌, ◌≤◌, ◌≡◌, ◌≢◌, ◌==◌, ◌↔◌, nat_le, true, false, not, Option, Some, None, IfSome, List, [], ◌∷◌, ◌++◌, length, map, take, drop, get_or, refl, sym, ap, ◌∙◌, arith, leb-true, ne_eqb, decimal, codes}
 use Rattle.std.specs.Prelude.{All}
 use Rattle.std.specs.List.{list_all, position_or_len, before_first, after_first, slice_get}
 use Rattle.std.specs.Option.{IsSomeAnd}

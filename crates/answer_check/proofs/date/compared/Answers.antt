@@ -1,5 +1,4 @@
-use Rattle.std.proofs.Common.{rules, ◌≡◌}
-use Rattle.answer_check.specs.DateReading.{IsListedDate, ReadsFiring}
+use Rattle.answer_check.specs.DateReading.{IsListedDate}
 use Rattle.answer_check.proofs.Firings.{no_firing_compared, none_compared}
 use Rattle.answer_check.proofs.date.compared.Goals as goal
 

@@ -1,4 +1,4 @@
-use Rattle.std.proofs.Common.{rules, ℕ, ◌≡◌, ◌+◌, ◌-◌, ◌*◌, ◌<◌, ◌≤◌, length, get_or, ap, ◌∙◌, arith}
+use Rattle.std.proofs.Common.{rules, ℕ, ◌≡◌, ◌+◌, ◌-◌, ◌*◌, length, get_or, ap, ◌∙◌, arith}
 use Rattle.dioid.specs.declared.dates.Date.TheVariants.{Early}
 use Rattle.std.proofs.lemmas.Bool.{iff_false}
 use Rattle.dating_certificates.specs.CheckedRows.{AreFirstRows, date_in_rows}

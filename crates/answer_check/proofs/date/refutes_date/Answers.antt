@@ -1,4 +1,4 @@
-use Rattle.std.proofs.Common.{rules, ◌≡◌, Some, None}
+use Rattle.std.proofs.Common.{Some, None}
 use Rattle.std.proofs.lemmas.Bool.{false≢true}
 use Rattle.answer_check.specs.DateReading.{ComparesDate}
 use Rattle.answer_check.specs.ShownDates.{IsOtherDate}

@@ -1,4 +1,4 @@
-use Rattle.std.proofs.Common.{rules, ◌≡◌, Some}
+use Rattle.std.proofs.Common.{rules, Some}
 use Rattle.answer_check.specs.DateReading.{ComparesDate}
 use Rattle.answer_check.proofs.Firings.{none_not_shown, other_not_shown, told_is_shown}
 use Rattle.answer_check.proofs.date.shown_date.Goals as goal

@@ -1,4 +1,4 @@
-use Rattle.std.proofs.Common.{rules, Bor, ◌≡◌, List, ℕ, [], length, map, slice_index_or, ap, sym, subst, ◌∙◌}
+use Rattle.std.proofs.Common.{rules, Bor, ◌≡◌, List, ℕ, [], length, map, slice_index_or, ap, sym, ◌∙◌}
 use Rattle.std.proofs.lemmas.Bool.{iff_false}
 use Rattle.std.proofs.lemmas.List.{length-map}
 use Rattle.teg_text.specs.Lines.{phrase}

@@ -1,4 +1,4 @@
-use Rattle.std.proofs.Common.{rules, Bor, ◌≡◌, ◌≢◌, ◌<◌, ◌^◌, List, ℕ, [], length, map, slice_index_or, refl, sym, subst, ◌∙◌}
+use Rattle.std.proofs.Common.{rules, Bor, ◌≡◌, ◌≢◌, List, ℕ, [], length, map, slice_index_or, refl, sym, subst, ◌∙◌}
 use Rattle.std.specs.Prelude.{All}
 use Rattle.std.specs.List.{slice_get}
 use Rattle.std.specs.Option.{IsSomeAnd}

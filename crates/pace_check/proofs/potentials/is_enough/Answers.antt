@@ -1,7 +1,5 @@
 use Rattle.std.proofs.Common.{rules, ℕ, ◌≡◌, length, replicate, ap, subst, ◌∙◌, arith}
 use Rattle.std.specs.Prelude.{pos}
-use Rattle.std.proofs.lemmas.Bool.{iff_false}
-use Rattle.teg_net.proofs.Reading.{written_back}
 use Rattle.pace_check.specs.PathPotentials.{ArePathPotentials}
 use Rattle.pace_check.proofs.PathPotentials.{enough_is_shown, potentials_begin}
 use Rattle.pace_check.proofs.potentials.is_enough.Goals as goal

@@ -1,10 +1,7 @@
-use Rattle.std.proofs.Common.{rules, ◌≡◌, ◌≤◌, ◌<◌, ◌⊎◌, length, ap, arith, true, false}
-use Rattle.std.specs.Prelude.{All}
+use Rattle.std.proofs.Common.{rules, ◌≡◌, ◌≤◌, ◌<◌, ◌⊎◌, length, ap, arith}
 use Rattle.teg_net.specs.declared.entries.PlaceId.{PlaceId}
 use Rattle.teg_net.specs.Circuits.{place_at, no_place}
-use Rattle.teg_net.specs.Limits.{greatest_checked_potential}
 use Rattle.teg_net.specs.Nets.{IsPlaceOf}
-use Rattle.teg_net.specs.ReducedTimes.{IsMagnitudeWithin}
 use Rattle.teg_net.proofs.Reading.{read_place}
 use Rattle.teg_certificates.specs.Sizes.{extra_at}
 use Rattle.pace_check.specs.PathPotentials.{IsLowEnough, IsLowered, IsPastLimit}

@@ -1,4 +1,4 @@
-use Rattle.std.proofs.Common.{Bor, ◌≡◌, List, ℕ, [], length, map, slice_index_or, sym, subst, ◌∙◌}
+use Rattle.std.proofs.Common.{Bor, ◌≡◌, List, ℕ, length, map, sym, subst, ◌∙◌}
 use Rattle.std.proofs.lemmas.List.{length-map}
 use Rattle.witness_check.specs.NamedPlaces.{ReadsRatio}
 use Rattle.witness_check.proofs.NamedPlaces.{place_found}

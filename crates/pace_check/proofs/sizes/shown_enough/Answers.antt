@@ -1,5 +1,4 @@
-use Rattle.std.proofs.Common.{rules, ◌≡◌, refl}
-use Rattle.std.proofs.lemmas.Bool.{iff_false}
+use Rattle.std.proofs.Common.{rules}
 use Rattle.teg_certificates.specs.Sizes.{IsEnough}
 use Rattle.pace_check.specs.ShownSizes.{TellsEnoughBy}
 use Rattle.pace_check.proofs.SizeTexts.{tells_fewest}

@@ -1,5 +1,4 @@
-use Rattle.std.proofs.Common.{rules, ◌≡◌, refl}
-use Rattle.std.proofs.lemmas.Bool.{iff_false}
+use Rattle.std.proofs.Common.{rules}
 use Rattle.teg_certificates.specs.Sizes.{IsAlwaysAbove}
 use Rattle.teg_certificates.proofs.FurtherTokens.{always_above}
 use Rattle.pace_check.proofs.sizes.shown_impossible.Goals as goal

@@ -1,4 +1,4 @@
-use Rattle.std.proofs.Common.{rules, ◌≡◌, Some, None}
+use Rattle.std.proofs.Common.{Some}
 use Rattle.std.proofs.lemmas.Bool.{iff_false}
 use Rattle.pace_check.specs.SizeReading.{ReadsSize, SizeWords}
 use Rattle.pace_check.proofs.SizeTexts.{not_asked, nothing_shown}

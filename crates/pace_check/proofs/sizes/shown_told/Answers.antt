@@ -1,4 +1,3 @@
-use Rattle.std.proofs.Common.{rules, ◌≡◌, Some, None}
 use Rattle.pace_check.specs.SizeReading.{SizeWords}
 use Rattle.pace_check.proofs.SizeTexts.{enough_only, impossible_only}
 use Rattle.pace_check.proofs.sizes.shown_told.Goals as goal

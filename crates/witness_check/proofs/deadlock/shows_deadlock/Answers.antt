@@ -1,9 +1,6 @@
-use Rattle.std.proofs.Common.{rules, ◌≡◌, ◌++◌, ◌∷◌, [], List, ℕ, codes, lit<, sym, subst, ◌∙◌, ap}
-use Rattle.std.specs.List.{flat_map}
+use Rattle.std.proofs.Common.{rules, ◌≡◌, ◌++◌, ◌∷◌, [], codes, lit<, sym, ◌∙◌}
 use Rattle.std.proofs.lemmas.Bool.{false≢true}
 use Rattle.std.proofs.lemmas.Str.Pattern.{strip_suffix_char}
-use Rattle.teg_net.specs.declared.entries.PlaceId.{PlaceId}
-use Rattle.teg_net.specs.Circuits.{IsCircuit, tokens_of}
 use Rattle.witness_check.specs.NamedPlaces.{AreNamedBy, names_behind_blanks}
 use Rattle.witness_check.proofs.NamedPlaces.{deadlock_named, deadlock_told, one_named}
 use Rattle.witness_check.proofs.deadlock.shows_deadlock.Goals as goal

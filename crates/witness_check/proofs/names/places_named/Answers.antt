@@ -1,7 +1,6 @@
-use Rattle.std.proofs.Common.{Bor, ◌≡◌, ◌==◌, ◌∷◌, [], List, ℕ, false, length, map, drop, get_or, sym, ap, ◌∙◌, rules}
+use Rattle.std.proofs.Common.{Bor, ◌≡◌, ◌==◌, [], List, ℕ, false, length, map, drop, get_or, sym, ap, ◌∙◌, rules}
 use Rattle.std.proofs.lemmas.Bool.{eqb-false}
 use Rattle.teg_text.specs.Lines.{phrase}
-use Rattle.witness_check.specs.NamedPlaces.{NamesEach}
 use Rattle.witness_check.proofs.NamedPlaces.{empty_first, none_long, named_of_each, words_of_names}
 use Rattle.witness_check.proofs.names.places_named.Goals as goal
 

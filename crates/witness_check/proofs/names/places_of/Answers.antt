@@ -1,5 +1,5 @@
-use Rattle.std.proofs.Common.{Bor, ◌≡◌, ◌+◌, ◌<◌, ◌++◌, ◌∷◌, [], List, ℕ, length, map, take, refl, sym, subst, ◌∙◌, arith}
-use Rattle.std.proofs.lemmas.List.{length-map, take_all}
+use Rattle.std.proofs.Common.{Bor, ◌+◌, ◌<◌, ◌++◌, ◌∷◌, [], List, ℕ, length, map, take, refl, sym, subst, arith}
+use Rattle.std.proofs.lemmas.List.{length-map}
 use Rattle.witness_check.specs.NamedPlaces.{AreNamed}
 use Rattle.witness_check.proofs.NamedPlaces.{named_more, none_named}
 use Rattle.witness_check.proofs.names.places_of.Goals as goal

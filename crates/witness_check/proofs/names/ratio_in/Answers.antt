@@ -1,4 +1,4 @@
-use Rattle.std.proofs.Common.{rules, ◌≡◌, lit<, arith, ◌∙◌, sym}
+use Rattle.std.proofs.Common.{lit<, arith, ◌∙◌}
 use Rattle.std.proofs.lemmas.Str.Pattern.{split_once_first}
 use Rattle.witness_check.proofs.NamedPlaces.{ratio_parts}
 use Rattle.witness_check.proofs.names.ratio_in.Goals as goal

@@ -1,5 +1,4 @@
-use Rattle.std.proofs.Common.{rules, ◌≡◌, Some, ap, arith, subst}
-use Rattle.teg_net.specs.Ratios.{IsRatioOf}
+use Rattle.std.proofs.Common.{◌≡◌, Some, ap, arith}
 use Rattle.witness_check.proofs.NamedPlaces.{own_ratio}
 use Rattle.witness_check.proofs.names.ratio_of.Goals as goal
 
