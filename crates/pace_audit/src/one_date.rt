@@ -1,5 +1,5 @@
 //! What is found of one date, by a list of dates.
-ghost use Rattle.std.specs.Prelude.{IfOk, None};
+ghost use Rattle.std.specs.Prelude.{IfOk, None, string_bytes};
 ghost use Rattle.answer_check.specs.ShownDates.{ShowsDate};
 ghost use Rattle.audit_calls.specs.AuditFiles.{SaysText, most_answer_bytes};
 ghost use Rattle.audit_calls.specs.AnswerAudits.{FindsByFile};
@@ -48,7 +48,7 @@ fn date_by_file<S: Shelf>(
     text: &str,
     shelf: &mut S,
 ) -> Result<Option<Finding>, OutOfMemory>
-    ensures { IfOk result (FindsByFile SaysText (λ list. IsDateFound net.now list text.now)
+    ensures { IfOk result (FindsByFile SaysText (λ list. IsDateFound net.now (string_bytes list) text.now)
         name.now most_answer_bytes (S.state shelf.old) (S.state shelf.new)) }
 {
     let Some(list) = open_text(alloc, name, shelf)? else {
