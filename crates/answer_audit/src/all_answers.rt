@@ -55,11 +55,13 @@ impl Auditor for AllAnswers {
 /// What it promises is `AuditsWords` (`specs/Audits.antt`): `shown` is written of an answer only
 /// where its text is what that kind of answer says of the net that its file says (`IsShownAlone` of
 /// `pace_audit`, `IsShownSearched` and its like in `specs/AnswerFindings.antt`), and `refuted` only
-/// where the net is live and it is not (`IsFound` of `pace_audit`). Of a list and of a table it says
+/// where it is not (`IsFound` of `pace_audit`). Of a list and of a table it says
 /// more (`IsListFound` of `pace_audit`, `IsPlanFound`): the line that is told is the first that is
 /// wrong, and in a live net neither is written of a list only where the text is none, of a table only
 /// where it is none, where the rows are no due list, or where its dates are all right and there is a
-/// plan.
+/// plan. Of `check`, of no circuit, of a size in a live net, and of a date whose list is shown and has
+/// its firing, one of both is always written (`IsDecided`, `IsDecidedWhereLive`, `IsDateFound` of
+/// `pace_audit`).
 pub fn audit<S: Shelf, W: Sink>(
     alloc: Global,
     words: &[String],

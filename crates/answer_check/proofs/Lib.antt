@@ -6,4 +6,5 @@ pub mod ReadRows
 pub mod OtherRows
 pub mod RowDates
 pub mod Told
+pub mod Firings
 pub mod Paces

@@ -3,3 +3,4 @@ pub mod ListReading
 pub mod NoCircuits
 pub mod ShownSlacks
 pub mod ShownDates
+pub mod DateReading

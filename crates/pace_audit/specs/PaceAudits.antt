@@ -1,5 +1,5 @@
 -- What is found of the answers that are asked first, by the files that their question names, and whole calls of them.
-use Rattle.std.specs.Prelude.{ℕ, ◌≡◌, List, Option, Some, None, String}
+use Rattle.std.specs.Prelude.{ℕ, ◌≡◌, List, Option, Some, None, String, string_bytes}
 use Rattle.std.specs.Global.{Global}
 use Rattle.teg_net.specs.Nets.{NetLists}
 use Rattle.teg_outside.specs.Shelves.{ShelfState}
@@ -14,7 +14,7 @@ use Rattle.audit_calls.specs.declared.kinds.Kind.TheVariants.{OfNet, OneDate}
 use Rattle.audit_calls.specs.declared.question.Beside.{Beside}
 use Rattle.audit_calls.specs.declared.question.Beside.TheVariants.{File}
 use Rattle.audit_calls.specs.declared.status.AuditStatus.{AuditStatus}
-use Rattle.pace_audit.specs.PaceFindings.{IsFound, IsFoundAlone, IsShownDateOf}
+use Rattle.pace_audit.specs.PaceFindings.{IsDateFound, IsFoundAlone}
 
 -- no file is read, and this is found on the net alone
 abbrev pub FindsAlone : NetLists → Alone → List ℕ → ShelfState → ShelfState → Option Finding → Type 0
@@ -23,7 +23,7 @@ FindsAlone net kind text old new (Some finding) = (new ≡ old) × IsFoundAlone 
 
 -- what is found of one date, by a list of dates
 abbrev pub FindsDate : NetLists → Beside → List ℕ → ShelfState → ShelfState → Option Finding → Type 0
-FindsDate net (File name) text old new found = FindsByFile SaysText (λ list. IsFound net (IsShownDateOf net text)) name most_answer_bytes old new found
+FindsDate net (File name) text old new found = FindsByFile SaysText (λ list. IsDateFound net (string_bytes list) text) name most_answer_bytes old new found
 FindsDate net beside text old new found = FindsNoChecker old new found
 
 -- what is found of an answer of this kind: of those on the net alone, but for rounds, forms and bounds, and of one date

@@ -1,5 +1,6 @@
 -- What is found of an answer on the net alone, and when it is so.
 use Rattle.std.specs.Prelude.{ℕ, ◌+◌, ◌≡◌, ⊤, List}
+use Rattle.teg_net.specs.declared.entries.TransitionId.{TransitionId}
 use Rattle.teg_net.specs.Nets.{NetLists}
 use Rattle.teg_net.specs.Circuits.{IsLive}
 use Rattle.teg_net.specs.Ratios.{Fraction}
@@ -8,7 +9,7 @@ use Rattle.pace_check.specs.ShownCycles.{IsShownPace}
 use Rattle.pace_check.specs.ShownSizes.{IsShownSize}
 use Rattle.pace_check.specs.declared.sizes.ShownSize.{ShownSize}
 use Rattle.answer_check.specs.NoCircuits.{IsShownNoCircuit}
-use Rattle.answer_check.specs.ShownDates.{IsShownDate}
+use Rattle.answer_check.specs.ShownDates.{HasRow, IsFiringText, IsShownDate}
 use Rattle.answer_check.specs.ShownLists.{IsListText, IsRefutedList, IsShownList}
 use Rattle.answer_check.specs.ShownSlacks.{IsShownSlack}
 use Rattle.answer_check.specs.declared.date.ShownDate.{ShownDate}
@@ -48,7 +49,36 @@ IsListFound net text (WrongLine line) = (row : ℕ) × (line ≡ row + 1) × IsR
 IsListFound net text NotShown = IsLive net → (count : ℕ) (words : ℕ → ℕ → List ℕ) → IsListText net text count words → ⊥
 IsListFound net text NoChecker = ⊥
 
+-- what is found of an answer of which it is known in each net whether it is so
+abbrev pub IsDecided : Type 0 → Finding → Type 0
+IsDecided says Shown = says
+IsDecided says Refuted = says → ⊥
+IsDecided says (WrongLine line) = ⊥
+IsDecided says NotShown = ⊥
+IsDecided says NoChecker = ⊥
+
+-- what is found of one of which it is known in each live net whether it is so: neither is found only where the net is not live
+abbrev pub IsDecidedWhereLive : NetLists → Type 0 → Finding → Type 0
+IsDecidedWhereLive net says Shown = says
+IsDecidedWhereLive net says Refuted = IsLive net × (says → ⊥)
+IsDecidedWhereLive net says (WrongLine line) = ⊥
+IsDecidedWhereLive net says NotShown = IsLive net → ⊥
+IsDecidedWhereLive net says NoChecker = ⊥
+
+-- what is found of one date by a list: it is shown only where it is so, refuted only where the net is live and it is not, and neither is found
+-- only where the list is not shown to be that of the least dates, or the text is not the line of a firing that it has
+abbrev pub IsDateFound : NetLists → List ℕ → List ℕ → Finding → Type 0
+IsDateFound net list text Shown = IsShownDateOf net text
+IsDateFound net list text Refuted = IsLive net × (IsShownDateOf net text → ⊥)
+IsDateFound net list text (WrongLine line) = ⊥
+IsDateFound net list text NotShown = (t : TransitionId) (k : ℕ) (word : List ℕ) → IsFiringText net text t k word → HasRow net list k → ⊥
+IsDateFound net list text NoChecker = ⊥
+
 -- what is found of an answer of this kind, on the net alone
 abbrev pub IsFoundAlone : NetLists → Alone → List ℕ → Finding → Type 0
+IsFoundAlone net Live text finding = IsDecided (IsShownAlone net Live text) finding
+IsFoundAlone net Deadlock text finding = IsDecided (IsShownAlone net Deadlock text) finding
 IsFoundAlone net Listed text finding = IsListFound net text finding
+IsFoundAlone net NoCircuit text finding = IsDecided (IsShownAlone net NoCircuit text) finding
+IsFoundAlone net Size text finding = IsDecidedWhereLive net (IsShownAlone net Size text) finding
 IsFoundAlone net kind text finding = IsFound net (IsShownAlone net kind text) finding

@@ -1,57 +1,35 @@
 //! What is found of an answer that is shown on the net alone: a function for each kind.
-ghost use Rattle.std.specs.Prelude.{ℕ, ◌≡◌, ◌<◌, ◌^◌, IfOk, length, string_bytes};
+ghost use Rattle.std.specs.Prelude.{ℕ, ◌<◌, ◌^◌, IfOk};
 ghost use Rattle.teg_net.specs.Circuits.{IsLive};
-ghost use Rattle.teg_text.specs.Lines.{written};
-ghost use Rattle.witness_check.specs.Liveness.{live_words};
 ghost use Rattle.answer_check.specs.ShownLists.{IsShownList};
-ghost use Rattle.pace_audit.specs.PaceFindings.{IsFound, IsFoundAlone, IsListFound, IsShownAlone};
+ghost use Rattle.pace_audit.specs.PaceFindings.{IsDecided, IsDecidedWhereLive, IsFound, IsFoundAlone, IsListFound, IsShownAlone};
 
 use answer_check::{refutes_list, shown_list, shown_no_circuit, shown_slack};
 use audit_calls::{Alone, Finding};
 use pace_check::{shown_pace, shown_size};
-use std::alloc::{AllocError, Global};
+use std::alloc::Global;
 use teg_net::{Net, OutOfMemory};
-use witness_check::{is_seen_live, shows_deadlock};
-
-// What `check` tells of a live net.
-fn live_text(alloc: Global, net: &Net) -> Result<String, AllocError>
-    ensures { IfOk result (λ text. string_bytes text
-        ≡ written (live_words (length net.now.transitions) (length net.now.places))) }
-{
-    let transitions = net.transitions().len();
-    let places = net.places().len();
-    format!(in alloc; "live\ntransitions {transitions}\nplaces {places}\n")
-}
+use witness_check::{is_seen_live, shows_deadlock, shows_live};
 
 // Of `check`, that the net is live.
 fn live_finding(alloc: Global, net: &Net, text: &str) -> Result<Finding, OutOfMemory>
-    requires { IsLive net.now }
-    ensures { IfOk result (IsFound net.now (IsShownAlone net.now Alone.Live text.now)) }
+    ensures { IfOk result (IsDecided (IsShownAlone net.now Alone.Live text.now)) }
 {
-    let told = live_text(alloc, net)?;
-    if text == told.as_str() {
+    if shows_live(alloc, net, text)? {
         Ok(Finding::Shown)
     } else {
         Ok(Finding::Refuted)
     }
 }
 
-// Of a live net, that it is not.
-fn no_deadlock_finding(net: &Net, text: &str) -> Finding
-    requires { IsLive net.now }
-    ensures { IsFound net.now (IsShownAlone net.now Alone.Deadlock text.now) result }
-{
-    Finding::Refuted
-}
-
-// Of a net that is not seen to be live, that it is not.
+// Of `check`, that the net is not live.
 fn deadlock_finding(alloc: Global, net: &Net, text: &str) -> Result<Finding, OutOfMemory>
-    ensures { IfOk result (IsFound net.now (IsShownAlone net.now Alone.Deadlock text.now)) }
+    ensures { IfOk result (IsDecided (IsShownAlone net.now Alone.Deadlock text.now)) }
 {
     if shows_deadlock(alloc, net, text)? {
         Ok(Finding::Shown)
     } else {
-        Ok(Finding::NotShown)
+        Ok(Finding::Refuted)
     }
 }
 
@@ -78,8 +56,7 @@ fn list_finding(alloc: Global, net: &Net, text: &str) -> Result<Finding, OutOfMe
 
 // Of `cycle` and `slack`, that there is no circuit.
 fn no_circuit_finding(alloc: Global, net: &Net, text: &str) -> Result<Finding, OutOfMemory>
-    requires { IsLive net.now }
-    ensures { IfOk result (IsFound net.now (IsShownAlone net.now Alone.NoCircuit text.now)) }
+    ensures { IfOk result (IsDecided (IsShownAlone net.now Alone.NoCircuit text.now)) }
 {
     if shown_no_circuit(alloc, net, text)? {
         Ok(Finding::Shown)
@@ -111,11 +88,11 @@ fn cycle_finding(alloc: Global, net: &Net, text: &str) -> Result<Finding, OutOfM
 // Of `size`.
 fn size_finding(alloc: Global, net: &Net, text: &str) -> Result<Finding, OutOfMemory>
     requires { IsLive net.now }
-    ensures { IfOk result (IsFound net.now (IsShownAlone net.now Alone.Size text.now)) }
+    ensures { IfOk result (IsDecidedWhereLive net.now (IsShownAlone net.now Alone.Size text.now)) }
 {
     match shown_size(alloc, net, text)? {
         Some(_) => Ok(Finding::Shown),
-        None => Ok(Finding::NotShown),
+        None => Ok(Finding::Refuted),
     }
 }
 
@@ -131,7 +108,7 @@ fn live_net_finding(
 {
     match kind {
         Alone::Live => live_finding(alloc, net, text),
-        Alone::Deadlock => Ok(no_deadlock_finding(net, text)),
+        Alone::Deadlock => deadlock_finding(alloc, net, text),
         Alone::Listed => list_finding(alloc, net, text),
         Alone::NoCircuit => no_circuit_finding(alloc, net, text),
         Alone::Slack => slack_finding(alloc, net, text),
@@ -151,13 +128,17 @@ fn other_net_finding(
     ensures { IfOk result (IsFoundAlone net.now kind text.now) }
 {
     match kind {
+        Alone::Live => live_finding(alloc, net, text),
         Alone::Deadlock => deadlock_finding(alloc, net, text),
+        Alone::NoCircuit => no_circuit_finding(alloc, net, text),
         _ => Ok(Finding::NotShown),
     }
 }
 
-/// What is found of an answer of this kind, on the net alone. In a net that is not seen to be live
-/// nothing is shown but a circuit without tokens. It takes memory.
+/// What is found of an answer of this kind, on the net alone. Whether a net is live, whether a circuit
+/// without tokens is one of it, and whether it has no circuit is known in each net, and whether a number
+/// of tokens is enough in each live one: such an answer is shown or refuted. In a net that is not live
+/// nothing else is found. It takes memory.
 pub fn alone_finding(
     alloc: Global,
     net: &Net,

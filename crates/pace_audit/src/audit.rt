@@ -43,9 +43,12 @@ impl Auditor for FirstAnswers {
 ///
 /// What it promises is `AuditsFirstWords` (`specs/PaceAudits.antt`): `shown` is written of an answer
 /// only where its text is what that kind of answer says of the net that its file says
-/// (`IsShownAlone`, `IsShownDateOf` in `specs/PaceFindings.antt`), and `refuted` only where the net
-/// is live and it is not (`IsFound`). Of a list it says more (`IsListFound`): the line that is told is
-/// the first that is wrong, and in a live net neither is written only where the text is no list.
+/// (`IsShownAlone`, `IsShownDateOf` in `specs/PaceFindings.antt`), and `refuted` only where it is not.
+/// Neither may be written of a pace and of slacks (`IsFound`); it is of a size only where the net is
+/// not live (`IsDecidedWhereLive`); of one date only where the list is not shown or does not have the firing
+/// (`IsDateFound`); of a list only where the net is not live or the text is no list, and the line that
+/// is told is the first that is wrong (`IsListFound`); and never of whether the net is live or has no
+/// circuit (`IsDecided`).
 pub fn audit_first<S: Shelf, W: Sink>(
     alloc: Global,
     words: &[String],

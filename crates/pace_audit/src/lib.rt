@@ -5,15 +5,16 @@
 //! `CallsAudit` of `audit_calls`, of words, files and what is written, over what is found here of an
 //! answer: it is told as shown only where its text is what that kind of answer says of the net
 //! (`IsShownAlone`, `IsShownDateOf` in `specs/PaceFindings.antt`, which are those of the checkers), as
-//! refuted only where the net is live and it is not, and of a list by its first wrong line
-//! (`IsListFound`). Each kind has a function of its own, which asks the checker: those on the net
-//! alone in `alone.rt`, one date in `one_date.rt`. That a right answer is shown is said of lists
-//! alone: another checker may also not say yes. `answer_audit` takes [`alone_finding`] and
+//! refuted only where it is not, and of a list by its first wrong line (`IsListFound`). Each kind has a
+//! function of its own, which asks the checker: those on the net alone in `alone.rt`, one date in
+//! `one_date.rt`. That a right answer is shown, and a false one refuted, is said of all kinds
+//! (`IsDecided`, `IsDecidedWhereLive`, `IsDateFound`, `IsListFound`) but paces and slacks (`IsFound`):
+//! of these the checker may also not say yes. `answer_audit` takes [`alone_finding`] and
 //! [`find_date`] for an audit of all answers, which waits for more proofs.
 //!
 //! It stands on `audit_calls` for calls, on `witness_check`, `pace_check` and `answer_check` for what
-//! answers show, on `teg_text` for the words of lines, on `teg_outside` for the shelf and the sink,
-//! and on `teg_net` for nets. Its examples stand in `witness_examples`.
+//! answers show, on `teg_outside` for the shelf and the sink, and on `teg_net` for nets. Its examples
+//! stand in `witness_examples`.
 #![tactic(auto)]
 
 mod alone;

@@ -1,23 +1,42 @@
 //! What is found of one date, by a list of dates.
-ghost use Rattle.std.specs.Prelude.{IfOk};
+ghost use Rattle.std.specs.Prelude.{IfOk, None, string_bytes};
+ghost use Rattle.answer_check.specs.ShownDates.{ShowsDate};
 ghost use Rattle.audit_calls.specs.AuditFiles.{SaysText, most_answer_bytes};
 ghost use Rattle.audit_calls.specs.AnswerAudits.{FindsByFile};
 ghost use Rattle.pace_audit.specs.PaceAudits.{FindsDate};
-ghost use Rattle.pace_audit.specs.PaceFindings.{IsFound, IsShownDateOf};
+ghost use Rattle.pace_audit.specs.PaceFindings.{IsDateFound};
 
-use answer_check::shown_date;
+use answer_check::{refutes_date, shown_date};
 use audit_calls::{Beside, Finding, open_text};
 use std::alloc::Global;
 use teg_net::{Net, OutOfMemory};
 use teg_outside::Shelf;
 
+// Of `date` that is not shown, by the text of a list.
+fn other_date_finding(
+    alloc: Global,
+    net: &Net,
+    list: &str,
+    text: &str,
+) -> Result<Finding, OutOfMemory>
+    requires { ShowsDate net.now list.now text.now None }
+    ensures { IfOk result (IsDateFound net.now list.now text.now) }
+{
+    net.rules();
+    if refutes_date(alloc, net, list, text)? {
+        Ok(Finding::Refuted)
+    } else {
+        Ok(Finding::NotShown)
+    }
+}
+
 // Of `date`, by the text of a list.
 fn date_finding(alloc: Global, net: &Net, list: &str, text: &str) -> Result<Finding, OutOfMemory>
-    ensures { IfOk result (IsFound net.now (IsShownDateOf net.now text.now)) }
+    ensures { IfOk result (IsDateFound net.now list.now text.now) }
 {
     match shown_date(alloc, net, list, text)? {
         Some(_) => Ok(Finding::Shown),
-        None => Ok(Finding::NotShown),
+        None => other_date_finding(alloc, net, list, text),
     }
 }
 
@@ -29,7 +48,7 @@ fn date_by_file<S: Shelf>(
     text: &str,
     shelf: &mut S,
 ) -> Result<Option<Finding>, OutOfMemory>
-    ensures { IfOk result (FindsByFile SaysText (λ _. IsFound net.now (IsShownDateOf net.now text.now))
+    ensures { IfOk result (FindsByFile SaysText (λ list. IsDateFound net.now (string_bytes list) text.now)
         name.now most_answer_bytes (S.state shelf.old) (S.state shelf.new)) }
 {
     let Some(list) = open_text(alloc, name, shelf)? else {

@@ -1,2 +1,4 @@
+mod PathPotentials
 mod PathSums
 pub mod Paces
+mod SizeTexts

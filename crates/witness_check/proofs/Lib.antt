@@ -1,2 +1,3 @@
 mod Lowest
 mod Climbing
+pub mod NamedPlaces

@@ -1,2 +1,3 @@
 pub mod Liveness
+pub mod NamedPlaces
 pub mod Climbs

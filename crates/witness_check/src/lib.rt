@@ -8,17 +8,16 @@
 //! | `check`: live | the counts | [`shows_live`] |
 //! | `check`: refused | the circuit | [`shows_deadlock`] |
 //!
-//! Each call on a text reads it without a promise, lets a checker look at what was read, prints the
-//! text anew, and compares. So what it tells rests on the checker, on its law and on the words of
-//! the lines, and neither on the parser nor on whatever found the answer. Clauses say what is so
-//! where it says yes; where it does not, they say nothing, but of the calls that find numbers, which
-//! say no just where a circuit is in the way. Paces and sizes are those of `pace_check`, dates those
-//! of `dating_check` and `settled_check`, and delays those of `delay_check`. For them stand here
-//! how places are named and ratios told ([`places_named`], [`ratio_in`]), how a first line tells
-//! where dates settle ([`settled_in_line`]), and where circuits are told from ([`begins_lowest`]).
+//! Each of these calls says yes just where it is so: a text is read as just what was written, and a
+//! checker looks at what was read. So what it tells rests on the checker, on its law and on the words
+//! of the lines, and on nothing that found the answer. Paces and sizes are those of `pace_check`,
+//! dates those of `dating_check` and `settled_check`, and delays those of `delay_check`. For them
+//! stand here how places are named ([`places_of`], [`places_named`]) and ratios told ([`ratio_in`]),
+//! how a first line tells where dates settle ([`settled_in_line`]), and where circuits are told from
+//! ([`begins_lowest`]).
 //!
-//! The crate stands on `teg_net` for nets, on `teg_text` for texts, on `teg_certificates` for
-//! checkers, and on `teg_loops` for circuits in paths; no crate that finds paces, plans or dates is
+//! The crate stands on `word_lines` for the words of a line, on `teg_net` for nets, on `teg_text` for
+//! what the words are, on `teg_certificates` for checkers, and on `teg_loops` for circuits in paths; no crate that finds paces, plans or dates is
 //! below it. Its examples stand in `witness_examples`.
 #![tactic(auto)]
 
@@ -32,4 +31,4 @@ pub use circuits::begins_lowest;
 pub use climbs::rising_numbers;
 pub use deadlock::shows_deadlock;
 pub use live::{is_seen_live, shows_live};
-pub use names::{places_named, ratio_in, settled_in_line};
+pub use names::{number_in, places_named, places_of, ratio_in, settled_in_line, words_behind};

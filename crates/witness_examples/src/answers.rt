@@ -1,6 +1,6 @@
 //! Lists of dates, one date, numbers that rise, nets without a circuit, and slack.
 use answer_check::{
-    ShownDate, refutes_list, shown_date, shown_list, shown_no_circuit, shown_slack,
+    ShownDate, refutes_date, refutes_list, shown_date, shown_list, shown_no_circuit, shown_slack,
 };
 use dioid::Date;
 use example_nets::{KANBAN, tells_all};
@@ -105,11 +105,14 @@ const SECOND: ShownDate = ShownDate {
     date: Date::At(16),
 };
 
-// Texts of dates, and which date each shows of the kanban line with that list.
-const DATES: [(&[u8], &str, Option<ShownDate>); 3] = [
-    (KANBAN, "date m3 2 16\n", Some(SECOND)),
-    (KANBAN, "date m3 2 17\n", None),
-    (KANBAN, "date m3 3 22\n", None),
+// Texts of dates, which date each shows of the kanban line with that list, and whether it is another.
+const DATES: [(&[u8], &str, (Option<ShownDate>, bool)); 5] = [
+    (KANBAN, "date m3 2 16\n", (Some(SECOND), false)),
+    (KANBAN, "date m3 2 17\n", (None, true)),
+    (KANBAN, "date m3 2 soon\n", (None, true)),
+    // a number past the list, and no transition
+    (KANBAN, "date m3 3 22\n", (None, false)),
+    (KANBAN, "date m9 2 16\n", (None, false)),
 ];
 
 // How many firings the text of a list shows, and which row of it is wrong.
@@ -118,9 +121,10 @@ fn list(alloc: Global, net: &Net, text: &str) -> Result<(Option<u32>, Option<u32
     Ok((firings, refutes_list(alloc, net, text)?))
 }
 
-// The date that the text shows with the list of two firings.
-fn date(alloc: Global, net: &Net, text: &str) -> Result<Option<ShownDate>, OutOfMemory> {
-    shown_date(alloc, net, LIST, text)
+// The date that the text shows with the list of two firings, and whether it tells another.
+fn date(alloc: Global, net: &Net, text: &str) -> Result<(Option<ShownDate>, bool), OutOfMemory> {
+    let shown = shown_date(alloc, net, LIST, text)?;
+    Ok((shown, refutes_date(alloc, net, LIST, text)?))
 }
 
 #[test]

@@ -58,7 +58,7 @@ choice a ba 0
 ";
 
 // The files of the shelf, by name.
-pub(crate) const FILES: [(&str, &[u8]); 41] = [
+pub(crate) const FILES: [(&str, &[u8]); 42] = [
     (
         "loop",
         b"transition = [{ name = \"a\" }, { name = \"b\" }]
@@ -130,6 +130,7 @@ place = [
         b"settled after 0 period 1\ntransition a 0 step 5\ntransition b 3 step 5\n",
     ),
     ("size", b"size ba 3/1 extra 1\ncircuit ab ba\n"),
+    ("other size", b"size ba 3/1 extra 2\ncircuit ab ba\n"),
     ("due", b"b,1,10\n"),
     ("more due", b"b,1,10\nb,2,20\n"),
     (
@@ -191,7 +192,7 @@ place = [
 // The words of a call, how it ends, and what it writes.
 pub(crate) type Call<'a> = (&'a [&'a str], AuditStatus, &'a str);
 
-const CALLS: [Call<'static>; 54] = [
+const CALLS: [Call<'static>; 56] = [
     (&["loop", "live"], AuditStatus::Shown, "shown live\n"),
     (
         &["loop", "other counts"],
@@ -213,7 +214,7 @@ const CALLS: [Call<'static>; 54] = [
         AuditStatus::Shown,
         "shown refused: token-free circuit ab ba\n",
     ),
-    (&["dead", "live"], AuditStatus::NotShown, "not shown live\n"),
+    (&["dead", "live"], AuditStatus::Refuted, "refuted live\n"),
     (
         &["loop", "list"],
         AuditStatus::Shown,
@@ -236,8 +237,8 @@ const CALLS: [Call<'static>; 54] = [
     ),
     (
         &["loop", "other date", "list"],
-        AuditStatus::NotShown,
-        "not shown date b 2 9\n",
+        AuditStatus::Refuted,
+        "refuted date b 2 9\n",
     ),
     (
         &["loop", "date"],
@@ -324,6 +325,16 @@ const CALLS: [Call<'static>; 54] = [
         &["loop", "size"],
         AuditStatus::Shown,
         "shown size ba 3/1 extra 1\n",
+    ),
+    (
+        &["loop", "other size"],
+        AuditStatus::Refuted,
+        "refuted size ba 3/1 extra 2\n",
+    ),
+    (
+        &["dead", "size"],
+        AuditStatus::NotShown,
+        "not shown size ba 3/1 extra 1\n",
     ),
     (
         &["loop", "plan", "due"],

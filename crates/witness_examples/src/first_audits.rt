@@ -8,7 +8,7 @@ use std::alloc::Global;
 use std::test::Fail;
 
 // The words of a call, how it ends, and what it writes.
-const CALLS: [Call<'static>; 13] = [
+const CALLS: [Call<'static>; 15] = [
     (&["loop", "live"], AuditStatus::Shown, "shown live\n"),
     (
         &["dead", "deadlock", "due"],
@@ -45,6 +45,16 @@ const CALLS: [Call<'static>; 13] = [
         &["loop", "size"],
         AuditStatus::Shown,
         "shown size ba 3/1 extra 1\n",
+    ),
+    (
+        &["loop", "other size"],
+        AuditStatus::Refuted,
+        "refuted size ba 3/1 extra 2\n",
+    ),
+    (
+        &["loop", "other date", "list"],
+        AuditStatus::Refuted,
+        "refuted date b 2 9\n",
     ),
     (
         &["loop", "rounds"],

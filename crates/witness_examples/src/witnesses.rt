@@ -154,13 +154,19 @@ fn paces_are_shown_by_parts_in_order(rt: HostRuntime) -> Result<(), Fail> {
 }
 
 // Nets, texts, and whether these show that the net is live, and that it is not.
-const LIVES: [(&[u8], &str, (bool, bool)); 5] = [
+const LIVES: [(&[u8], &str, (bool, bool)); 6] = [
     (LINE, "live\ntransitions 3\nplaces 7\n", (true, false)),
     (LINE, "live\ntransitions 3\nplaces 6\n", (false, false)),
     (NO_CARDS, "live\ntransitions 2\nplaces 2\n", (false, false)),
     (
         NO_CARDS,
         "refused: token-free circuit parts cards\n",
+        (false, true),
+    ),
+    // the same circuit, told from its other place on
+    (
+        NO_CARDS,
+        "refused: token-free circuit cards parts\n",
         (false, true),
     ),
     (
@@ -185,7 +191,7 @@ fn it_is_shown_whether_a_net_is_live(rt: HostRuntime) -> Result<(), Fail> {
 type Further = (u64, u64, Option<u64>);
 
 // Texts of sizes of places of the line, and what they show of `paint_room`.
-const SIZES: [(&[u8], &str, Option<Further>); 6] = [
+const SIZES: [(&[u8], &str, Option<Further>); 7] = [
     (
         LINE,
         "size paint_room 7/1 extra 1\ncircuit to_paint paint_room\n",
@@ -204,6 +210,8 @@ const SIZES: [(&[u8], &str, Option<Further>); 6] = [
         None,
     ),
     (LINE, "size paint_room 7/1 extra 0\n", None),
+    // a target that is not in lowest terms
+    (LINE, "size paint_room 16/2 extra 0\n", None),
     (
         LINE,
         "size paint_room 6/1 impossible\ncircuit to_paint paint_room\n",
