@@ -17,8 +17,8 @@
 //! ([`begins_lowest`]).
 //!
 //! The crate stands on `word_lines` for the words of a line, on `teg_net` for nets, on `teg_text` for
-//! what the words are, on `teg_certificates` for checkers, and on `teg_loops` for circuits in paths; no crate that finds paces, plans or dates is
-//! below it. Its examples stand in `witness_examples`.
+//! what the words are, on `teg_certificates` for checkers, and on `teg_loops` for circuits in paths;
+//! no crate that finds paces, plans or dates is below it. Its examples stand in `witness_examples`.
 #![tactic(auto)]
 
 mod circuits;
