@@ -168,15 +168,16 @@ impl Divisions {
         ensures kept { IfOk result (IsKeptIn self.old.list.items divided self.new.list.items) }
         ensures memory { IfErr result (λ e. e ≡ Refused.OutOfMemory) }
     {
-        let mut before = self.list.len();
+        let (mut before, mut values) = (self.list.len(), self.values);
         if self.passing {
             before = before.saturating_sub(1);
         }
-        let stays = stay && self.values < MOST_KEPT;
+        let stays = stay && values < MOST_KEPT;
         if stays {
             let more = divided.walk.series.values().len() + divided.residual.series.values().len();
-            self.values = self.values.saturating_add(PAIR + more);
+            values = values.saturating_add(PAIR + more);
         }
+        self.values = values;
         self.passing = !stays;
         self.list.truncate(before);
         if self.list.push(divided).is_err() {
