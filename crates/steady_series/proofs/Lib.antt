@@ -1,1 +1,2 @@
+pub mod CutLefts
 pub mod SteadyLefts

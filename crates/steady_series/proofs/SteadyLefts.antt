@@ -28,6 +28,7 @@ use Rattle.series_laws.proofs.Sums.{form_repeats_own, tail_number}
 use Rattle.series_form.specs.NumberBounds.{HasSmallNumbers}
 use Rattle.series_ops.specs.declared.gains.Gain.{Gain}
 use Rattle.series_ops.specs.Gains.{gain_left, gain_of, LeftFits}
+use Rattle.steady_series.specs.Cuts.{IsUnder}
 use Rattle.steady_series.specs.Leads.{IsLeadBelow, IsLeadMore, IsLeadOver, IsLeadTo, IsNumber}
 
 -- the form with one value everywhere
@@ -110,20 +111,17 @@ module _ (f g : Form) (lead : ℤ) (h : IsLeadOver f g lead) where
 
 -- ---- what fits
 
--- no residual of a steady form is long
-pub left_short : (f g : Form) → IsForm f → IsForm g → size_of g ≡ 1 → size_of f ≤ 20000 → need_of (left_plan f g) ≤ 20000
-left_short f g isf isg one short = cases (tail_of f) (tail_of g) where
-  period : g.period ≡ 1
-  period = steady_period g isg one
-
+-- no residual of a form that goes on from shift to shift is long, where there is room for a period behind its list
+pub left_room : (f g : Form) → IsForm f → g.period ≡ 1 → size_of f ≤ 20000 → size_of g ≤ 20000 → size_of g + f.period ≤ 20001 → need_of (left_plan f g) ≤ 20000
+left_room f g isf period short second room = cases (tail_of f) (tail_of g) where
   both : period_with f g ≡ f.period
   both = let same : common f.period g.period ≡ common f.period 1 = ap (common f.period) period in omega (arith, same)
 
   long : need_of (long_left f g) ≤ 20000
-  long = let fits = isf.period_fits in let p = period in let b = both in omega (arith, fits, p, b, one, short)
+  long = let fits = isf.period_fits in let p = period in let b = both in omega (arith, fits, p, b, short, second, room)
 
   own : need_of (short_left f g) ≤ 20000
-  own = let p = period in omega (arith, p, one)
+  own = let p = period in omega (arith, p, second)
 
   by_slopes : (o : Slopes) → need_of (left_plan_by_slopes o f g) ≤ 20000
   by_slopes Equal = long
@@ -138,6 +136,10 @@ left_short f g isf isg one short = cases (tail_of f) (tail_of g) where
   cases Never Early = own
   cases Never (At t) = own
   cases Never Never = long
+
+-- no residual of a steady form is long
+pub left_short : (f g : Form) → IsForm f → IsForm g → size_of g ≡ 1 → size_of f ≤ 20000 → need_of (left_plan f g) ≤ 20000
+left_short f g isf isg one short = let fits = isf.period_fits in left_room f g isf (steady_period g isg one) short (omega (arith, one)) (omega (arith, one, fits, short))
 
 -- what is answered of the residual by the lead is answered of that by the form
 pub answers_same : (a b : Gain) (lead : ℤ) → IsLeadOver a.series b.series lead → (y : Result Gain Refused)
@@ -165,6 +167,38 @@ not_faster (pos zero) o e h = omega (arith, ints)
 not_faster (pos (suc n)) o e h = absurd (h (sym e))
 not_faster (negsuc n) o e h = omega (arith, ints)
 
+-- a form whose tail is a number is never Never
+pub no_never : (f : Form) → IsForm f → (s : ℤ) → tail_of f ≡ At s → (i : ℕ) → value_at f i ≡ Never → ⊥
+no_never f isf s ef i e = ⊎_elim
+    (λ (before : i < repeat_start f).
+    let c : At s ≡ Never = sym ef ∙ never_le (le_trans (le_is (sym e)) (isf.rising.rises i (repeat_start f) (omega arith))) in absurd cc)
+    (λ (from : repeat_start f ≤ i). let there = tail_number f s isf ef i from in let c : At there.0 ≡ Never = sym there.1 ∙ e in absurd cc)
+    (cases_lt i (repeat_start f))
+
+-- what is under a level in the list is so everywhere, where a period gains no more than the steps
+pub under_all : (f : Form) → IsForm f → (s : ℤ) → tail_of f ≡ At s → (step : ℤ) → f.step ≤ℤ times f.period step → (from : ℕ) → from ≤ repeat_start f → (level : ℤ)
+    → IsUnder f step from (size_of f) level → (i : ℕ) (z : ℤ) → from ≤ i → value_at f i ≡ At z → z ≤ℤ (level +ℤ times i step)
+under_all f isf s ef step slow from early level listed i z begun e = ⊎_elim
+    (λ (within : i < size_of f). listed i z begun within e)
+    (λ (past : size_of f ≤ i).
+    let fits = isf.period_fits in
+    by_steps IsLow (repeat_start f) f.period isf.period_positive (λ k later l. λ y there. listed k y (omega (arith, early, later)) (omega (arith, l, size)) there) next i (omega (arith, past)) z e)
+    (cases_lt i (size_of f)) where
+  IsLow : ℕ → Type 0
+  IsLow k = (y : ℤ) → value_at f k ≡ At y → y ≤ℤ (level +ℤ times k step)
+
+  size : repeat_start f + f.period ≡ size_of f
+  size = let fits = isf.period_fits in omega (arith, fits)
+
+  next : (k : ℕ) → repeat_start f ≤ k → IsLow k → IsLow (k + f.period)
+  next k later low y there =
+      let old = tail_number f s isf ef k later in
+      let more : value_at f (k + f.period) ≡ At (old.0 +ℤ f.step) = (form_repeats_own f isf).at k later ∙ ap (move f.step) old.1 in
+      let is : y ≡ old.0 +ℤ f.step = at_inj _ _ (sym there ∙ more) in
+      let here : old.0 ≤ℤ (level +ℤ times k step) = low old.0 old.1 in
+      let sum : times (k + f.period) step ≡ times k step +ℤ times f.period step = times_add k f.period step in
+      omega (arith, ints, is, here, sum, slow)
+
 -- the lead of the list is that of all values where a period gains no more than the steps of the steady form
 pub lead_of_slow : (f g : Form) → IsForm f → IsForm g → size_of f ≤ 20000 → size_of g ≡ 1 → (s t lead : ℤ) → tail_of f ≡ At s → tail_of g ≡ At t → f.step ≤ℤ times f.period g.step
     → IsLeadBelow f g.step (size_of f) lead → IsLeadOver f g lead
@@ -175,40 +209,11 @@ lead_of_slow f g isf isg short one s t lead ef eg slow below = record {
   steady = one;
   start = t;
   starts = (let from : repeat_start g ≡ 0 = (let p = steady_period g isg one in omega (arith, p, one)) in subst (λ (p : ℕ). value_at g p ≡ At t) from eg);
-  numbers = numbers;
-  over = over;
+  numbers = no_never f isf s ef;
+  over = λ i z e. under_all f isf s ef g.step slow 0 (omega arith) lead (λ k y begun within there. below.over k y within there) i z (omega arith) e;
   place = below.place;
   attained = below.attained;
-} where
-  numbers : (i : ℕ) → value_at f i ≡ Never → ⊥
-  numbers i e = ⊎_elim
-      (λ (before : i < repeat_start f).
-      let c : At s ≡ Never = sym ef ∙ never_le (le_trans (le_is (sym e)) (isf.rising.rises i (repeat_start f) (omega arith))) in absurd cc)
-      (λ (from : repeat_start f ≤ i). let there = tail_number f s isf ef i from in let c : At there.0 ≡ Never = sym there.1 ∙ e in absurd cc)
-      (cases_lt i (repeat_start f))
-
-  IsUnder : ℕ → Type 0
-  IsUnder i = (z : ℤ) → value_at f i ≡ At z → z ≤ℤ (lead +ℤ times i g.step)
-
-  size : repeat_start f + f.period ≡ size_of f
-  size = let fits = isf.period_fits in omega (arith, fits)
-
-  later : (k : ℕ) → repeat_start f ≤ k → IsUnder k → IsUnder (k + f.period)
-  later k from low z e =
-      let there = tail_number f s isf ef k from in
-      let next : value_at f (k + f.period) ≡ At (there.0 +ℤ f.step) = (form_repeats_own f isf).at k from ∙ ap (move f.step) there.1 in
-      let is : z ≡ there.0 +ℤ f.step = at_inj _ _ (sym e ∙ next) in
-      let here : there.0 ≤ℤ (lead +ℤ times k g.step) = low there.0 there.1 in
-      let sum : times (k + f.period) g.step ≡ times k g.step +ℤ times f.period g.step = times_add k f.period g.step in
-      omega (arith, ints, is, here, sum, slow)
-
-  over : (i : ℕ) (z : ℤ) → value_at f i ≡ At z → z ≤ℤ (lead +ℤ times i g.step)
-  over i z e = ⊎_elim
-      (λ (listed : i < size_of f). below.over i z listed e)
-      (λ (past : size_of f ≤ i).
-      let fits = isf.period_fits in
-      by_steps IsUnder (repeat_start f) f.period isf.period_positive (λ k from l. λ y there. below.over k y (omega (arith, l, size)) there) later i (omega (arith, past)) z e)
-      (cases_lt i (size_of f))
+}
 
 -- so it is where the form gains no more than the steady one
 pub lead_of_all : (f g : Form) → IsForm f → IsForm g → size_of f ≤ 20000 → size_of g ≡ 1 → (s t lead : ℤ) → tail_of f ≡ At s → tail_of g ≡ At t → (slopes_of f g ≡ First → ⊥)

@@ -1,3 +1,4 @@
+pub mod Cuts
 pub mod Leads
 pub use Rattle.series_laws.specs as series_laws
 pub use Rattle.series_form.specs as series_form

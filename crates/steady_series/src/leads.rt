@@ -29,10 +29,10 @@ fn lead_with(lead: Option<i128>, value: Date, gained: i128) -> Option<i128>
     }
 }
 
-// By how much a value of the list is later than the steps of a steady series up to its shift, at
-// most; none where none is a number.
-fn lead_in_list(first: &Series, second: &Series) -> Option<i128>
-    requires steady { size_of second.now ≡ 1 }
+// By how much a value of the list is later than the steps of a series that goes on from shift to
+// shift, up to its shift, at most; none where none is a number.
+pub(crate) fn lead_in_list(first: &Series, second: &Series) -> Option<i128>
+    requires single { second.now.period ≡ 1 }
     ensures { IsLeadTo first.now second.now.step (size_of first.now) result }
 {
     let values = first.values();

@@ -10,6 +10,8 @@
 //! `date_examples`.
 #![tactic(auto)]
 
+mod cuts;
 mod leads;
 
+pub use cuts::left_by_first;
 pub use leads::left;

@@ -1,5 +1,5 @@
-//! Residuals of due series by walk series: each pair is divided once, as long as there is room to
-//! keep what came of it.
+//! Residuals of due series by walk series: each pair that takes long is divided once, as long as
+//! there is room to keep what came of it.
 ghost use Rattle.std.specs.Prelude.{◌≡◌, ◌<◌, All, None, Some, get_or, length, IfErr, IfOk, IfSome, IsTrue, OnOk};
 ghost use Rattle.forever_laws.specs.SeriesColumns.{IsDueSeries};
 ghost use Rattle.teg_forever.specs.LateFirings.{IsGoingRow};
@@ -10,7 +10,7 @@ use dioid::{Dioid, Refused};
 use endless_due::EndlessRow;
 use series_ops::Gain;
 use std::alloc::{AllocError, Global};
-use steady_series::left;
+use steady_series::{left, left_by_first};
 use teg_net::OutOfMemory;
 
 // The values of series that are kept, at most: 96 MB, and one pair more.
@@ -35,8 +35,10 @@ pub(crate) struct Divisions {
     // For each row the place of the first that asks the same dates.
     firsts: Vec<usize>,
     list: Vec<Divided>,
-    // The values of the series in the list.
+    // The values of the series that stay in the list.
     values: usize,
+    // Whether the last in the list gives way to the next.
+    passing: bool,
     // Of each row the due series, where it is steady.
     steady: Vec<Option<Gain>>,
 }
@@ -112,6 +114,7 @@ impl Divisions {
             firsts,
             list: Vec::new(alloc),
             values: 0,
+            passing: false,
             steady,
         })
     }
@@ -158,21 +161,24 @@ impl Divisions {
         None
     }
 
-    // Keeps one more, in place of the last where there is no room.
-    fn keep(&mut self, divided: Divided) -> Result<usize, Refused>
+    // Keeps one more, till the next one comes where there is no room, or where it need not `stay`.
+    fn keep(&mut self, divided: Divided, stay: bool) -> Result<usize, Refused>
         ensures firsts { self.new.firsts.items ≡ self.old.firsts.items }
         ensures steady { self.new.steady.items ≡ self.old.steady.items }
         ensures kept { IfOk result (IsKeptIn self.old.list.items divided self.new.list.items) }
         ensures memory { IfErr result (λ e. e ≡ Refused.OutOfMemory) }
     {
         let (mut before, mut values) = (self.list.len(), self.values);
-        if values < MOST_KEPT {
-            let more = divided.walk.series.values().len() + divided.residual.series.values().len();
-            values = values.saturating_add(PAIR + more);
-        } else {
+        if self.passing {
             before = before.saturating_sub(1);
         }
+        let stays = stay && values < MOST_KEPT;
+        if stays {
+            let more = divided.walk.series.values().len() + divided.residual.series.values().len();
+            values = values.saturating_add(PAIR + more);
+        }
         self.values = values;
+        self.passing = !stays;
         self.list.truncate(before);
         if self.list.push(divided).is_err() {
             return Err(Refused::OutOfMemory);
@@ -203,12 +209,27 @@ impl Divisions {
             Ok(asked) => asked,
             Err(_) => return Err(Refused::OutOfMemory),
         };
+        match left_by_first(alloc, &walk, &asked) {
+            Ok(Some(residual)) => return self.keep(
+                Divided {
+                    due,
+                    walk,
+                    residual,
+                },
+                false,
+            ),
+            Ok(None) => {}
+            Err(why) => return Err(why),
+        }
         match left(alloc, &walk, &asked) {
-            Ok(residual) => self.keep(Divided {
-                due,
-                walk,
-                residual,
-            }),
+            Ok(residual) => self.keep(
+                Divided {
+                    due,
+                    walk,
+                    residual,
+                },
+                true,
+            ),
             Err(why) => Err(why),
         }
     }

@@ -8,7 +8,7 @@ use Rattle.series_laws.specs.Periodic.{times}
 use Rattle.series_laws.specs.SeriesForms.{size_of}
 use Rattle.series_laws.proofs.FormValues.{value_in}
 use Rattle.steady_series.specs.Leads.{IsLeadTo}
-use Rattle.steady_series.proofs.SteadyLefts.{lead_more, steady_period}
+use Rattle.steady_series.proofs.SteadyLefts.{lead_more}
 use Rattle.steady_series.proofs.leads.lead_in_list.Goals as goal
 
 pub loop-shift-init : goal.loop-shift-init
@@ -19,8 +19,7 @@ loop-shift-preserved c =
     let f = c.args.first.now in
     let g = c.args.second.now in
     let shift = c.loop-shift.shift in
-    let period = steady_period g c.gain_over.ensures.series.canonical.form c.requires.steady in
-    let turns : shift / g.period ≡ shift = ap (λ (n : ℕ). shift / n) period ∙ div-one shift in
+    let turns : shift / g.period ≡ shift = ap (λ (n : ℕ). shift / n) c.requires.single ∙ div-one shift in
     let long : length c.values-values.result.now ≡ size_of f = ap length c.values-values.ensures.value in
     let here = value_in f shift (omega (arith, long, c.loop-shift-test.true)) ∙ ap (λ (l : List Date). get_or l shift Early) (sym c.values-values.ensures.value) in
     let gained : to_z w128 (of_z w128 c.gain_over.result) ≡ c.gain_over.result = to_z-of_z w128 c.gain_over.result (record { sfits = c.gain_over.type_inv }) in

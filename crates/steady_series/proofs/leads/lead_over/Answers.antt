@@ -1,11 +1,13 @@
 use Rattle.std.proofs.Common.{arith, subst, sym, ap, length, ◌≡◌, ◌∙◌}
 use Rattle.series_laws.specs.SeriesForms.{size_of}
 use Rattle.steady_series.specs.Leads.{IsLeadTo}
-use Rattle.steady_series.proofs.SteadyLefts.{lead_of_all, number_is, some_map}
+use Rattle.steady_series.proofs.SteadyLefts.{lead_of_all, number_is, some_map, steady_period}
 use Rattle.steady_series.proofs.leads.lead_over.Goals as goal
 
 pub lead_in_list-requires : goal.lead_in_list-requires
-lead_in_list-requires c = let long : length c.values.result.now ≡ size_of c.args.second.now = ap length c.values.ensures.value in omega (arith, long, c.if-values-ne1.false)
+lead_in_list-requires c =
+    let long : length c.values.result.now ≡ size_of c.args.second.now = ap length c.values.ensures.value in
+    record { single = steady_period c.args.second.now c.values.ensures.series.canonical.form (omega (arith, long, c.if-values-ne1.false)) }
 
 pub returns-clause-lead : goal.returns-clause-lead
 returns-clause-lead c =
