@@ -231,7 +231,7 @@ module _ (net : NetLists) (ok : IsNet net) (u e : ℕ) (is : IsInput net u) (end
 
   -- a path that is not empty ends at no input
   ends_outside : (ps : List PlaceId) (a b : ℕ) → 0 < length ps → IsPathBetween led a ps b → IsInput net b → ⊥
-  ends_outside [] a b some h = absurd (omega arith)
+  ends_outside [] a b some h i = absurd (omega arith)
   ends_outside (p ∷ []) a b some h i = (led_is_net.each_place p.index no_place h.0).enters_no_input (subst (IsInput net) (sym h.2) i)
   ends_outside (p ∷ (q ∷ ps)) a b some h i = ends_outside (q ∷ ps) (place_at led p).to.index b (omega arith) h.2 i
 
