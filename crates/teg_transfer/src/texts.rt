@@ -17,6 +17,7 @@ use teg_check::LiveNet;
 use teg_lags::lag_between;
 use teg_net::{Net, OutOfMemory, PlaceEnd, PlacesOf, Role, TransitionId};
 use teg_report::{Answer, TransferFrom, report};
+use walks_by_ends::Ends;
 use teg_settle::SettleRefusal;
 
 // How many outputs the net has.
@@ -90,6 +91,7 @@ fn is_asked_again(
 struct Told {
     text: Vec<u8>,
     kept: Vec<TransferFrom>,
+    ends: Ends,
 }
 
 // The text with the times from one input more. They are kept where they are its own and a later
@@ -116,7 +118,14 @@ fn tell_next(
 {
     let mut told = told;
     let held = net.net();
-    let next = next_times(alloc, net, asked, input, told.kept.as_slice())?;
+    let next = next_times(
+        alloc,
+        net,
+        asked,
+        &mut told.ends,
+        input,
+        told.kept.as_slice(),
+    )?;
     push_times(alloc, &mut told.text, held, &next.0)?;
     if next.1 && is_asked_again(held, &asked.leaving, input, later) {
         keep(&mut told.kept, next.0)?;
@@ -174,6 +183,7 @@ pub fn transfer_text(alloc: Global, net: &LiveNet, limit: u32) -> Result<Vec<u8>
     let first = Told {
         text: line.into_bytes(),
         kept: Vec::new(alloc),
+        ends: Ends::new(alloc, net.net())?,
     };
     tell_all(alloc, net, &asked, first, inputs.as_slice())
 }
