@@ -1,0 +1,2 @@
+mod FormsOfEnds
+mod Told

@@ -88,7 +88,7 @@ pub(crate) fn latest_times<'a>(
     limit: u32,
 ) -> Result<Option<LatestTimes<'a>>, OutOfMemory>
     requires few { limit ≤ 200000 }
-    ensures form { IfOk result (λ told. IfSome told (IsTransferOf ways.net ways.input.index)) }
+    ensures form { IfOk result (λ told. IfSome told (IsTransferOf ways.entry.net ways.entry.input.index)) }
     ensures within { IfOk result (λ told. IfSome told (λ form. settled_length form ≤ limit)) }
 {
     walks_go_by_ends();
