@@ -66,7 +66,7 @@ impl<'a> InputTimes<'a> {
     {
         match &self.kind {
             Kind::Own(own) => own.period(),
-            Kind::ByEnds(_) => 1,
+            Kind::ByEnds(latest) => latest.period(),
         }
     }
 

@@ -43,6 +43,13 @@ impl<'a> LatestTimes<'a> {
         self.after
     }
 
+    // In how many numbers they go on by a step: from each to the next.
+    pub(crate) fn period(&self) -> u64
+        ensures { result ≡ self.now.period }
+    {
+        1
+    }
+
     // By what the dates of this transition move from number to number.
     pub(crate) fn step(&self, transition: TransitionId) -> i128
         requires { transition.index < length self.now.rows }
