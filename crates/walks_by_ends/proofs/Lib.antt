@@ -1,2 +1,3 @@
 mod FormsOfEnds
+mod Keeping
 mod Told

@@ -1,14 +1,15 @@
 -- The latest times by places are the times of walks from the input, and their form is the shortest.
-use Rattle.std.proofs.Common.{ℕ, ℤ, zero, suc, pos, ◌+◌, ◌-◌, ◌*◌, ◌<◌, ◌≤◌, ◌≡◌, ◌≢◌, ◌⊎◌, inl, inr, List, [], All, length, map, true, false, eqb, get_or, refl, sym, subst, ap, ◌∙◌, arith, ⊎_elim}
+use Rattle.std.proofs.Common.{ℕ, ℤ, zero, suc, pos, ◌+◌, ◌-◌, ◌*◌, ◌<◌, ◌≤◌, ◌≡◌, ◌≢◌, ◌⊎◌, inl, inr, List, [], ◌∷◌, ◌++◌, All, length, map, true, false, eqb, get_or, refl, sym, subst, ap, ◌∙◌, arith, ⊎_elim}
 use Rattle.std.specs.Prelude.{Contains, ◌≤ℤ◌, slice_index_or, slice_get, IsSomeAnd, Option, Some, None}
 use Rattle.std.specs.Option.{option_map_or}
 use Rattle.std.specs.Int.{◌∣◌}
 use Rattle.std.specs.List.{range_with_len}
 use Rattle.std.proofs.lemmas.Bool.{cases_Bool, cases_eq, cases_lt}
 use Rattle.std.proofs.lemmas.Bool.Decides.{nat_tests}
-use Rattle.std.proofs.lemmas.List.{get_or_default}
+use Rattle.std.proofs.lemmas.List.{get_or_append_left, get_or_default, length-append}
+use Rattle.std.proofs.Math.Seq.{get_or-append_seam}
 use Rattle.std.proofs.lemmas.List.Elements.{All-map}
-use Rattle.std.proofs.lemmas.List.FromFn.{get_or-map-range_with_len, length-map-range_with_len}
+use Rattle.std.proofs.lemmas.List.FromFn.{get_or-map-range_with_len, length-map-range_with_len, map-range_with_len_more}
 use Rattle.std.proofs.Math.Nat.{dvd-mul_right}
 use Rattle.dioid.specs.declared.dates.Date.{Date}
 use Rattle.dioid.specs.declared.dates.Date.TheVariants.{Early, At, Never}
@@ -25,12 +26,12 @@ use Rattle.teg_settle.specs.settled_laws.SettledForms.{HasSizes, IsShortestForm,
 use Rattle.teg_settle.specs.walk_times.Transfers.{AreWalkTimes, IsTransferOf}
 use Rattle.own_period_laws.specs.OwnForms.{IsBegun, IsLeastCommon, IsLeastForm, IsOwnPeriod, OwnPeriodsTellForms}
 use Rattle.own_period_laws.specs.OwnPeriods.{GoesOn}
-use Rattle.end_laws.specs.Ends.{AreLatestBy, AreTimesFromEnds, IsInner, IsLatestBy, Leaves, WalksGoByEnds, date_by}
+use Rattle.end_laws.specs.Ends.{AreLatestBy, AreTimesFromEnd, AreTimesFromEnds, IsInner, IsLatestBy, Leaves, WalksGoByEnds, date_by}
 use Rattle.end_laws.specs.Latest.{DatesByPlacesGoOn, GoOnWithin, LatestGoesOn}
 use Rattle.teg_due.specs.RowNames.{is_input, is_input_role}
 use Rattle.teg_due.proofs.DueRules.{no_input}
 use Rattle.walks_by_ends.specs.EndForms.{IsEndForm, end_form, times_from_end}
-use Rattle.walks_by_ends.specs.LatestTimes.{AreMostSteps, AreWays, InputWays, IsEvenPast, latest_form, latest_row, latest_to, walk_date, way_at, way_date}
+use Rattle.walks_by_ends.specs.LatestTimes.{AreMostSteps, AreWays, InputWays, IsEvenPast, IsMostStep, latest_form, latest_row, latest_to, walk_date, way_at, way_date}
 
 -- 1 divides every number
 one_divides : (m : ℕ) → 1 ∣ m
@@ -161,10 +162,11 @@ module _ (w : InputWays) (ok : AreWays w) where
         (
           step_of_form (end_form w.ends (way_at w i.0).to.index) t,
           subst (λ (q : PlaceId). GoesOn (date_by (times_from_end w.ends) (place_at net q) t) even.from 1 (step_of_form (end_form w.ends (way_at w i.0).to.index) t)) i.2 later,
-          (most.each t inner.0).most i.0 i.1,
+          (most.each t inner.0).most inner.1 i.0 i.1,
         )
 
     from_there : (t : ℕ) → IsInner net t → GoesOn (walk_date w t) even.from 1 (step t)
+    unfolding step
     from_there t inner =
         latest net u t z (walk_date w t) (λ k o. rw (inner_date t k inner.1) (latest_at t k)) even.from 1 (step t) (omega arith) (within t inner) even.from (omega arith)
         (λ k l m. let is : k ≡ even.from + 1 = omega (arith, l, m) in subst (λ (j : ℕ). walk_date w t (j + 1) ≡ move (step t) (walk_date w t j)) (sym is) (even.once t inner.0))
@@ -234,3 +236,32 @@ module _ (w : InputWays) (ok : AreWays w) where
     pub told_form : IsTransferOf net u (latest_form w after steps)
     unfolding f n
     told_form = (walk_date w, times, record { stands = stands; least_period = least.least_period; least_after = least.least_after })
+
+-- ---- what the form tells, row by row
+
+pub rows_wide : (w : InputWays) (after : ℕ) (steps : List ℤ) → length (latest_form w after steps).rows ≡ length w.net.transitions
+rows_wide w after steps = length-map-range_with_len (latest_row w after) 0 (length w.net.transitions)
+
+pub row_told : (w : InputWays) (after : ℕ) (steps : List ℤ) (t : ℕ) → t < length w.net.transitions → row_of (latest_form w after steps) t ≡ latest_row w after t
+row_told w after steps t l = get_or-map-range_with_len (latest_row w after) 0 (length w.net.transitions) t t [] l (omega arith)
+
+-- so many dates of a transition
+abbrev pub dates_to : InputWays → ℕ → ℕ → List Date
+dates_to w t n = map (λ k. walk_date w t (k + 1)) (range_with_len 0 n)
+
+pub date_more : (w : InputWays) (t n : ℕ) → dates_to w t (n + 1) ≡ dates_to w t n ++ walk_date w t (n + 1) ∷ []
+date_more w t n = map-range_with_len_more (λ k. walk_date w t (k + 1)) 0 n n (omega arith)
+
+-- one step more
+pub steps_more : (w : InputWays) (old : List ℤ) (x : ℤ) (n : ℕ) → length old ≡ n → ((t : ℕ) → t < n → IsMostStep w t (slice_index_or old t (pos 0))) → IsMostStep w n x
+    → (length (old ++ x ∷ []) ≡ n + 1) × ((t : ℕ) → t < n + 1 → IsMostStep w t (slice_index_or (old ++ x ∷ []) t (pos 0)))
+steps_more w old x n long each is = (
+  omega (arith, long, length-append old (x ∷ [])),
+  λ t l. ⊎_elim
+      (λ (h : t < n). subst (IsMostStep w t) (sym (get_or_append_left old (x ∷ []) (pos 0) t (omega (arith, h, long)))) (each t h))
+      (λ (h : n ≤ t).
+      let same : t ≡ length old = omega (arith, l, h, long) in
+      let here : slice_index_or (old ++ x ∷ []) t (pos 0) ≡ x = ap (λ (j : ℕ). slice_index_or (old ++ x ∷ []) j (pos 0)) same ∙ get_or-append_seam old x [] (pos 0) in
+      subst (IsMostStep w t) (sym here) (subst (λ (j : ℕ). IsMostStep w j x) (omega (arith, l, h)) is))
+      (cases_lt t n),
+)

@@ -29,12 +29,19 @@ end_forms forms ends = record { forms = forms; ends = ends }
 abbrev pub no_form : SettledForm
 no_form = record { after = 0; period = 0; rows = []; steps = [] }
 
--- the form that is kept, and whether one is
+-- the form that is kept
 abbrev pub form_at : List SettledForm → End → SettledForm
 form_at forms Open = no_form
 form_at forms (Kept i) = get_or forms i no_form
 form_at forms Dear = no_form
 
+-- what is said to stand in the list stands there
+abbrev pub IsSoundAt : List SettledForm → End → Type 0
+IsSoundAt forms Open = ⊤
+IsSoundAt forms (Kept i) = i < length forms
+IsSoundAt forms Dear = ⊤
+
+-- whether one is kept
 abbrev pub IsKeptAt : List SettledForm → End → Type 0
 IsKeptAt forms Open = ⊥
 IsKeptAt forms (Kept i) = i < length forms
@@ -54,4 +61,5 @@ times_from_end a e t k = settled_date (end_form a e) t k
 -- something is known of each transition of the net, and the forms that are kept are those of the times from there
 pub record AreEndsOf (net : NetLists) (a : EndForms) : Type 0 where
   pub wide : length a.ends ≡ length net.transitions
+  pub sound : (e : ℕ) → e < length net.transitions → IsSoundAt a.forms (slice_index_or a.ends e Open)
   pub each : (e : ℕ) → e < length net.transitions → IsKeptEnd a e → IsEndForm net e (end_form a e)

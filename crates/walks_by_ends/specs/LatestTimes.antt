@@ -54,10 +54,10 @@ walk_date w t k = if is_input w.net t
     then (if t == w.input.index then At (pos 0) else Early)
     else latest_to w t k (length w.places)
 
--- the step is 0 at an input, and else at most that of no end exceeds it
+-- the step is 0 at an input, and else that of no end exceeds it
 pub record IsMostStep (w : InputWays) (t : ℕ) (step : ℤ) : Type 0 where
   pub still : IsInput w.net t → step ≡ pos 0
-  pub most : (i : ℕ) → i < length w.places → step_of_form (end_form w.ends (way_at w i).to.index) t ≤ℤ step
+  pub most : (IsInput w.net t → ⊥) → (i : ℕ) → i < length w.places → step_of_form (end_form w.ends (way_at w i).to.index) t ≤ℤ step
 
 -- these are such steps of all transitions
 pub record AreMostSteps (w : InputWays) (steps : List ℤ) : Type 0 where

@@ -47,6 +47,7 @@ impl<'a> LatestTimes<'a> {
     pub(crate) fn period(&self) -> u64
         ensures { result ≡ self.now.period }
     {
+        let _after = self.after;
         1
     }
 

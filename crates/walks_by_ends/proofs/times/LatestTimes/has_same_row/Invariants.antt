@@ -1,9 +1,6 @@
-use Rattle.std.proofs.Common.{◌+◌, ◌≡◌, map}
-use Rattle.std.specs.List.{range_with_len}
-use Rattle.walks_by_ends.specs.LatestTimes.{walk_date}
+use Rattle.std.proofs.Common.{◌≡◌}
+use Rattle.walks_by_ends.proofs.Told.{dates_to}
 use Rattle.walks_by_ends.proofs.times.LatestTimes.has_same_row.Given as goal
 
 abbrev pub invariant-loop-number : goal.invariant-loop-number
-invariant-loop-number l =
-    map (λ k. walk_date l.self-inside.ways l.first.index (k + 1)) (range_with_len 0 l.number)
-    ≡ map (λ k. walk_date l.self-inside.ways l.other.index (k + 1)) (range_with_len 0 l.number)
+invariant-loop-number l = dates_to l.self-inside.ways l.first.index l.number ≡ dates_to l.self-inside.ways l.other.index l.number
