@@ -1,6 +1,7 @@
 //! The text of the times from the inputs of a live net to its outputs, one input after another.
 ghost use Rattle.std.specs.Prelude.{◌≡◌, ◌≤◌, ◌<◌, ◌++◌, [], All, IfErr, IfOk, drop, length, string_bytes};
 ghost use Rattle.teg_lags.specs.Lags.{AreLeaving};
+ghost use Rattle.walks_by_ends.specs.EndForms.{AreEndsOf};
 ghost use Rattle.teg_net.specs.declared.entries.Role.TheVariants.{Input, Output};
 ghost use Rattle.teg_net.specs.Nets.{IsInput};
 ghost use Rattle.teg_report.specs.AnswerMeanings.{times_from};
@@ -110,9 +111,11 @@ fn tell_next(
     requires leaving { AreLeaving net.now asked.now.leaving }
     requires limit { asked.now.limit ≤ greatest_limit }
     requires kept { AreInputTimes net.now asked.now.limit told.kept.items }
+    requires ends { AreEndsOf net.now told.ends }
     ensures text { IfOk result (λ next. IsToldBehind net.now asked.now.limit input told.text.items
         next.text.items) }
     ensures kept { IfOk result (λ next. AreInputTimes net.now asked.now.limit next.kept.items) }
+    ensures ends { IfOk result (λ next. AreEndsOf net.now next.ends) }
     ensures too_long { IfErr result (IsRightSettleRefusal (TimesSettlePast net.now asked.now.limit)
         asked.now.limit) }
 {
@@ -146,6 +149,7 @@ fn tell_all(
     requires leaving { AreLeaving net.now asked.now.leaving }
     requires limit { asked.now.limit ≤ greatest_limit }
     requires none { first.kept.items ≡ [] }
+    requires ends { AreEndsOf net.now first.ends }
     ensures text { IfOk result (λ text. AreToldBehind net.now asked.now.limit inputs.now
         first.text.items text.items) }
     ensures too_long { IfErr result (IsRightSettleRefusal (TimesSettlePast net.now asked.now.limit)
