@@ -640,6 +640,32 @@ def paired_rows(count, lead=19_000, due=10**9):
             DONE, "latest inputs forever\n" + "".join(f"input u{k} {date} period 1 step 11\n" for k, date in enumerate(dates)))
 
 
+def two_ways(inputs, lead=9_900):
+    """Inputs with two ways each, the second held longer from each to the next, before 4,000 places that no date waits for."""
+    names, rest = [f"u{k}" for k in range(inputs)], [f"x{k}" for k in range(396 - inputs)]
+    places = [(f"ua{k}", name, "a", 0, 0) for k, name in enumerate(names)] + [(f"ud{k}", name, "d", k, 0) for k, name in enumerate(names)]
+    places += [("aa", "a", "a", 10, 1), ("dd", "d", "d", 11, 1), ("ac", "a", "c", lead, 0), ("dc", "d", "c", 0, 0), ("cy", "c", "y", 0, 0)]
+    places += [(f"r{k}", end, start, 0, 0) for k, (end, start) in enumerate(zip(["c"] + rest, rest))]
+    pairs = ((start, end) for step in range(1, len(rest)) for start, end in zip(rest, rest[step:]))
+    places += [(f"q{k}", start, end, 0, 1) for k, (start, end) in zip(range(4_000 - len(places)), pairs)]
+    return Net(names + ["y", "a", "d", "c"] + rest, places, names, ["y"])
+
+
+def two_way_cases(inputs, lead=9_900, due=10**6):
+    """`transfer` and `forever` of these: the first way begins slowly and the second gains on it by 1 a number, as due dates do."""
+    net = two_ways(inputs, lead).text()
+    yield (f"forever: {inputs} inputs with two ways each before 4,000 places", ["forever", "net", "rows"], {"net": net, "rows": f"y,1,11,{due}\n"},
+           DONE, "latest inputs forever\n" + "".join(f"input u{k} {due - max(lead, k)} period 1 step 11\n" for k in range(inputs)))
+    yield (f"transfer: {inputs} inputs with two ways each before 4,000 places", ["transfer", "net"], {"net": net}, DONE,
+           partial(two_way_times, inputs, lead))
+
+
+def two_way_times(inputs, lead):
+    return f"transfer of {inputs} inputs to 1 outputs\n" + "".join(
+        f"from u{k} settled after {lead - k} period 1\nto y {row(max(10 * j + lead, 11 * j + k) for j in range(lead - k + 1))} step 11\n"
+        for k in range(inputs))
+
+
 def steady_rows(count, every, gap=3_601, first=10**8):
     """A row for each machine, due so far apart."""
     dates = ",".join(str(first + gap * k) for k in range(every))
@@ -688,6 +714,7 @@ def dear_cases():
     """What may take longer."""
     yield overtaken_inputs(20, 9_900)
     yield overtaken_inputs(200, 9_900)
+    yield from two_way_cases(50)
     yield from dear_series()
     yield ("forever: 100 inputs with other holds each and 135 rows of 10,000 dates behind a long chain", ["forever", "net", "rows"],
            {"net": long_chain(100, 135, 1).text(), "rows": chain_rows(135, 99)}, DONE, partial(chain_text, 100, 99, 1))

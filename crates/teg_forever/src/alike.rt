@@ -6,10 +6,10 @@ ghost use Rattle.teg_forever.specs.Divisions.{AreDivisions, IsAsBefore};
 use crate::asked::InputRows;
 use crate::divisions::Divisions;
 use teg_net::TransitionId;
-use teg_settle::WalkDates;
+use walks_by_ends::InputTimes;
 
 // Whether the form tells the same dates of two transitions.
-fn have_same_walks(settled: &WalkDates, first: TransitionId, other: TransitionId) -> bool
+fn have_same_walks(settled: &InputTimes<'_>, first: TransitionId, other: TransitionId) -> bool
     requires first { first.index < length settled.now.rows }
     requires other { other.index < length settled.now.rows }
     ensures { IsTrue result → HaveSameWalks settled.now first.index other.index }

@@ -8,7 +8,7 @@ use endless_due::EndlessRow;
 use std::marker::Model;
 use teg_check::Live;
 use teg_net::{Net, PlacesOf, TransitionId};
-use teg_settle::WalkDates;
+use walks_by_ends::InputTimes;
 
 // Endless due dates of a live net. Contracts see the ranks with them.
 #[derive(Drop)]
@@ -93,7 +93,7 @@ impl<'a> DueRows<'a> {
 #[derive(Drop)]
 pub(crate) struct InputRows<'a> {
     net: &'a Net,
-    settled: &'a WalkDates,
+    settled: &'a InputTimes<'a>,
     input: TransitionId,
     rows: &'a [EndlessRow],
 }
@@ -112,7 +112,7 @@ impl<'a> InputRows<'a> {
     // The input with this form.
     pub(crate) fn new(
         net: &'a Net,
-        settled: &'a WalkDates,
+        settled: &'a InputTimes<'a>,
         input: TransitionId,
         rows: &'a [EndlessRow],
     ) -> InputRows<'a>
@@ -128,7 +128,7 @@ impl<'a> InputRows<'a> {
     }
 
     // The settled form of the walk times.
-    pub(crate) fn settled(&self) -> &WalkDates
+    pub(crate) fn settled(&self) -> &InputTimes<'a>
         ensures value { result.now ≡ self.now.settled }
         ensures asked { IsAskedWith self.now }
     {

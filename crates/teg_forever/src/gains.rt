@@ -18,7 +18,7 @@ use series_form::{Series, SeriesRefused};
 use series_ops::Gain;
 use std::alloc::{AllocError, Global};
 use teg_net::{OutOfMemory, TransitionId};
-use teg_settle::WalkDates;
+use walks_by_ends::InputTimes;
 
 // The listed dates.
 fn listed(alloc: Global, dates: &[u64]) -> Result<Vec<Date>, AllocError>
@@ -56,7 +56,7 @@ pub(crate) fn due_gain(alloc: Global, row: &EndlessRow) -> Result<Gain, OutOfMem
 // The series of the dates that a form tells of a transition.
 fn told_series(
     alloc: Global,
-    settled: &WalkDates,
+    settled: &InputTimes<'_>,
     transition: TransitionId,
 ) -> Result<Series, SeriesRefused>
     requires transition { transition.index < length settled.now.rows }

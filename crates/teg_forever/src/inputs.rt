@@ -1,6 +1,7 @@
 //! The latest releases of the inputs, one by one.
 ghost use Rattle.std.specs.Prelude.{◌<◌, length, IfOk, IfErr, IfSome, OnOk};
 ghost use Rattle.teg_net.specs.Nets.{IsInput};
+ghost use Rattle.walks_by_ends.specs.EndForms.{AreEndsOf};
 ghost use Rattle.teg_forever.specs.Asked.{AreMetAtZero};
 ghost use Rattle.teg_forever.specs.InputAnswers.{AreReleasesBelow, IsFineRelease, IsReleaseBy, IsStopped};
 ghost use Rattle.teg_forever.specs.Divisions.{AreDivisions};
@@ -17,7 +18,8 @@ use series_form::Series;
 use std::alloc::Global;
 use teg_due::is_input;
 use teg_net::{OutOfMemory, TransitionId};
-use teg_settle::{SettleRefusal, transfer_dates, walk_times_settle};
+use teg_settle::{SettleRefusal, walk_times_settle};
+use walks_by_ends::{Ends, walk_times_of};
 
 // The longest settled form of walk times that is taken.
 const LONGEST_FORM: u32 = 20_000;
@@ -38,8 +40,10 @@ fn release_of(
     alloc: Global,
     due: &DueRows<'_>,
     input: TransitionId,
+    ends: &Ends,
     divisions: &mut Divisions,
 ) -> Result<Release, ForeverRefusal>
+    requires ends { AreEndsOf due.now.net ends.now }
     requires meet { AreMetAtZero due.now }
     requires input { IsInput due.now.net input.index }
     requires divisions { AreDivisions due.now.rows divisions.old }
@@ -48,7 +52,15 @@ fn release_of(
     ensures stopped { IfErr result (IsStopped due.now.net due.now.rows input) }
 {
     let (net, rows) = (due.net(), due.rows());
-    let settled = match transfer_dates(alloc, net, due.live(), input, LONGEST_FORM) {
+    let settled = match walk_times_of(
+        alloc,
+        net,
+        due.live(),
+        due.leaving(),
+        ends,
+        input,
+        LONGEST_FORM,
+    ) {
         Ok(settled) => settled,
         Err(SettleRefusal::TooLong { .. }) => return Err(ForeverRefusal::TooLong { input }),
         Err(SettleRefusal::OutOfMemory) => return Err(ForeverRefusal::OutOfMemory),
@@ -92,6 +104,7 @@ pub(crate) fn releases_of(alloc: Global, due: &DueRows<'_>) -> Result<Vec<Releas
     ensures stopped { IfErr result (ForeverRefused due.now.net due.now.rows) }
 {
     let mut divisions = Divisions::new(alloc, due.rows())?;
+    let mut ends = Ends::new(alloc, due.net())?;
     let mut releases = Vec::new(alloc);
     for index in 0..due.net().transitions().len() as u32 {
         let input = TransitionId { index };
@@ -101,7 +114,10 @@ pub(crate) fn releases_of(alloc: Global, due: &DueRows<'_>) -> Result<Vec<Releas
         let another = release_by_another(alloc, due, input, releases.as_slice())?;
         let release = match another {
             Some(release) => release,
-            None => release_of(alloc, due, input, &mut divisions)?,
+            None => {
+                ends.settle_input(alloc, due.net(), due.live(), due.leaving(), input)?;
+                release_of(alloc, due, input, &ends, &mut divisions)?
+            }
         };
         if releases.push(release).is_err() {
             return Err(ForeverRefusal::OutOfMemory);

@@ -1,6 +1,7 @@
 //! The text of the times from the inputs of a live net to its outputs, one input after another.
 ghost use Rattle.std.specs.Prelude.{◌≡◌, ◌≤◌, ◌<◌, ◌++◌, [], All, IfErr, IfOk, drop, length, string_bytes};
 ghost use Rattle.teg_lags.specs.Lags.{AreLeaving};
+ghost use Rattle.walks_by_ends.specs.EndForms.{AreEndsOf};
 ghost use Rattle.teg_net.specs.declared.entries.Role.TheVariants.{Input, Output};
 ghost use Rattle.teg_net.specs.Nets.{IsInput};
 ghost use Rattle.teg_report.specs.AnswerMeanings.{times_from};
@@ -17,6 +18,7 @@ use teg_check::LiveNet;
 use teg_lags::lag_between;
 use teg_net::{Net, OutOfMemory, PlaceEnd, PlacesOf, Role, TransitionId};
 use teg_report::{Answer, TransferFrom, report};
+use walks_by_ends::Ends;
 use teg_settle::SettleRefusal;
 
 // How many outputs the net has.
@@ -90,6 +92,7 @@ fn is_asked_again(
 struct Told {
     text: Vec<u8>,
     kept: Vec<TransferFrom>,
+    ends: Ends,
 }
 
 // The text with the times from one input more. They are kept where they are its own and a later
@@ -108,15 +111,24 @@ fn tell_next(
     requires leaving { AreLeaving net.now asked.now.leaving }
     requires limit { asked.now.limit ≤ greatest_limit }
     requires kept { AreInputTimes net.now asked.now.limit told.kept.items }
+    requires ends { AreEndsOf net.now told.ends }
     ensures text { IfOk result (λ next. IsToldBehind net.now asked.now.limit input told.text.items
         next.text.items) }
     ensures kept { IfOk result (λ next. AreInputTimes net.now asked.now.limit next.kept.items) }
+    ensures ends { IfOk result (λ next. AreEndsOf net.now next.ends) }
     ensures too_long { IfErr result (IsRightSettleRefusal (TimesSettlePast net.now asked.now.limit)
         asked.now.limit) }
 {
     let mut told = told;
     let held = net.net();
-    let next = next_times(alloc, net, asked, input, told.kept.as_slice())?;
+    let next = next_times(
+        alloc,
+        net,
+        asked,
+        &mut told.ends,
+        input,
+        told.kept.as_slice(),
+    )?;
     push_times(alloc, &mut told.text, held, &next.0)?;
     if next.1 && is_asked_again(held, &asked.leaving, input, later) {
         keep(&mut told.kept, next.0)?;
@@ -137,6 +149,7 @@ fn tell_all(
     requires leaving { AreLeaving net.now asked.now.leaving }
     requires limit { asked.now.limit ≤ greatest_limit }
     requires none { first.kept.items ≡ [] }
+    requires ends { AreEndsOf net.now first.ends }
     ensures text { IfOk result (λ text. AreToldBehind net.now asked.now.limit inputs.now
         first.text.items text.items) }
     ensures too_long { IfErr result (IsRightSettleRefusal (TimesSettlePast net.now asked.now.limit)
@@ -174,6 +187,7 @@ pub fn transfer_text(alloc: Global, net: &LiveNet, limit: u32) -> Result<Vec<u8>
     let first = Told {
         text: line.into_bytes(),
         kept: Vec::new(alloc),
+        ends: Ends::new(alloc, net.net())?,
     };
     tell_all(alloc, net, &asked, first, inputs.as_slice())
 }

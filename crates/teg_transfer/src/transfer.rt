@@ -1,6 +1,7 @@
 //! The times from the inputs of a live net to its outputs.
 ghost use Rattle.std.specs.Prelude.{◌≡◌, ◌≤◌, ◌<◌, ◌++◌, ◌∷◌, [], Some, All, IfErr, IfOk, IfSome, OnOk, length, map};
 ghost use Rattle.teg_lags.specs.Lags.{AreLeaving};
+ghost use Rattle.walks_by_ends.specs.EndForms.{AreEndsOf};
 ghost use Rattle.teg_transfer.specs.MovedTimes.{AreMovedFrom, AreMovedFromOne, line_moved, times_moved};
 ghost use Rattle.teg_transfer.specs.TimesFromInputs.{AreTimesFrom, IsTimesFrom, TimesSettlePast, has_transition_role, those_of_role, times_in};
 ghost use Rattle.teg_net.specs.declared.entries.Role.TheVariants.{Output};
@@ -15,7 +16,8 @@ use teg_check::LiveNet;
 use teg_lags::lag_between;
 use teg_net::{Net, OutOfMemory, PlaceEnd, PlacesOf, Role, TransitionId};
 use teg_report::{TransferFrom, TransferLine};
-use teg_settle::{SettleRefusal, WalkDates, transfer_dates, walk_times_settle};
+use teg_settle::{SettleRefusal, walk_times_settle};
+use walks_by_ends::{Ends, InputTimes, walk_times_of};
 
 // Puts something at the end of a list.
 pub(crate) fn keep<T: Drop>(list: &mut Vec<T>, item: T) -> Result<(), AllocError>
@@ -54,7 +56,7 @@ pub(crate) fn those_of_role(
 // Of a settled form what goes to one transition.
 fn times_in(
     alloc: Global,
-    settled: &WalkDates,
+    settled: &InputTimes<'_>,
     to: TransitionId,
 ) -> Result<TransferLine, OutOfMemory>
     requires { to.index < length settled.now.rows }
@@ -68,7 +70,7 @@ fn times_in(
 // Of a settled form what goes to each of these transitions.
 fn times_to_all(
     alloc: Global,
-    settled: &WalkDates,
+    settled: &InputTimes<'_>,
     those: &[TransitionId],
 ) -> Result<Vec<TransferLine>, OutOfMemory>
     requires { All (λ t. t.index < length settled.now.rows) those.now }
@@ -86,19 +88,30 @@ fn times_to_all(
 fn times_from(
     alloc: Global,
     net: &LiveNet,
+    asked: &Asked,
+    ends: &Ends,
     input: TransitionId,
-    outputs: &[TransitionId],
-    limit: u32,
 ) -> Result<TransferFrom, SettleRefusal>
     requires input { IsInput net.now input.index }
-    requires outputs { outputs.now ≡ those_of_role net.now Output }
-    requires limit { limit ≤ greatest_limit }
+    requires outputs { asked.now.outputs.items ≡ those_of_role net.now Output }
+    requires leaving { AreLeaving net.now asked.now.leaving }
+    requires limit { asked.now.limit ≤ greatest_limit }
+    requires ends { AreEndsOf net.now ends.now }
     ensures from { IfOk result (λ from. from.from ≡ input) }
-    ensures times { IfOk result (λ from. IsTimesFrom net.now limit (times_from from)) }
-    ensures too_long { IfErr result (IsRightSettleRefusal (TimesSettlePast net.now limit) limit) }
+    ensures times { IfOk result (λ from. IsTimesFrom net.now asked.now.limit (times_from from)) }
+    ensures too_long { IfErr result (IsRightSettleRefusal (TimesSettlePast net.now asked.now.limit)
+        asked.now.limit) }
 {
-    let settled = transfer_dates(alloc, net.net(), net.live(), input, limit)?;
-    let lines = times_to_all(alloc, &settled, outputs)?;
+    let settled = walk_times_of(
+        alloc,
+        net.net(),
+        net.live(),
+        &asked.leaving,
+        ends,
+        input,
+        asked.limit,
+    )?;
+    let lines = times_to_all(alloc, &settled, asked.outputs.as_slice())?;
     Ok(TransferFrom {
         from: input,
         after: settled.after(),
@@ -254,15 +267,18 @@ pub(crate) fn next_times(
     alloc: Global,
     net: &LiveNet,
     asked: &Asked,
+    ends: &mut Ends,
     input: TransitionId,
     times: &[TransferFrom],
 ) -> Result<(TransferFrom, bool), SettleRefusal>
+    requires ends { AreEndsOf net.now ends.old }
     requires input { IsInput net.now input.index }
     requires outputs { asked.now.outputs.items ≡ those_of_role net.now Output }
     requires leaving { AreLeaving net.now asked.now.leaving }
     requires limit { asked.now.limit ≤ greatest_limit }
     requires inputs { All (λ from. IsInput net.now from.from.index) times.now }
     requires times { All (λ from. IsTimesFrom net.now asked.now.limit (times_from from)) times.now }
+    ensures ends { OnOk result (AreEndsOf net.now ends.new) }
     ensures from { IfOk result (λ next. next.0.from ≡ input) }
     ensures times { IfOk result (λ next. IsTimesFrom net.now asked.now.limit (times_from next.0)) }
     ensures too_long { IfErr result (IsRightSettleRefusal (TimesSettlePast net.now asked.now.limit)
@@ -275,7 +291,8 @@ pub(crate) fn next_times(
     match times_by_another(alloc, held, &asked.leaving, input, times)? {
         Some(from) => Ok((from, false)),
         None => {
-            let from = times_from(alloc, net, input, asked.outputs.as_slice(), asked.limit)?;
+            ends.settle_input(alloc, held, net.live(), &asked.leaving, input)?;
+            let from = times_from(alloc, net, asked, ends, input)?;
             Ok((from, true))
         }
     }
@@ -306,9 +323,10 @@ pub fn transfer_times(
         leaving,
         limit,
     };
+    let mut ends = Ends::new(alloc, net.net())?;
     let mut times = Vec::new(alloc);
     for input in &inputs {
-        let next = next_times(alloc, net, &asked, *input, times.as_slice())?;
+        let next = next_times(alloc, net, &asked, &mut ends, *input, times.as_slice())?;
         keep(&mut times, next.0)?;
     }
     Ok(times)

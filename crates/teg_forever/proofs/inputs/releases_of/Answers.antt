@@ -34,6 +34,6 @@ loop-index-preserved c =
     elim c.match-another.branch [
       | in-Some w ↦
           let fine = subst (λ (o : Option Release). IfSome o (IsFineRelease m.net m.rows n)) w.in-Some.is c.in_ok-another.ensures in
-          record { below = rw (added, w.release-is) (rw w.release-is at more fine); divisions = rw w.divisions-is c.loop-index.invariant.divisions }
+          record { below = rw (added, w.release-is) (rw w.release-is at more fine); divisions = rw w.divisions-is c.loop-index.invariant.divisions; ends = rw w.ends-is c.loop-index.invariant.ends }
       | in-None+in_ok-release-in-None w ↦ search rules
     ]

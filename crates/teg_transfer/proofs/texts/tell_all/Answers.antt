@@ -11,7 +11,7 @@ pub loop-index-init : goal.loop-index-init
 loop-index-init c =
     let net = c.args.net.now in
     let limit = c.args.asked.now.limit in
-    (none_told net limit c.args.first.text.items, rw c.requires.none (no_times net limit))
+    (none_told net limit c.args.first.text.items, rw c.requires.none (no_times net limit), c.requires.ends)
 
 pub tell_next-requires-clause-input : goal.tell_next-requires-clause-input
 tell_next-requires-clause-input c =
@@ -31,12 +31,16 @@ tell_next-requires-clause-later c =
 pub tell_next-requires-clause-kept : goal.tell_next-requires-clause-kept
 tell_next-requires-clause-kept c = c.loop-index.invariant.1
 
+pub tell_next-requires-clause-ends : goal.tell_next-requires-clause-ends
+tell_next-requires-clause-ends c = c.loop-index.invariant.2
+
 pub loop-index-preserved : goal.loop-index-preserved
 loop-index-preserved c =
     let k = c.loop-index.index in
     let lt : k < length c.args.inputs.now = omega (arith, c.loop-index-test.true, c.loop-index.auto.index-end) in (
       one_told c.args.net.now c.args.asked.now.limit k c.args.inputs.now _ c.args.first.text.items c.loop-index.told.text.items _ lt c.loop-index.invariant.0 c.in_ok-told.ensures.text,
       c.in_ok-told.ensures.kept,
+      c.in_ok-told.ensures.ends,
     )
 
 pub returns-clause-text : goal.returns-clause-text

@@ -25,6 +25,7 @@ pub loop-input-preserved : goal.loop-input-preserved
 loop-input-preserved c =
     let longer : map times_from c.keep.new.list.items ≡ map times_from c.loop-input.times.items ++ times_from c.in_ok-next.next.0 ∷ [] =
     ap (map times_from) c.in_ok-keep.ensures ∙ map-append times_from c.loop-input.times.items (c.in_ok-next.next.0 ∷ []) in
-    one_input_more c.args.net.now c.args.limit c.loop-input.input-index c.deref-input-items.result.now _
+    let two = one_input_more c.args.net.now c.args.limit c.loop-input.input-index c.deref-input-items.result.now _
     (map times_from c.loop-input.times.items) _ (times_from c.in_ok-next.next.0) c.loop-input-test.true
-    c.loop-input.invariant.0 c.loop-input.invariant.1 c.in_ok-next.ensures.from c.in_ok-next.ensures.times longer
+    c.loop-input.invariant.0 c.loop-input.invariant.1 c.in_ok-next.ensures.from c.in_ok-next.ensures.times longer in
+    (two.0, two.1, c.in_ok-next.ensures.ends)

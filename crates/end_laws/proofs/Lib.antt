@@ -1,0 +1,3 @@
+pub mod ByEnds
+pub mod LedNets
+pub mod Latest

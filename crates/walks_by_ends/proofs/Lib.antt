@@ -1,0 +1,3 @@
+mod FormsOfEnds
+mod Keeping
+mod Told
