@@ -59,7 +59,8 @@ impl Auditor for AllAnswers {
 /// more (`IsListFound` of `pace_audit`, `IsPlanFound`): the line that is told is the first that is
 /// wrong, and in a live net neither is written of a list only where the text is none, of a table only
 /// where it is none, where the rows are no due list, or where its dates are all right and there is a
-/// plan.
+/// plan. Of cycle times with rounds the line that is told is the first of the first round that is
+/// another (`IsRoundsFound`).
 pub fn audit<S: Shelf, W: Sink>(
     alloc: Global,
     words: &[String],
