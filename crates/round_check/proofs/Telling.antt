@@ -1,12 +1,16 @@
 -- Runs of the parts of an answer, part by part: that they can be told, and where one is another.
-use Rattle.std.proofs.Common.{ℕ, suc, ◌+◌, ◌<◌, ◌≡◌, ◌≢◌, ◌++◌, List, [], ◌∷◌, map, length, get_or, take, drop, refl, sym, ap, subst, ◌∙◌, arith, ⊎_elim}
-use Rattle.std.proofs.lemmas.List.{drop_more, length-map, length-take-le, take-append-drop, take_more}
+use Rattle.std.proofs.Common.{ℕ, suc, ◌+◌, ◌<◌, ◌≤◌, ◌≡◌, ◌≢◌, ◌++◌, List, [], ◌∷◌, map, length, get_or, take, drop, refl, sym, ap, subst, ◌∙◌, arith, ⊎_elim}
+use Rattle.std.proofs.Math.Seq.{drop-length, take-length}
+use Rattle.std.proofs.lemmas.List.{drop_more, get_or-map, length-map, length-take-le, take-append-drop, take_more}
 use Rattle.std.proofs.lemmas.List.Elements.{All-cons, All-map}
 use Rattle.std.proofs.lemmas.Simd.{map-map}
 use Rattle.std.specs.Global.{Vec}
 use Rattle.teg_net.specs.declared.answers.PartAnswer.{PartAnswer}
+use Rattle.teg_net.specs.declared.answers.Potential.{Potential}
 use Rattle.teg_net.specs.declared.answers.PartAnswer.TheVariants.{NoCircuit, Best}
 use Rattle.teg_net.specs.declared.rounds.Round.{Round}
+use Rattle.teg_net.specs.declared.circuits.Circuit.{Circuit}
+use Rattle.teg_net.specs.Ratios.{Fraction}
 use Rattle.teg_net.specs.Nets.{NetLists}
 use Rattle.teg_net.proofs.PathLaws.{IsPathBetween-in_range}
 use Rattle.policy_rounds.specs.PolicyRounds.{IsPolicyRun, IsRound}
@@ -14,12 +18,12 @@ use Rattle.policy_rounds.proofs.ListedChoices.{only_members}
 use Rattle.policy_rounds.proofs.OneRun.{each_round}
 use Rattle.teg_lines.specs.CycleLines.{ToldPart, NoCircuitIn, BestOf}
 use Rattle.teg_lines.specs.CycleMeanings.{part_lists, round_lists, runs_lists}
-use Rattle.teg_lines.specs.RoundLines.{AreRunsTold, IsRoundIn, IsRunIn, circuits_in}
+use Rattle.teg_lines.specs.RoundLines.{AreRunsTold, IsRoundIn, IsRunIn, RoundLists, circuits_in}
 use Rattle.policy_rounds.specs.LastRounds.{AreRunsFrom, rounds_of_runs}
 use Rattle.round_check.specs.OtherRounds.{IsOtherAt, IsOtherRound}
 use Rattle.round_check.specs.Rounds.{AreBegun}
 use Rattle.round_check.specs.ShownRounds.{EndsIn}
-use Rattle.round_check.specs.ToldRounds.{GoOn, runs_of_part}
+use Rattle.round_check.specs.ToldRounds.{GoOn, HasRounds, runs_of_part}
 use Rattle.round_check.proofs.RoundsFit.{policy_from}
 use Rattle.round_check.proofs.Stepping.{begun_run}
 
@@ -159,6 +163,14 @@ circuits_more [] next = refl
 circuits_more (NoCircuitIn ∷ parts) next = circuits_more parts next
 circuits_more (BestOf ratio circuit potentials ∷ parts) next = ap suc (circuits_more parts next)
 
+pub count_more : (parts : List PartAnswer) (i : ℕ) → i < length parts
+    → circuits_in (take (i + 1) (map part_lists parts)) ≡ circuits_in (take i (map part_lists parts)) + runs_of_part parts i
+count_more parts i l =
+    let lists : List ToldPart = map part_lists parts in
+    ap circuits_in (take_more lists i NoCircuitIn (omega (arith, l, length-map parts part_lists)))
+    ∙ (circuits_more (take i lists) (get_or lists i NoCircuitIn)
+    ∙ ap (λ (p : ToldPart). circuits_in (take i lists) + circuits_in (p ∷ [])) (get_or-map part_lists parts i NoCircuit NoCircuitIn l))
+
 pub circuits_first : (first : ToldPart) (parts : List ToldPart) → circuits_in (first ∷ parts) ≡ circuits_in (first ∷ []) + circuits_in parts
 circuits_first NoCircuitIn parts = refl
 circuits_first (BestOf ratio circuit potentials) parts = refl
@@ -166,3 +178,61 @@ circuits_first (BestOf ratio circuit potentials) parts = refl
 pub one_where_some : (own : PartAnswer) → own ≢ NoCircuit → circuits_in (part_lists own ∷ []) ≡ 1
 one_where_some NoCircuit some = absurd (some refl)
 one_where_some (Best ratio circuit potentials) some = refl
+
+-- the answer of a part with a circuit is one
+pub best_is_some : (own : PartAnswer) (ratio : Fraction) (circuit : Circuit) (potentials : Vec Potential) → own ≡ Best ratio circuit potentials → own ≢ NoCircuit
+best_is_some own ratio circuit potentials e n = let clash : NoCircuit ≡ Best ratio circuit potentials = sym n ∙ e in cc
+
+-- how many runs are left
+left_of : (answers : List PartAnswer) (number : ℕ) → number < length answers
+    → circuits_in (map part_lists (drop number answers)) ≡ runs_of_part answers number + circuits_in (map part_lists (drop (number + 1) answers))
+left_of answers number l =
+    ap (λ (as : List PartAnswer). circuits_in (map part_lists as)) (drop_more answers number NoCircuit l)
+    ∙ circuits_first (part_lists (get_or answers number NoCircuit)) (map part_lists (drop (number + 1) answers))
+
+-- where so many are told and so many left, those with that of this part
+pub left_behind : (answers : List PartAnswer) (number told all : ℕ) → number < length answers → told + circuits_in (map part_lists (drop number answers)) ≡ all
+    → ((told + runs_of_part answers number) + circuits_in (map part_lists (drop (number + 1) answers)) ≡ all) × (told + runs_of_part answers number ≤ all)
+left_behind answers number told all l h = let left = left_of answers number l in (omega (arith, left, h), omega (arith, left, h))
+
+-- a part with a circuit has rounds
+pub has_rounds : (net : NetLists) (answers : List PartAnswer) (runs : List (Vec Round)) (number told : ℕ) → number < length answers
+    → AreRunsTold net (map part_lists answers) (runs_lists runs) → told + circuits_in (map part_lists (drop number answers)) ≡ length runs
+    → get_or answers number NoCircuit ≢ NoCircuit → HasRounds (rounds_of_runs runs) told
+has_rounds net answers runs number told l are h some =
+    let left = left_of answers number l in
+    let one : runs_of_part answers number ≡ 1 = one_where_some (get_or answers number NoCircuit) some in
+    let lists : List (List Round) = rounds_of_runs runs in
+    let many : length lists ≡ length runs = length-map runs (λ run. run.items) in
+    let within : told < length lists = omega (arith, left, one, h, many) in
+    let told_lists : map (map round_lists) lists ≡ runs_lists runs = lists_of runs in
+    let as_many : length (runs_lists runs) ≡ length runs = ap length (sym told_lists) ∙ (length-map lists (map round_lists) ∙ many) in
+    let each : 0 < length (get_or (runs_lists runs) told []) = (are.each told [] (omega (arith, within, many, as_many))).some in
+    let read : get_or (runs_lists runs) told [] ≡ map round_lists (get_or lists told []) =
+    ap (λ (ls : List (List RoundLists)). get_or ls told []) (sym told_lists) ∙ get_or-map (map round_lists) lists told [] [] within in
+    let long : length (get_or (runs_lists runs) told []) ≡ length (get_or lists told []) = ap length read ∙ length-map (get_or lists told []) round_lists in
+    (within, omega (arith, each, long))
+
+-- at the end all runs are told
+pub all_runs : (net : NetLists) (part_of : List ℕ) (answers : List PartAnswer) (runs : List (Vec Round)) (number told : ℕ) → number ≡ length answers
+    → AreRunsFrom net part_of 0 (take number answers) (take told (rounds_of_runs runs)) → told + circuits_in (map part_lists (drop number answers)) ≡ length runs
+    → AreRunsFrom net part_of 0 answers (rounds_of_runs runs)
+all_runs net part_of answers runs number told e h left =
+    let lists : List (List Round) = rounds_of_runs runs in
+    let none : drop number answers ≡ [] = ap (λ (n : ℕ). drop n answers) e ∙ drop-length answers in
+    let no_more : circuits_in (map part_lists (drop number answers)) ≡ 0 = ap (λ (as : List PartAnswer). circuits_in (map part_lists as)) none in
+    let many : told ≡ length lists = omega (arith, left, no_more, length-map runs (λ run. run.items)) in
+    let whole : take number answers ≡ answers = ap (λ (n : ℕ). take n answers) e ∙ take-length answers in
+    let whole_runs : take told lists ≡ lists = ap (λ (n : ℕ). take n lists) many ∙ take-length lists in
+    subst (AreRunsFrom net part_of 0 answers) whole_runs (subst (λ (as : List PartAnswer). AreRunsFrom net part_of 0 as (take told lists)) whole h)
+
+-- how many are told at first
+pub none_told_yet : (net : NetLists) (answers : List PartAnswer) (runs : List (Vec Round)) → AreRunsTold net (map part_lists answers) (runs_lists runs)
+    → 0 + circuits_in (map part_lists (drop 0 answers)) ≡ length runs
+none_told_yet net answers runs are =
+    let many : length (runs_lists runs) ≡ length runs = length-map runs (λ run. map round_lists run.items) in
+    omega (arith, are.full, many)
+
+-- of a run that the code holds
+pub run_of : (runs : List (Vec Round)) (told : ℕ) (run : Vec Round) → told < length runs → run ≡ get_or runs told run → get_or (rounds_of_runs runs) told [] ≡ run.items
+run_of runs told run within is = get_or-map (λ r. r.items) runs told run [] within ∙ ap (λ r. r.items) (sym is)

@@ -149,7 +149,10 @@ fn other_in(
 {
     match &answer.parts[number] {
         PartAnswer::NoCircuit => Ok(None),
-        PartAnswer::Best { .. } => other_round(alloc, net, answer, number, &runs[told]),
+        PartAnswer::Best { .. } => {
+            let other = other_round(alloc, net, answer, number, &runs[told])?;
+            Ok(other)
+        }
     }
 }
 
@@ -173,8 +176,7 @@ pub(crate) fn first_other(
 {
     let mut told = 0;
     for number in 0..answer.parts.len() {
-        let other = other_in(alloc, net, answer, number, runs, told)?;
-        if let Some(round) = other {
+        if let Some(round) = other_in(alloc, net, answer, number, runs, told)? {
             return Ok(Some((number, round)));
         }
         told += circuits_of(&answer.parts[number]);

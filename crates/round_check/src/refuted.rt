@@ -48,16 +48,26 @@ fn lines_of<'t>(alloc: Global, text: &'t str) -> Result<Vec<&'t str>, AllocError
     text.lines().collect(alloc)
 }
 
-// The number of the first line that begins so, counted from 0.
-fn first_so(lines: &[&str], head: &str) -> Option<usize>
+// The number of the first of the lines that begins so, counted from 0.
+fn first_so(lines: &[&str], head: &str) -> Option<u64>
     ensures { IfSome result (IsFirstSo head.now (map (λ x. x.now) lines.now)) }
 {
     for index in 0..lines.len() {
         if begins_so(lines[index], head) {
-            return Some(index);
+            return Some(index as u64);
         }
     }
     None
+}
+
+// The number of the first line of the text that begins as the round does, counted from 0.
+fn line_of(alloc: Global, text: &str, part: usize, round: usize) -> Result<Option<u64>, AllocError>
+    ensures { IfOk result (λ line. IfSome line (IsFirstSo (head_of_round part round) (lines
+        text.now))) }
+{
+    let head = head_of(alloc, part, round)?;
+    let lines = lines_of(alloc, text)?;
+    Ok(first_so(&lines, head.as_str()))
 }
 
 /// The first round of the text of `teg cycle --rounds` that is another than that of the net (chapter
@@ -89,17 +99,11 @@ pub fn refutes_rounds(
     let Some(told) = told_in(alloc, net, text)? else {
         return Ok(None);
     };
-    let Some(at) = first_other(alloc, net, &told.answer, &told.runs)? else {
+    let Some((part, round)) = first_other(alloc, net, &told.answer, &told.runs)? else {
         return Ok(None);
     };
-    let head = head_of(alloc, at.0, at.1)?;
-    let lines = lines_of(alloc, text)?;
-    let Some(line) = first_so(&lines, head.as_str()) else {
+    let Some(line) = line_of(alloc, text, part, round)? else {
         return Ok(None);
     };
-    Ok(Some(OtherRound {
-        part: at.0,
-        round: at.1,
-        line: line as u64,
-    }))
+    Ok(Some(OtherRound { part, round, line }))
 }

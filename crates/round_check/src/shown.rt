@@ -46,8 +46,8 @@ pub fn shown_rounds(alloc: Global, net: &Net, text: &str) -> Result<Option<Ratio
     if !keep_limits(&told.answer) {
         return Ok(None);
     }
-    if first_other(alloc, net, &told.answer, &told.runs)?.is_some() {
-        return Ok(None);
+    match first_other(alloc, net, &told.answer, &told.runs)? {
+        Some(_) => Ok(None),
+        None => Ok(Some(told.ratio)),
     }
-    Ok(Some(told.ratio))
 }

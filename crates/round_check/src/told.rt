@@ -71,7 +71,10 @@ fn are_rounds_in(net: &Net, rounds: &[Round]) -> bool
 fn is_run_in(net: &Net, rounds: &[Round]) -> bool
     ensures { IsTrue result → IsRunIn net.now (map round_lists rounds.now) }
 {
-    rounds.len() != 0 && are_rounds_in(net, rounds)
+    if rounds.len() == 0 {
+        return false;
+    }
+    are_rounds_in(net, rounds)
 }
 
 // Whether each run is so.
@@ -86,7 +89,10 @@ fn are_runs_in(net: &Net, parts: &[PartAnswer], runs: &[Vec<Round>]) -> bool
     ensures { IsTrue result → AreRunsTold net.now (map part_lists parts.now) (runs_lists
         runs.now) }
 {
-    runs.len() == circuits_among(parts) && is_each_in(net, runs)
+    if runs.len() != circuits_among(parts) {
+        return false;
+    }
+    is_each_in(net, runs)
 }
 
 // Whether the whole text is that of these cycle times and of these rounds.
@@ -142,10 +148,14 @@ pub(crate) fn told_in(alloc: Global, net: &Net, text: &str) -> Result<Option<Tol
     let Some(ratio) = best_ratio(&answer) else {
         return Ok(None);
     };
-    if !are_few(&answer.parts) || !are_runs_in(net, &answer.parts, &read.runs) {
+    if !are_few(&answer.parts) {
         return Ok(None);
     }
-    if !is_text_of(alloc, net, text, &answer, ratio, &read.runs)? {
+    if !are_runs_in(net, &answer.parts, &read.runs) {
+        return Ok(None);
+    }
+    let is_whole = is_text_of(alloc, net, text, &answer, ratio, &read.runs)?;
+    if !is_whole {
         return Ok(None);
     }
     Ok(Some(Told {

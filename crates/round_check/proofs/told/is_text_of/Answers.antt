@@ -7,4 +7,3 @@ cycle_text-requires-clause-answer c =
     let answer = c.args.answer.now in
     let k = part_is_named answer.parts.items answer.best c.args.ratio c.requires.best in
     c.certificates_can_be_told.ensures net answer k.0 c.requires.certificate k.1
-

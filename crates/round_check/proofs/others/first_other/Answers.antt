@@ -1,0 +1,16 @@
+use Rattle.std.proofs.Common.{◌≡◌, length, get_or, sym, ap, subst, arith, refl}
+use Rattle.policy_rounds.specs.LastRounds.{AreRunsFrom, rounds_of_runs}
+use Rattle.round_check.proofs.Telling.{all_runs, has_rounds, left_behind, none_told_yet}
+use Rattle.round_check.proofs.others.first_other.Goals as goal
+
+pub loop-number-init : goal.loop-number-init
+loop-number-init c = (refl, none_told_yet c.args.net.now c.args.answer.now.parts.items c.args.runs.now c.requires.told)
+
+pub other_in-requires-clause-told : goal.other_in-requires-clause-told
+other_in-requires-clause-told c = λ some.
+    has_rounds c.args.net.now c.args.answer.now.parts.items c.args.runs.now c.loop-number.number c.loop-number.told c.loop-number-test.true c.requires.told c.loop-number.invariant.1 some
+
+pub returns-clause-none : goal.returns-clause-none
+returns-clause-none c =
+    all_runs c.args.net.now c.args.answer.now.part_of.items c.args.answer.now.parts.items c.args.runs.now c.loop-number.number c.loop-number.told
+    (omega (arith, c.loop-number-test.false)) c.loop-number.invariant.0 c.loop-number.invariant.1
