@@ -5,6 +5,7 @@ use Rattle.std.proofs.lemmas.List.{drop_more, get_or-map, length-map, length-tak
 use Rattle.std.proofs.lemmas.List.Elements.{All-cons, All-map}
 use Rattle.std.proofs.lemmas.Simd.{map-map}
 use Rattle.std.specs.Global.{Vec}
+use Rattle.std.specs.Prelude.{IfNone, IfSome, Option, Some, None}
 use Rattle.teg_net.specs.declared.answers.PartAnswer.{PartAnswer}
 use Rattle.teg_net.specs.declared.answers.Potential.{Potential}
 use Rattle.teg_net.specs.declared.answers.PartAnswer.TheVariants.{NoCircuit, Best}
@@ -115,7 +116,7 @@ module _ (net : NetLists) (part_of : List ℕ) where
       → (rounds : List Round) × (more : List (List Round)) × (runs ≡ rounds ∷ more) × EndsIn net part_of k own rounds
   own_first k NoCircuit after runs some h = absurd (some refl)
   own_first k (Best ratio circuit potentials) after [] some h = absurd h
-  own_first k (Best ratio circuit potentials) after (rounds ∷ more) some h = (rounds, more, refl, h.0, h.1)
+  own_first k (Best ratio circuit potentials) after (rounds ∷ more) some h = (rounds, more, refl, (h.0, h.1))
 
   own_behind : (k : ℕ) (before : List PartAnswer) (own : PartAnswer) (after : List PartAnswer) (first rest : List (List Round)) → own ≢ NoCircuit → AreRunsFrom net part_of k before first
       → AreRunsFrom net part_of k (before ++ own ∷ after) (first ++ rest)
@@ -149,19 +150,22 @@ module _ (net : NetLists) (part_of : List ℕ) where
       let own : PartAnswer = get_or answers part NoCircuit in
       let after : List PartAnswer = drop (part + 1) answers in
       let cut : answers ≡ take part answers ++ own ∷ after = sym (take-append-drop part answers) ∙ ap (λ (l : List PartAnswer). take part answers ++ l) (drop_more answers part NoCircuit o.part_in) in
-      let all = subst (λ (as : List PartAnswer). AreRunsFrom net part_of 0 as runs) cut h in
+      let all = subst (λ (ps : List PartAnswer). AreRunsFrom net part_of 0 ps runs) cut h in
       let all_runs = subst (λ (rs : List (List Round)). AreRunsFrom net part_of 0 (take part answers ++ own ∷ after) rs) (sym (take-append-drop o.told runs)) all in
       let w = own_behind 0 (take part answers) own after (take o.told runs) (drop o.told runs) o.other.circuit o.before all_runs in
-      let here : 0 + length (take part answers) ≡ part = length-take-le part answers (omega (arith, o.part_in)) in
+      let many = length-take-le part answers (omega (arith, o.part_in)) in
+      let here : 0 + length (take part answers) ≡ part = omega (arith, many) in
       let same : w.0 ≡ get_or runs o.told [] = ap (λ (rs : List (List Round)). get_or rs 0 []) (sym w.2 ∙ drop_more runs o.told [] o.other.run) in
       let ends = subst (λ (n : ℕ). EndsIn net part_of n own w.0) here w.3 in
       other_ends part own (get_or runs o.told []) k o.other.round (subst (EndsIn net part_of part own) same ends)
 
 -- how many runs are told of parts, one more at a time
 pub circuits_more : (parts : List ToldPart) (next : ToldPart) → circuits_in (parts ++ next ∷ []) ≡ circuits_in parts + circuits_in (next ∷ [])
-circuits_more [] next = refl
+circuits_more [] next = let none : circuits_in (next ∷ []) ≡ 0 + circuits_in (next ∷ []) = omega arith in none
 circuits_more (NoCircuitIn ∷ parts) next = circuits_more parts next
-circuits_more (BestOf ratio circuit potentials ∷ parts) next = ap suc (circuits_more parts next)
+circuits_more (BestOf ratio circuit potentials ∷ parts) next =
+    let rest = circuits_more parts next in
+    let one : suc (circuits_in (parts ++ next ∷ [])) ≡ suc (circuits_in parts) + circuits_in (next ∷ []) = omega (arith, rest) in one
 
 pub count_more : (parts : List PartAnswer) (i : ℕ) → i < length parts
     → circuits_in (take (i + 1) (map part_lists parts)) ≡ circuits_in (take i (map part_lists parts)) + runs_of_part parts i
@@ -172,8 +176,8 @@ count_more parts i l =
     ∙ ap (λ (p : ToldPart). circuits_in (take i lists) + circuits_in (p ∷ [])) (get_or-map part_lists parts i NoCircuit NoCircuitIn l))
 
 pub circuits_first : (first : ToldPart) (parts : List ToldPart) → circuits_in (first ∷ parts) ≡ circuits_in (first ∷ []) + circuits_in parts
-circuits_first NoCircuitIn parts = refl
-circuits_first (BestOf ratio circuit potentials) parts = refl
+circuits_first NoCircuitIn parts = let none : circuits_in parts ≡ 0 + circuits_in parts = omega arith in none
+circuits_first (BestOf ratio circuit potentials) parts = let one : suc (circuits_in parts) ≡ 1 + circuits_in parts = omega arith in one
 
 pub one_where_some : (own : PartAnswer) → own ≢ NoCircuit → circuits_in (part_lists own ∷ []) ≡ 1
 one_where_some NoCircuit some = absurd (some refl)
@@ -187,7 +191,7 @@ best_is_some own ratio circuit potentials e n = let clash : NoCircuit ≡ Best r
 left_of : (answers : List PartAnswer) (number : ℕ) → number < length answers
     → circuits_in (map part_lists (drop number answers)) ≡ runs_of_part answers number + circuits_in (map part_lists (drop (number + 1) answers))
 left_of answers number l =
-    ap (λ (as : List PartAnswer). circuits_in (map part_lists as)) (drop_more answers number NoCircuit l)
+    ap (λ (ps : List PartAnswer). circuits_in (map part_lists ps)) (drop_more answers number NoCircuit l)
     ∙ circuits_first (part_lists (get_or answers number NoCircuit)) (map part_lists (drop (number + 1) answers))
 
 -- where so many are told and so many left, those with that of this part
@@ -220,11 +224,11 @@ pub all_runs : (net : NetLists) (part_of : List ℕ) (answers : List PartAnswer)
 all_runs net part_of answers runs number told e h left =
     let lists : List (List Round) = rounds_of_runs runs in
     let none : drop number answers ≡ [] = ap (λ (n : ℕ). drop n answers) e ∙ drop-length answers in
-    let no_more : circuits_in (map part_lists (drop number answers)) ≡ 0 = ap (λ (as : List PartAnswer). circuits_in (map part_lists as)) none in
+    let no_more : circuits_in (map part_lists (drop number answers)) ≡ 0 = ap (λ (ps : List PartAnswer). circuits_in (map part_lists ps)) none in
     let many : told ≡ length lists = omega (arith, left, no_more, length-map runs (λ run. run.items)) in
     let whole : take number answers ≡ answers = ap (λ (n : ℕ). take n answers) e ∙ take-length answers in
     let whole_runs : take told lists ≡ lists = ap (λ (n : ℕ). take n lists) many ∙ take-length lists in
-    subst (AreRunsFrom net part_of 0 answers) whole_runs (subst (λ (as : List PartAnswer). AreRunsFrom net part_of 0 as (take told lists)) whole h)
+    subst (AreRunsFrom net part_of 0 answers) whole_runs (subst (λ (ps : List PartAnswer). AreRunsFrom net part_of 0 ps (take told lists)) whole h)
 
 -- how many are told at first
 pub none_told_yet : (net : NetLists) (answers : List PartAnswer) (runs : List (Vec Round)) → AreRunsTold net (map part_lists answers) (runs_lists runs)
@@ -236,3 +240,12 @@ none_told_yet net answers runs are =
 -- of a run that the code holds
 pub run_of : (runs : List (Vec Round)) (told : ℕ) (run : Vec Round) → told < length runs → run ≡ get_or runs told run → get_or (rounds_of_runs runs) told [] ≡ run.items
 run_of runs told run within is = get_or-map (λ r. r.items) runs told run [] within ∙ ap (λ r. r.items) (sym is)
+
+-- what follows of an answer, or of none
+pub none_then : {A B : Type 0} (o : Option ℕ) → (A → B) → IfNone o A → IfNone o B
+none_then None f h = f h
+none_then (Some k) f h = tt
+
+pub some_then : (A B : ℕ → Type 0) (o : Option ℕ) → ((k : ℕ) → A k → B k) → IfSome o A → IfSome o B
+some_then A B None f h = tt
+some_then A B (Some k) f h = f k h

@@ -10,6 +10,7 @@ use crate::told::told_in;
 use std::alloc::{AllocError, Global};
 use teg_lines::{certificates_can_be_told, lines_tell_back};
 use teg_net::{Net, OutOfMemory};
+use word_lines::text_at;
 
 /// A round that is another than that of its net, in the text of `teg cycle --rounds`.
 #[derive(Clone, Copy, Debug, PartialEq, Eq)]
@@ -26,7 +27,8 @@ pub struct OtherRound {
 fn head_of(alloc: Global, part: usize, round: usize) -> Result<String, AllocError>
     ensures { IfOk result (λ head. string_bytes head ≡ head_of_round part round) }
 {
-    let (part, round) = (part as u128 + 1, round as u128 + 1);
+    let part = part as u128 + 1;
+    let round = round as u128 + 1;
     format!(in alloc; "part {part} round {round} ratio ")
 }
 
@@ -53,7 +55,7 @@ fn first_so(lines: &[&str], head: &str) -> Option<u64>
     ensures { IfSome result (IsFirstSo head.now (map (λ x. x.now) lines.now)) }
 {
     for index in 0..lines.len() {
-        if begins_so(lines[index], head) {
+        if begins_so(text_at(lines, index), head) {
             return Some(index as u64);
         }
     }

@@ -1,4 +1,4 @@
-use Rattle.std.proofs.Common.{◌≡◌, length, get_or, sym, ap, subst, arith, refl}
+use Rattle.std.proofs.Common.{◌≡◌, ◌<◌, length, get_or, sym, ap, subst, arith, refl, rules}
 use Rattle.policy_rounds.specs.LastRounds.{AreRunsFrom, rounds_of_runs}
 use Rattle.round_check.proofs.Telling.{all_runs, has_rounds, left_behind, none_told_yet}
 use Rattle.round_check.proofs.others.first_other.Goals as goal
@@ -8,9 +8,9 @@ loop-number-init c = (refl, none_told_yet c.args.net.now c.args.answer.now.parts
 
 pub other_in-requires-clause-told : goal.other_in-requires-clause-told
 other_in-requires-clause-told c = λ some.
-    has_rounds c.args.net.now c.args.answer.now.parts.items c.args.runs.now c.loop-number.number c.loop-number.told c.loop-number-test.true c.requires.told c.loop-number.invariant.1 some
+    has_rounds c.args.net.now c.args.answer.now.parts.items c.args.runs.now c.loop-number.number c.loop-number.told (search rules) c.requires.told c.loop-number.invariant.1 some
 
 pub returns-clause-none : goal.returns-clause-none
 returns-clause-none c =
     all_runs c.args.net.now c.args.answer.now.part_of.items c.args.answer.now.parts.items c.args.runs.now c.loop-number.number c.loop-number.told
-    (omega (arith, c.loop-number-test.false)) c.loop-number.invariant.0 c.loop-number.invariant.1
+    (search rules) c.loop-number.invariant.0 c.loop-number.invariant.1

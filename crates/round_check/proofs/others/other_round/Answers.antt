@@ -20,15 +20,10 @@ returns-then-begun-rounds-clause-some c = λ live. record {
 }
 
 pub returns-then-is_end-clause-none : goal.returns-then-is_end-clause-none
-returns-then-is_end-clause-none c =
-    let end = c.in_ok-is_end.ensures.0 c.if-is_end.true in (
-      run_begun c.args.net.now c.args.answer.now.part_of.items c.args.number c.args.rounds.now c.in_ok-begun.begun c.round_at.result.now c.requires.some
-          (omega (arith, c.if-begun-rounds.false)) c.round_at.ensures (rw c.deref.ensures.value at c.in_ok-begun.ensures.begun.begun) (rw c.deref.ensures.value at end.1),
-      λ d. subst (λ r. IsAnswerOf r _) (c.round_at.ensures d) end.0,
-    )
+returns-then-is_end-clause-none c = ?
 
-pub returns-clause-some : goal.returns-clause-some
-returns-clause-some c = λ live.
+pub returns-else-is_end-clause-some : goal.returns-else-is_end-clause-some
+returns-else-is_end-clause-some c = λ live.
     let net = c.args.net.now in
     let rounds = c.args.rounds.now in
     let d = c.round_at.result.now in

@@ -1,4 +1,4 @@
-use Rattle.std.proofs.Common.{◌<◌, ◌-◌, length, sym, subst, arith, rules}
+use Rattle.std.proofs.Common.{◌+◌, ◌<◌, ◌-◌, length, sym, subst, arith, rules}
 use Rattle.round_check.specs.Rounds.{Stands}
 use Rattle.policy_rounds.specs.PolicyRounds.{IsLastRound}
 use Rattle.round_check.proofs.Stepping.{begun_run, run_begun}

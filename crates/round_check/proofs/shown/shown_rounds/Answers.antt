@@ -1,26 +1,16 @@
+use Rattle.std.proofs.Common.{rules, ◌≡◌, subst}
 use Rattle.policy_rounds.specs.LastRounds.{rounds_of_runs}
+use Rattle.teg_lines.specs.CycleMeanings.{cycle_lists}
+use Rattle.teg_lines.specs.RoundLines.{AreRunsTold}
 use Rattle.round_check.specs.ToldRounds.{IsTold}
+use Rattle.round_check.proofs.Telling.{lists_of}
 use Rattle.round_check.proofs.shown.shown_rounds.Goals as goal
 
-pub returns : goal.returns
-returns c =
+pub first_other-requires-clause-told : goal.first_other-requires-clause-told
+first_other-requires-clause-told c =
     let told = c.in-Some.told in
     let is : IsTold c.args.net.now c.args.text.now told = search rules in
-    record {
-      live = is.live;
-      greatest = is.greatest;
-      rounds = (
-        told.answer,
-        rounds_of_runs told.runs.items,
-        is.best,
-        record {
-          certificate = is.whole.certificate;
-          strong = is.strong;
-          parts = is.parts;
-          limits = c.keep_limits.ensures c.if-not-keep_limits.false;
-          runs_told = search rules;
-          kept = is.whole.kept;
-          told = is.whole.told;
-        },
-      );
-    }
+    rw c.deref.ensures.value (subst (AreRunsTold c.args.net.now (cycle_lists told.answer).parts) (lists_of told.runs.items) is.whole.rounds)
+
+pub returns-in-None : goal.returns-in-None
+returns-in-None c = ?

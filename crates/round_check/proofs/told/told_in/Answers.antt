@@ -11,7 +11,7 @@ use Rattle.round_check.proofs.Telling.{lists_of}
 use Rattle.round_check.proofs.told.told_in.Goals as goal
 
 pub is_text_of-requires-clause-runs : goal.is_text_of-requires-clause-runs
-is_text_of-requires-clause-runs c = rw c.deref-3.ensures.value (rw (c.deref.ensures.value, c.deref-2.ensures.value) at (c.are_runs_in.ensures c.if-not-are_runs_in.false))
+is_text_of-requires-clause-runs c = rw c.deref-4.ensures.value (rw (c.deref-2.ensures.value, c.deref-3.ensures.value) at (c.are_runs_in.ensures c.if-not-are_runs_in.false))
 
 pub returns : goal.returns
 returns c =
@@ -22,19 +22,21 @@ returns c =
     let times : IsShownTimes net c.as_str.result.now answer = search rules in
     let best : best_ratio_of answer ≡ Some ratio = search rules in
     let same : times.greatest.0 ≡ ratio = cc (times.greatest.1, best) in
-    let told = c.in_ok-is_whole.ensures.text c.if-not-is_whole.false in
+    let told = rw c.deref-4.ensures.value at (c.in_ok-is_whole.ensures.text c.if-not-is_whole.false) in
+    let kept = rw c.deref-4.ensures.value at c.in_ok-is_whole.ensures.kept in
+    let runs_in = rw (c.deref-2.ensures.value, c.deref-3.ensures.value) at (c.are_runs_in.ensures c.if-not-are_runs_in.false) in
     record {
       live = times.live;
       greatest = subst (IsGreatestRatio net IsAnyPlace) same times.greatest.2;
       best = best;
       strong = times.times.strong;
       parts = times.times.parts;
-      few = c.are_few.ensures c.if-not-are_few.false;
+      few = rw c.deref.ensures.value at (c.are_few.ensures c.if-not-are_few.false);
       whole = record {
         certificate = times.times.certificate;
         named = (ratio, best);
-        rounds = subst (AreRunsTold net (cycle_lists answer).parts) (sym (lists_of runs)) (c.are_runs_in.ensures c.if-not-are_runs_in.false);
-        kept = subst (All IsRunKept) (sym (lists_of runs)) c.in_ok-is_whole.ensures.kept;
+        rounds = subst (AreRunsTold net (cycle_lists answer).parts) (sym (lists_of runs)) runs_in;
+        kept = subst (All IsRunKept) (sym (lists_of runs)) kept;
         told = subst (λ l. c.args.text.now ≡ written (cycle_lines net (cycle_lists answer) ++ runs_lines net (told_runs (cycle_lists answer).parts (Some l)))) (sym (lists_of runs)) told;
       };
     }
