@@ -5,7 +5,7 @@ use Rattle.std.proofs.lemmas.List.{drop_more, get_or-map, length-map, length-tak
 use Rattle.std.proofs.lemmas.List.Elements.{All-cons, All-map}
 use Rattle.std.proofs.lemmas.Simd.{map-map}
 use Rattle.std.specs.Global.{Vec}
-use Rattle.std.specs.Prelude.{IfNone, IfSome, Option, Some, None}
+use Rattle.std.specs.Prelude.{IfNone, Option, Some, None}
 use Rattle.teg_net.specs.declared.answers.PartAnswer.{PartAnswer}
 use Rattle.teg_net.specs.declared.answers.Potential.{Potential}
 use Rattle.teg_net.specs.declared.answers.PartAnswer.TheVariants.{NoCircuit, Best}
@@ -241,11 +241,7 @@ none_told_yet net answers runs are =
 pub run_of : (runs : List (Vec Round)) (told : ℕ) (run : Vec Round) → told < length runs → run ≡ get_or runs told run → get_or (rounds_of_runs runs) told [] ≡ run.items
 run_of runs told run within is = get_or-map (λ r. r.items) runs told run [] within ∙ ap (λ r. r.items) (sym is)
 
--- what follows of an answer, or of none
+-- what follows of none
 pub none_then : {A B : Type 0} (o : Option ℕ) → (A → B) → IfNone o A → IfNone o B
 none_then None f h = f h
 none_then (Some k) f h = tt
-
-pub some_then : (A B : ℕ → Type 0) (o : Option ℕ) → ((k : ℕ) → A k → B k) → IfSome o A → IfSome o B
-some_then A B None f h = tt
-some_then A B (Some k) f h = f k h

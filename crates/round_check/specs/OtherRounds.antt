@@ -57,7 +57,7 @@ pub record IsOtherText (net : NetLists) (answer : CycleAnswer) (runs : List (Lis
 
 -- with what the first line of a round begins; parts and rounds are numbered from 1 on
 abbrev pub head_of_round : ℕ → ℕ → List ℕ
-head_of_round part k = codes "part " ++ decimal (part + 1) ++ codes " round " ++ decimal (k + 1) ++ codes " ratio "
+head_of_round part k = codes "part " ++ (decimal (part + 1) ++ (codes " round " ++ (decimal (k + 1) ++ codes " ratio ")))
 
 -- the line begins with this
 abbrev pub BeginsSo : List ℕ → List ℕ → Type 0

@@ -29,7 +29,8 @@ fn head_of(alloc: Global, part: usize, round: usize) -> Result<String, AllocErro
 {
     let part = part as u128 + 1;
     let round = round as u128 + 1;
-    format!(in alloc; "part {part} round {round} ratio ")
+    let head = format!(in alloc; "part {part} round {round} ratio ")?;
+    Ok(head)
 }
 
 // Whether the line begins so.

@@ -12,5 +12,26 @@ first_other-requires-clause-told c =
     let is : IsTold c.args.net.now c.args.text.now told = search rules in
     rw c.deref.ensures.value (subst (AreRunsTold c.args.net.now (cycle_lists told.answer).parts) (lists_of told.runs.items) is.whole.rounds)
 
-pub returns-in-None : goal.returns-in-None
-returns-in-None c = ?
+pub returns : goal.returns
+returns c =
+    let told = c.in-Some.told in
+    let is : IsTold c.args.net.now c.args.text.now told = search rules in
+    let none = rw c.in-None.is at c.in_ok-first_other.ensures.none in
+    record {
+      live = is.live;
+      greatest = is.greatest;
+      rounds = (
+        told.answer,
+        rounds_of_runs told.runs.items,
+        is.best,
+        record {
+          certificate = is.whole.certificate;
+          strong = is.strong;
+          parts = is.parts;
+          limits = c.keep_limits.ensures c.if-not-keep_limits.false;
+          runs_told = rw c.deref.ensures.value at none;
+          kept = is.whole.kept;
+          told = is.whole.told;
+        },
+      );
+    }
