@@ -1,7 +1,7 @@
 -- The other way: each round of a run passes what is checked.
 use Rattle.std.proofs.Common.{ℕ, zero, suc, ◌+◌, ◌*◌, ◌/◌, ◌%◌, ◌<◌, ◌≤◌, ◌≡◌, ◌≢◌, List, Bool, None, length, get_or, take, sym, ap, subst, ◌∙◌, arith, inl, inr, ⊎_elim}
 use Rattle.std.specs.Int.{IsGcd}
-use Rattle.std.specs.Prelude.{ℤ, pos, ◌⊎◌, ◌↔◌, All}
+use Rattle.std.specs.Prelude.{ℤ, pos, ◌⊎◌, ◌↔◌}
 use Rattle.std.proofs.lemmas.Int.{ints}
 use Rattle.std.proofs.lemmas.Bool.{cases_eq, cases_lt}
 use Rattle.std.proofs.lemmas.List.{get_or-take, length-take-le}

@@ -1,5 +1,5 @@
 -- Runs depend on what is told of them alone, so a text that tells other rounds is not shown.
-use Rattle.std.proofs.Common.{ℕ, ◌+◌, ◌-◌, ◌<◌, ◌≡◌, ◌++◌, List, [], ◌∷◌, Option, Some, None, Any, drop, map, length, get_or, refl, sym, ap, subst, ◌∙◌, arith, inl, inr, ⊎_elim}
+use Rattle.std.proofs.Common.{ℕ, ◌+◌, ◌-◌, ◌<◌, ◌≡◌, List, [], ◌∷◌, Option, Some, None, Any, drop, map, length, get_or, refl, sym, ap, subst, ◌∙◌, arith, inl, inr, ⊎_elim}
 use Rattle.std.specs.Prelude.{ℤ, ⊤}
 use Rattle.std.proofs.lemmas.List.{get_or-map, length-map}
 use Rattle.teg_net.specs.declared.answers.CycleAnswer.{CycleAnswer}
@@ -16,12 +16,11 @@ use Rattle.policy_rounds.specs.Policies.{Policy, AreSums, Improves, IsBestCircui
 use Rattle.policy_rounds.specs.PolicyRounds.{FollowsRound, IsFirstRound, IsPolicyRun, IsRound, IsRoundOf, KeepsCircuit, choice_of_member, chosen, chosen_for, chosen_place, value_in}
 use Rattle.policy_rounds.specs.RunAnswers.{potential_of}
 use Rattle.policy_rounds.specs.LastRounds.{AreRunsFrom}
-use Rattle.teg_text.specs.Lines.{written}
 use Rattle.teg_text.specs.WordReading.{lines_in}
-use Rattle.teg_lines.specs.CycleLines.{BestOf, CycleLists, NoCircuitIn, ToldPart, cycle_in, cycle_lines}
+use Rattle.teg_lines.specs.CycleLines.{BestOf, CycleLists, NoCircuitIn, ToldPart, cycle_in}
 use Rattle.teg_lines.specs.CycleMeanings.{cycle_lists, part_lists, round_lists}
 use Rattle.teg_lines.specs.LinesTellBack.{CertificatesCanBeTold, CycleTimesAreRead}
-use Rattle.teg_lines.specs.RoundLines.{RoundLists, no_round, rounds_in_lines, runs_lines, told_runs}
+use Rattle.teg_lines.specs.RoundLines.{RoundLists, no_round, rounds_in_lines}
 use Rattle.pace_check.proofs.Paces.{part_is_named}
 use Rattle.round_check.specs.OtherRounds.{IsOtherText}
 use Rattle.round_check.specs.ShownRounds.{IsShownRounds}

@@ -1,7 +1,6 @@
 use Rattle.std.proofs.Common.{◌≡◌, get_or, length, map, refl, sym, ap, ◌∙◌, arith}
 use Rattle.std.proofs.lemmas.Bool.{iff_false, false≢true}
 use Rattle.std.proofs.lemmas.List.{get_or-map, length-map, ext_get_or}
-use Rattle.teg_net.specs.declared.answers.Potential.{Potential}
 use Rattle.policy_rounds.specs.RunAnswers.{potential_of}
 use Rattle.teg_certificates.proofs.Deciding.{none_told}
 use Rattle.round_check.proofs.Choosing.{none_chosen}

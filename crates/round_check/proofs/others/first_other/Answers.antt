@@ -1,6 +1,5 @@
-use Rattle.std.proofs.Common.{◌≡◌, ◌<◌, length, get_or, sym, ap, subst, arith, refl, rules}
-use Rattle.policy_rounds.specs.LastRounds.{AreRunsFrom, rounds_of_runs}
-use Rattle.round_check.proofs.Telling.{all_runs, has_rounds, left_behind, none_told_yet}
+use Rattle.std.proofs.Common.{refl, rules}
+use Rattle.round_check.proofs.Telling.{all_runs, has_rounds, none_told_yet}
 use Rattle.round_check.proofs.others.first_other.Goals as goal
 
 pub loop-number-init : goal.loop-number-init

@@ -1,4 +1,4 @@
-use Rattle.std.proofs.Common.{◌+◌, ◌-◌, ◌≡◌, get_or, length, sym, subst, ◌∙◌, arith, inl, inr, rules}
+use Rattle.std.proofs.Common.{◌-◌, ◌≡◌, get_or, length, sym, subst, ◌∙◌, arith, inl, inr, rules}
 use Rattle.std.proofs.lemmas.List.{get_or_default}
 use Rattle.std.proofs.lemmas.Bool.{iff_false}
 use Rattle.teg_net.specs.declared.answers.PartAnswer.TheVariants.{NoCircuit}

@@ -1,4 +1,4 @@
-use Rattle.std.proofs.Common.{ℕ, ◌+◌, ◌<◌, ◌≤◌, ◌≡◌, [], get_or, map, sym, subst, arith, ⊎_elim}
+use Rattle.std.proofs.Common.{ℕ, ◌<◌, ◌≤◌, ◌≡◌, [], get_or, map, subst, arith, ⊎_elim}
 use Rattle.std.proofs.lemmas.Bool.{cases_lt, iff_false}
 use Rattle.round_check.specs.OtherRounds.{BeginsSo}
 use Rattle.round_check.proofs.refuted.first_so.Goals as goal

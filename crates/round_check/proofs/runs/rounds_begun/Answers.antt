@@ -1,6 +1,6 @@
-use Rattle.std.proofs.Common.{◌+◌, ◌-◌, get_or, length, sym, subst, arith}
+use Rattle.std.proofs.Common.{◌+◌, ◌-◌, length, sym, subst, arith}
 use Rattle.std.proofs.lemmas.Bool.{iff_false}
-use Rattle.policy_rounds.specs.PolicyRounds.{FollowsRound, IsFirstRound}
+use Rattle.policy_rounds.specs.PolicyRounds.{IsFirstRound}
 use Rattle.round_check.specs.Rounds.{Stands}
 use Rattle.round_check.proofs.Stepping.{fewer_begun, more_begun, next_begun, none_begun, one_begun}
 use Rattle.round_check.proofs.Exactly.{begun_stand}

@@ -1,4 +1,4 @@
-use Rattle.std.proofs.Common.{rules, ◌≡◌, subst}
+use Rattle.std.proofs.Common.{rules, subst}
 use Rattle.policy_rounds.specs.LastRounds.{rounds_of_runs}
 use Rattle.teg_lines.specs.CycleMeanings.{cycle_lists}
 use Rattle.teg_lines.specs.RoundLines.{AreRunsTold}

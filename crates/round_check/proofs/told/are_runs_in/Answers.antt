@@ -1,4 +1,4 @@
-use Rattle.std.proofs.Common.{◌≡◌, length, map, arith, rules, ◌∙◌}
+use Rattle.std.proofs.Common.{◌≡◌, length, map, rules, ◌∙◌}
 use Rattle.std.proofs.lemmas.List.{length-map}
 use Rattle.std.proofs.lemmas.List.Elements.{All-map}
 use Rattle.teg_lines.specs.CycleMeanings.{part_lists, round_lists}
