@@ -114,17 +114,8 @@ fn other_round(
         return Ok(Some(begun));
     }
     let last = rounds.len() - 1;
-    let is_end = is_end(
-        alloc,
-        &own,
-        round_at(rounds, last),
-        &answer.parts[number],
-    )?;
-    if is_end {
-        Ok(None)
-    } else {
-        Ok(Some(last))
-    }
+    let is_end = is_end(alloc, &own, round_at(rounds, last), &answer.parts[number])?;
+    if is_end { Ok(None) } else { Ok(Some(last)) }
 }
 
 // The same of the part of this number, where so many runs are told before it; none where it has no

@@ -57,7 +57,10 @@ fn is_round_in(net: &Net, round: &Round) -> bool
     ensures { IsTrue result → IsRoundIn net.now (round_lists round.now) }
 {
     round.circuit.places.iter().all(|id| is_place_in(net, *id))
-        && round.choices.iter().all(|choice| is_choice_in(net, *choice))
+        && round
+            .choices
+            .iter()
+            .all(|choice| is_choice_in(net, *choice))
 }
 
 // Whether each round is of the net.
