@@ -1,5 +1,5 @@
 -- Runs of the parts of an answer, part by part: that they can be told, and where one is another.
-use Rattle.std.proofs.Common.{ℕ, suc, ◌+◌, ◌<◌, ◌≤◌, ◌≡◌, ◌≢◌, ◌++◌, List, [], ◌∷◌, map, length, get_or, take, drop, refl, sym, ap, subst, ◌∙◌, arith, ⊎_elim}
+use Rattle.std.proofs.Common.{ℕ, suc, ◌+◌, ◌<◌, ◌≡◌, ◌≢◌, ◌++◌, List, [], ◌∷◌, map, length, get_or, take, drop, refl, sym, ap, subst, ◌∙◌, arith, ⊎_elim}
 use Rattle.std.proofs.Math.Seq.{drop-length, take-length}
 use Rattle.std.proofs.lemmas.List.{drop_more, get_or-map, length-map, length-take-le, take-append-drop, take_more}
 use Rattle.std.proofs.lemmas.List.Elements.{All-cons, All-map}
@@ -193,11 +193,6 @@ left_of : (answers : List PartAnswer) (number : ℕ) → number < length answers
 left_of answers number l =
     ap (λ (ps : List PartAnswer). circuits_in (map part_lists ps)) (drop_more answers number NoCircuit l)
     ∙ circuits_first (part_lists (get_or answers number NoCircuit)) (map part_lists (drop (number + 1) answers))
-
--- where so many are told and so many left, those with that of this part
-pub left_behind : (answers : List PartAnswer) (number told all : ℕ) → number < length answers → told + circuits_in (map part_lists (drop number answers)) ≡ all
-    → ((told + runs_of_part answers number) + circuits_in (map part_lists (drop (number + 1) answers)) ≡ all) × (told + runs_of_part answers number ≤ all)
-left_behind answers number told all l h = let left = left_of answers number l in (omega (arith, left, h), omega (arith, left, h))
 
 -- a part with a circuit has rounds
 pub has_rounds : (net : NetLists) (answers : List PartAnswer) (runs : List (Vec Round)) (number told : ℕ) → number < length answers

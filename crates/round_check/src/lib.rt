@@ -11,7 +11,7 @@
 //!
 //! The crate stands on `policy_rounds` for what a round and a run are and for lemmas on choices,
 //! policies and their circuits, and on no crate that finds rounds; on `pace_check` and
-//! `witness_check` for cycle times and names in texts, on `teg_lines` and `teg_text` for lines, on
+//! `witness_check` for cycle times and names in texts, on `teg_lines`, `teg_text` and `word_lines` for lines, on
 //! `teg_parts` for what is marked, on `teg_certificates` for certificates and how short circuits are,
 //! and on `teg_net` for nets. Its examples stand in `net_examples` and `witness_examples`.
 #![tactic(auto)]

@@ -83,10 +83,10 @@ fn line_of(alloc: Global, text: &str, part: usize, round: usize) -> Result<Optio
 /// text is not what `teg cycle --rounds` says, and no ratio is shown by it
 /// ([`shown_rounds`](crate::shown_rounds)).
 ///
-/// None says nothing: where cycle times and rounds were read of the whole text and the net is live,
-/// the rounds are those of the net; or its cycle times are not shown, or a word of it is not as it is
-/// printed. It takes the time of [`check_run`](crate::check_run) for each part, and of the text.
-/// `OutOfMemory` comes only where no memory is found.
+/// There is none where the net is not live, the rounds are those of the net, the cycle times are not
+/// shown, or a word is not as it is printed; of that the clauses say nothing. It takes the time of
+/// [`check_run`](crate::check_run) for each part, and of the text. `OutOfMemory` comes only where no
+/// memory is found.
 pub fn refutes_rounds(
     alloc: Global,
     net: &Net,
