@@ -1,4 +1,4 @@
-use Rattle.std.proofs.Common.{rules, refl, Some}
+use Rattle.std.proofs.Common.{refl}
 use Rattle.round_check.specs.OtherRounds.{TellsOther}
 use Rattle.answer_audit.proofs.searched.rounds_finding.Goals as goal
 
