@@ -14,7 +14,8 @@ pub enum Finding {
     Refuted,
     /// It is not so: the net is live, and of a list or of a table of latest dates the line of this
     /// number, counted from 0, is the first that tells other dates; of a table it is 0 where the
-    /// table does not go up to the greatest number that is due.
+    /// table does not go up to the greatest number that is due; of rounds the first round that is
+    /// another begins with it.
     WrongLine(u64),
     /// Its checker does not say yes.
     NotShown,
