@@ -605,6 +605,7 @@ def rows_cases():
     yield crossing_rows(50)
     yield crossing_rows(100, more=1)
     yield paired_rows(20)
+    yield paired_lists(20)
     yield ("forever: 100 rows that go on after 30 firings, rates that nearly agree, room for 50 parts", ["forever", "net", "rows"],
            {"net": near_rates(100, 50).text(), "rows": steady_rows(100, 30)}, TOO_LONG, "too long: input feed\n")
     yield wide_replay(1_048_576, 1)
@@ -626,17 +627,22 @@ def crossing_rows(ends, every=998, unit=1_000, more=0):
             DONE, "latest inputs forever\n")
 
 
-def paired_rows(count, lead=19_000, due=10**9):
-    """`forever` with walk times of its own for each pair of an input and a row, of two ways: one begins slowly, the other
-    gains on it. Each row is due as fast as the faster one, so the longer of the two ways to it at the start tells each date."""
+def paired_net(count, lead):
+    """Walk times of its own for each pair of an input and a row, of two ways: one begins slowly, the other gains on it."""
     inputs, ends = [f"u{k}" for k in range(count)], [f"c{k}" for k in range(count)]
     places = [("aa", "a", "a", 10, 1), ("dd", "d", "d", 11, 1)]
     for k in range(count):
         places += [(f"ua{k}", f"u{k}", "a", 0, 0), (f"ud{k}", f"u{k}", "d", k * count, 0)]
         places += [(f"ac{k}", "a", f"c{k}", lead, 0), (f"dc{k}", "d", f"c{k}", k, 0)]
+    return Net(inputs + ["a", "d"] + ends, places, inputs).text()
+
+
+def paired_rows(count, lead=19_000, due=10**9):
+    """`forever` with such pairs. Each row is due as fast as the faster way, so the longer of the two ways to it at the start
+    tells each date."""
     dates = [due - max(lead, k * count + count - 1) for k in range(count)]
     return (f"forever: {count} inputs and {count} rows, each pair with walk times of its own", ["forever", "net", "rows"],
-            {"net": Net(inputs + ["a", "d"] + ends, places, inputs).text(), "rows": "".join(f"{end},1,11,{due}\n" for end in ends)},
+            {"net": paired_net(count, lead), "rows": "".join(f"c{k},1,11,{due}\n" for k in range(count))},
             DONE, "latest inputs forever\n" + "".join(f"input u{k} {date} period 1 step 11\n" for k, date in enumerate(dates)))
 
 
@@ -664,6 +670,17 @@ def two_way_times(inputs, lead):
     return f"transfer of {inputs} inputs to 1 outputs\n" + "".join(
         f"from u{k} settled after {lead - k} period 1\nto y {row(max(10 * j + lead, 11 * j + k) for j in range(lead - k + 1))} step 11\n"
         for k in range(inputs))
+
+
+def paired_lists(count, lead=12_000, due=10**6, dates=5_000):
+    """`forever` with such pairs and rows of many dates, each seventh one later than 11 for each firing. From one firing to
+    each later one the due dates rise by 10 or more for each, as the slow way does, and the other way is shorter at first
+    by more than it ever gains on them: so each firing is due by itself, less the slow way at the start."""
+    listed = [due + 11 * k + (k % 7 == 0) for k in range(dates)]
+    told = row(date - lead for date in listed)
+    return (f"forever: {count} inputs and {count} rows of {dates:,} dates, each pair with walk times of its own", ["forever", "net", "rows"],
+            {"net": paired_net(count, lead), "rows": "".join(f"c{k},1,11,{','.join(map(str, listed))}\n" for k in range(count))},
+            DONE, "latest inputs forever\n" + "".join(f"input u{k} {told} period 1 step 11\n" for k in range(count)))
 
 
 def steady_rows(count, every, gap=3_601, first=10**8):

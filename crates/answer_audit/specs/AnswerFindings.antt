@@ -1,12 +1,15 @@
 -- What is found of an answer, and when it is so.
-use Rattle.std.specs.Prelude.{ℕ, ◌≡◌, List}
+use Rattle.std.specs.Prelude.{ℕ, ◌≡◌, ⊤, List}
 use Rattle.teg_net.specs.Nets.{NetLists}
 use Rattle.teg_net.specs.Ratios.{Fraction}
 use Rattle.teg_net.specs.declared.entries.PlaceId.{PlaceId}
 use Rattle.teg_due.specs.declared.rows.Due.{Due}
 use Rattle.late_lines.specs.declared.late.LateFiring.{LateFiring}
 use Rattle.delay_laws.specs.declared.table.Timetable.{Timetable}
+use Rattle.pace_audit.specs.PaceFindings.{IsFound}
+use Rattle.round_check.specs.OtherRounds.{TellsOther}
 use Rattle.round_check.specs.ShownRounds.{IsShownRounds}
+use Rattle.round_check.specs.declared.refuted.OtherRound.{OtherRound}
 use Rattle.dating_check.specs.FirstLate.{IsShownFirstLate}
 use Rattle.settled_check.specs.ShownForms.{IsShownSettled}
 use Rattle.dating_check.specs.ShownTables.{IsShownTable}
@@ -30,6 +33,20 @@ abbrev pub IsShownSearched : NetLists → Searched → List ℕ → Type 0
 IsShownSearched net Rounds text = (ratio : Fraction) × IsShownRounds net text ratio
 IsShownSearched net Settled text = (shown : ShownSettled) × IsShownSettled net text shown
 IsShownSearched net Bound text = (shown : ShownBound) × IsShownBound net text shown
+
+-- what is found of cycle times with the rounds: they are shown only where they are what the net says, and a line of them is wrong only
+-- where the net is live, the text is whole one of cycle times and rounds, and with this line the first round begins that is another
+abbrev pub IsRoundsFound : NetLists → List ℕ → Finding → Type 0
+IsRoundsFound net text Shown = IsShownSearched net Rounds text
+IsRoundsFound net text Refuted = ⊥
+IsRoundsFound net text (WrongLine line) = (other : OtherRound) × (line ≡ other.line) × TellsOther net text other × (IsShownSearched net Rounds text → ⊥)
+IsRoundsFound net text NotShown = ⊤
+IsRoundsFound net text NoChecker = ⊥
+
+-- what is found of an answer of this kind, on the net alone, of what a search goes through
+abbrev pub IsFoundSearched : NetLists → Searched → List ℕ → Finding → Type 0
+IsFoundSearched net Rounds text finding = IsRoundsFound net text finding
+IsFoundSearched net kind text finding = IsFound net (IsShownSearched net kind text) finding
 
 -- the text is the table of latest dates for these due dates
 abbrev pub IsShownPlanFor : NetLists → List ℕ → Due → Type 0

@@ -16,13 +16,13 @@ use Rattle.audit_calls.specs.declared.question.Beside.TheVariants.{File, Timetab
 use Rattle.audit_calls.specs.declared.status.AuditStatus.{AuditStatus}
 use Rattle.pace_audit.specs.PaceAudits.{FindsAlone, FindsDate}
 use Rattle.pace_audit.specs.PaceFindings.{IsFound}
-use Rattle.answer_audit.specs.AnswerFindings.{IsPlanFound, IsShownLateFor, IsShownLateOrderFor, IsShownReleasesFor, IsShownKeptFor, IsShownRecoveredFor, IsShownSearched}
+use Rattle.answer_audit.specs.AnswerFindings.{IsFoundSearched, IsPlanFound, IsShownLateFor, IsShownLateOrderFor, IsShownReleasesFor, IsShownKeptFor, IsShownRecoveredFor}
 use Rattle.answer_audit.specs.RowFiles.{SaysDue, SaysEndlessDue, SaysTable}
 
 -- no file is read, and this is found on the net alone, of what a search goes through
 abbrev pub FindsSearched : NetLists → Searched → List ℕ → ShelfState → ShelfState → Option Finding → Type 0
 FindsSearched net kind text old new None = ⊥
-FindsSearched net kind text old new (Some finding) = (new ≡ old) × IsFound net (IsShownSearched net kind text) finding
+FindsSearched net kind text old new (Some finding) = (new ≡ old) × IsFoundSearched net kind text finding
 
 -- what is found of a table of latest dates, by the due file
 abbrev pub FindsPlan : NetLists → Beside → List ℕ → ShelfState → ShelfState → Option Finding → Type 0

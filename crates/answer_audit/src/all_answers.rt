@@ -61,7 +61,8 @@ impl Auditor for AllAnswers {
 /// where it is none, where the rows are no due list, or where its dates are all right and there is a
 /// plan. Of `check`, of no circuit, of a size in a live net, and of a date whose list is shown and has
 /// its firing, one of both is always written (`IsDecided`, `IsDecidedWhereLive`, `IsDateFound` of
-/// `pace_audit`).
+/// `pace_audit`). Of cycle times with rounds the line that is told is the first of the first round
+/// that is another (`IsRoundsFound`).
 pub fn audit<S: Shelf, W: Sink>(
     alloc: Global,
     words: &[String],

@@ -2,11 +2,11 @@
 //! function for each kind.
 ghost use Rattle.std.specs.Prelude.{IfOk};
 ghost use Rattle.pace_audit.specs.PaceFindings.{IsFound};
-ghost use Rattle.answer_audit.specs.AnswerFindings.{IsShownSearched};
+ghost use Rattle.answer_audit.specs.AnswerFindings.{IsFoundSearched, IsRoundsFound, IsShownSearched};
 
 use audit_calls::{Finding, Searched};
 use bound_check::{refutes_bound, shown_bound};
-use round_check::shown_rounds;
+use round_check::{refutes_rounds, shown_rounds};
 use settled_check::shown_settled;
 use std::alloc::Global;
 use teg_net::{Net, OutOfMemory};
@@ -14,10 +14,13 @@ use witness_check::is_seen_live;
 
 // Of `cycle` with the rounds.
 fn rounds_finding(alloc: Global, net: &Net, text: &str) -> Result<Finding, OutOfMemory>
-    ensures { IfOk result (IsFound net.now (IsShownSearched net.now Searched.Rounds text.now)) }
+    ensures { IfOk result (IsRoundsFound net.now text.now) }
 {
-    match shown_rounds(alloc, net, text)? {
-        Some(_) => Ok(Finding::Shown),
+    if shown_rounds(alloc, net, text)?.is_some() {
+        return Ok(Finding::Shown);
+    }
+    match refutes_rounds(alloc, net, text)? {
+        Some(other) => Ok(Finding::WrongLine(other.line)),
         None => Ok(Finding::NotShown),
     }
 }
@@ -52,7 +55,7 @@ pub(crate) fn searched_finding(
     kind: Searched,
     text: &str,
 ) -> Result<Finding, OutOfMemory>
-    ensures { IfOk result (IsFound net.now (IsShownSearched net.now kind text.now)) }
+    ensures { IfOk result (IsFoundSearched net.now kind text.now) }
 {
     if !is_seen_live(alloc, net)? {
         return Ok(Finding::NotShown);

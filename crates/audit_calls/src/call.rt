@@ -124,7 +124,7 @@ fn finish<W: Sink>(out: &mut W, ending: Result<Ending, OutOfMemory>) -> AuditSta
 /// written, of a table of latest dates each line that tells a date, of delays that are kept that line
 /// and the circuit, and of delays that die out the line that says so, each behind what is found of
 /// it. Of a list or a table with a wrong line its first line is written and the first that is wrong,
-/// of a table that does not go up to the greatest number that is due the first line alone. Of an
+/// of rounds of which one is another the first line and that with which this one begins, of a table that does not go up to the greatest number that is due the first line alone. Of an
 /// answer that is not read with its files it is written that this is so. The gravest of all is how
 /// the call ends. The text is whole before its first byte is written, so nothing is written where no
 /// memory is found.

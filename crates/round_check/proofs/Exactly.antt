@@ -1,9 +1,10 @@
 -- The other way: each round of a run passes what is checked.
-use Rattle.std.proofs.Common.{ℕ, zero, suc, ◌+◌, ◌*◌, ◌/◌, ◌%◌, ◌<◌, ◌≤◌, ◌≡◌, ◌≢◌, List, Bool, None, length, get_or, sym, ap, subst, ◌∙◌, arith, inl, inr, ⊎_elim}
+use Rattle.std.proofs.Common.{ℕ, zero, suc, ◌+◌, ◌*◌, ◌/◌, ◌%◌, ◌<◌, ◌≤◌, ◌≡◌, ◌≢◌, List, Bool, None, length, get_or, take, sym, ap, subst, ◌∙◌, arith, inl, inr, ⊎_elim}
 use Rattle.std.specs.Int.{IsGcd}
-use Rattle.std.specs.Prelude.{ℤ, pos, ◌⊎◌, ◌↔◌, All}
+use Rattle.std.specs.Prelude.{ℤ, pos, ◌⊎◌, ◌↔◌}
 use Rattle.std.proofs.lemmas.Int.{ints}
 use Rattle.std.proofs.lemmas.Bool.{cases_eq, cases_lt}
+use Rattle.std.proofs.lemmas.List.{get_or-take, length-take-le}
 use Rattle.std.proofs.lemmas.Nat.Gcd.{IsGcd-from_zero, IsGcd-from_mod}
 use Rattle.std.proofs.Math.Nat.{div-le_self}
 use Rattle.teg_net.specs.declared.entries.PlaceId.{PlaceId}
@@ -17,7 +18,7 @@ use Rattle.teg_net.specs.PartAnswers.{first_transition_of}
 use Rattle.teg_net.specs.Ratios.{Fraction, IsRatioOf}
 use Rattle.teg_net.specs.ReducedTimes.{IsMagnitudeWithin, reduced_time}
 use Rattle.policy_rounds.specs.Policies.{Policy, IsPolicy, IsChanged, IsRouting, LeadsBack, step_back}
-use Rattle.policy_rounds.specs.PolicyRounds.{FollowsRound, IsFirstRound, IsPolicyRun, IsRound, IsRoundOf, KeepsCircuit, chosen, potential, value_in}
+use Rattle.policy_rounds.specs.PolicyRounds.{FollowsRound, IsFirstRound, IsRound, IsRoundOf, IsRunTo, KeepsCircuit, chosen, potential, value_in}
 use Rattle.policy_rounds.specs.PolicyLists.{AreLowest, IsCircuitRatio, policy_of, step_bound}
 use Rattle.teg_parts.specs.Components.{IsMarked}
 use Rattle.teg_net.proofs.LowestTerms.{IsRatioOf-divided}
@@ -38,7 +39,7 @@ use Rattle.round_check.specs.declared.runs.Step.{Step}
 use Rattle.round_check.specs.Offers.{IsSpread}
 use Rattle.round_check.specs.Routes.{IsRoutedBy}
 use Rattle.round_check.specs.PolicyCircuits.{AllAtMost, FitsPolicy, IsBoundOf}
-use Rattle.round_check.specs.Rounds.{IsStep, Keeps, Stands}
+use Rattle.round_check.specs.Rounds.{AreBegun, IsStep, Keeps, Stands}
 use Rattle.round_check.proofs.Choosing.{own_at}
 use Rattle.round_check.proofs.Joining.{home_soon}
 use Rattle.round_check.proofs.Stepping.{lowest_policy, of_kind, places_are, step_policy}
@@ -197,6 +198,20 @@ module _ (net : NetLists) (parts : List ℕ) (part : ℕ) (kept : IsNet net) (li
         };
       }
 
-  -- the rounds of a run of a live net stand
-  pub run_stands : (rounds : List Round) → IsPolicyRun net parts part rounds → All (Stands net parts part) rounds
-  run_stands rounds h = λ k d l. let own = runs_agree net parts part live rounds rounds d h.run h.run k l l in stands_at_home (get_or rounds k d) own.2 own.1
+  -- the rounds with which a run of a live net begins stand
+  pub begun_stand : (rounds : List Round) (n : ℕ) → n ≤ length rounds → AreBegun net parts part rounds n → (k : ℕ) (d : Round) → k < n → Stands net parts part (get_or rounds k d)
+  begun_stand rounds n le h k d l =
+      let firsts : List Round = take n rounds in
+      let many : length firsts ≡ n = length-take-le n rounds le in
+      let same : (i : ℕ) (e : Round) → i < n → get_or firsts i e ≡ get_or rounds i e = λ i e m. get_or-take n rounds i e m in
+      let run : IsRunTo net parts part firsts = record {
+        some = omega (arith, l, many);
+        first = λ e. subst (IsFirstRound net parts part) (sym (same 0 e (omega (arith, l)))) (h.first e (omega (arith, l)));
+        next = λ i e m.
+            let low : i + 1 < n = omega (arith, m, many) in
+            subst (λ (r : Round). FollowsRound net parts part r (get_or firsts (i + 1) e)) (sym (same i e (omega (arith, low))))
+            (subst (λ (r : Round). FollowsRound net parts part (get_or rounds i e) r) (sym (same (i + 1) e low)) (h.next i e low));
+      } in
+      let within : k < length firsts = omega (arith, l, many) in
+      let own = runs_agree net parts part live firsts firsts d run run k within within in
+      subst (Stands net parts part) (same k d l) (stands_at_home (get_or firsts k d) own.2 own.1)

@@ -7,3 +7,4 @@ pub mod Offering
 pub mod Stepping
 pub mod Exactly
 pub mod Telling
+pub mod Refuting

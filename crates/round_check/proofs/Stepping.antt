@@ -14,7 +14,7 @@ use Rattle.teg_net.specs.Parts.{IsMember, to_of}
 use Rattle.teg_net.specs.PartAnswers.{first_transition_of}
 use Rattle.teg_net.specs.ReducedTimes.{IsMagnitudeWithin}
 use Rattle.policy_rounds.specs.Policies.{Policy, IsPolicy, IsPolicyCircuit, IsBestCircuit, IsRouting, Improves, IsImprovement, IsChanged, offer_of}
-use Rattle.policy_rounds.specs.PolicyRounds.{IsRound, IsRoundOf, IsFirstRound, FollowsRound, IsPolicyRun, chosen, potential, choice_of_member, value_in, IsLastRound}
+use Rattle.policy_rounds.specs.PolicyRounds.{IsRound, IsRoundOf, IsFirstRound, FollowsRound, IsPolicyRun, IsRunTo, chosen, potential, choice_of_member, value_in, IsLastRound}
 use Rattle.policy_rounds.specs.PolicyLists.{AreLowest, policy_of}
 use Rattle.teg_parts.specs.Components.{IsMarked}
 use Rattle.policy_rounds.proofs.Turns.{cases_id, cases_improves, better_is_policy, everywhere}
@@ -24,7 +24,7 @@ use Rattle.round_check.specs.declared.policies.Spread.{Spread}
 use Rattle.round_check.specs.declared.runs.Step.{Step}
 use Rattle.round_check.specs.Offers.{AreSmall, IsBetterAt, IsSpread, values_at}
 use Rattle.round_check.specs.PolicyCircuits.{IsAtMost, IsBoundOf}
-use Rattle.round_check.specs.Rounds.{AreFollowing, IsStep, Keeps, KeepsLimits}
+use Rattle.round_check.specs.Rounds.{AreBegun, AreFollowing, HasBegun, IsStep, Keeps, KeepsLimits, Stands}
 use Rattle.round_check.proofs.Walking.{Passes}
 
 -- small values of choices are small at each transition
@@ -188,9 +188,54 @@ module _ (net : NetLists) (parts : List ℕ) (part : ℕ) where
       rw (sym low, sym high) next)
       (cases_lt (k + 1) i)
 
-  pub run_at : (rounds : List Round) (x y : Round) → 0 < length rounds → ((d : Round) → x ≡ get_or rounds 0 d) → ((d : Round) → y ≡ get_or rounds (length rounds - 1) d)
-      → IsFirstRound net parts part x → AreFollowing net parts part rounds (length rounds) → IsLastRound net parts part y → IsPolicyRun net parts part rounds
-  run_at rounds x y some x_is y_is first next last = record {
-    run = record { some = some; first = λ e. subst (IsFirstRound net parts part) (x_is e) first; next = next };
-    last = λ e. subst (IsLastRound net parts part) (y_is e) last;
+  pub none_begun : (rounds : List Round) → HasBegun net parts part rounds 0
+  none_begun rounds = record {
+    begun = record { first = λ d l. absurd (omega (arith, l)); next = λ k d l. absurd (omega (arith, l)) };
+    stand = λ k d l. absurd (omega (arith, l));
+  }
+
+  pub one_begun : (rounds : List Round) (x : Round) → ((d : Round) → x ≡ get_or rounds 0 d) → Stands net parts part x → IsFirstRound net parts part x → HasBegun net parts part rounds 1
+  one_begun rounds x is stands first = record {
+    begun = record { first = λ d l. subst (IsFirstRound net parts part) (is d) first; next = λ k d l. absurd (omega (arith, l)) };
+    stand = λ k d l.
+        let lowest : 0 ≡ k = omega (arith, l) in
+        subst (Stands net parts part) (is d ∙ ap (λ (n : ℕ). get_or rounds n d) lowest) stands;
+  }
+
+  pub more_begun : (rounds : List Round) (i : ℕ) (x y : Round) → 1 ≤ i → HasBegun net parts part rounds i → ((d : Round) → x ≡ get_or rounds (i - 1) d)
+      → ((d : Round) → y ≡ get_or rounds i d) → Stands net parts part y → FollowsRound net parts part x y → HasBegun net parts part rounds (i + 1)
+  more_begun rounds i x y some h x_is y_is stands next = record {
+    begun = record { first = λ d l. h.begun.first d (omega (arith, some)); next = following_at rounds i x y some h.begun.next x_is y_is next };
+    stand = λ k d l.
+        ⊎_elim
+        (λ (q : k < i). h.stand k d q)
+        (λ (q : i ≤ k). let is : i ≡ k = omega arith in subst (Stands net parts part) (y_is d ∙ ap (λ (n : ℕ). get_or rounds n d) is) stands)
+        (cases_lt k i);
+  }
+
+  pub fewer_begun : (rounds : List Round) (n m : ℕ) → m ≤ n → HasBegun net parts part rounds n → HasBegun net parts part rounds m
+  fewer_begun rounds n m le h = record {
+    begun = record { first = λ d l. h.begun.first d (omega (arith, l, le)); next = λ k d l. h.begun.next k d (omega (arith, l, le)) };
+    stand = λ k d l. h.stand k d (omega (arith, l, le));
+  }
+
+  -- of rounds that are begun a later one follows from the one before
+  pub next_begun : (rounds : List Round) (i : ℕ) (x y : Round) → 1 ≤ i → AreBegun net parts part rounds (i + 1) → ((d : Round) → x ≡ get_or rounds (i - 1) d)
+      → ((d : Round) → y ≡ get_or rounds i d) → FollowsRound net parts part x y
+  next_begun rounds i x y some h x_is y_is =
+      let up : (i - 1) + 1 ≡ i = omega (arith, some) in
+      let f = subst (λ (n : ℕ). FollowsRound net parts part (get_or rounds (i - 1) x) (get_or rounds n x)) up (h.next (i - 1) x (omega (arith, up))) in
+      let g = subst (λ (r : Round). FollowsRound net parts part r (get_or rounds i x)) (sym (x_is x)) f in
+      subst (λ (r : Round). FollowsRound net parts part x r) (sym (y_is x)) g
+
+  -- a run begins with its first rounds
+  pub begun_run : (rounds : List Round) (n : ℕ) → n ≤ length rounds → IsRunTo net parts part rounds → AreBegun net parts part rounds n
+  begun_run rounds n le h = record { first = λ d l. h.first d; next = λ k d l. h.next k d (omega (arith, l, le)) }
+
+  -- rounds that are begun, all of them, are a run where no place improves the last
+  pub run_begun : (rounds : List Round) (n : ℕ) (y : Round) → 0 < length rounds → length rounds ≤ n → ((d : Round) → y ≡ get_or rounds (length rounds - 1) d)
+      → AreBegun net parts part rounds n → IsLastRound net parts part y → IsPolicyRun net parts part rounds
+  run_begun rounds n y some le y_is h last = record {
+    run = record { some = some; first = λ d. h.first d (omega (arith, some, le)); next = λ k d l. h.next k d (omega (arith, l, le)) };
+    last = λ d. subst (IsLastRound net parts part) (y_is d) last;
   }

@@ -4,3 +4,5 @@ pub mod PolicyCircuits
 pub mod Routes
 pub mod Rounds
 pub mod ShownRounds
+pub mod OtherRounds
+pub mod ToldRounds

@@ -7,7 +7,7 @@ use Rattle.teg_net.specs.Nets.{NetLists}
 use Rattle.teg_net.specs.Parts.{IsMember}
 use Rattle.teg_net.specs.ReducedTimes.{IsMagnitudeWithin}
 use Rattle.policy_rounds.specs.Policies.{IsChanged, IsImprovement}
-use Rattle.policy_rounds.specs.PolicyRounds.{FollowsRound, IsRound, chosen, potential}
+use Rattle.policy_rounds.specs.PolicyRounds.{FollowsRound, IsFirstRound, IsRound, chosen, potential}
 use Rattle.policy_rounds.specs.PolicyLists.{IsCircuitRatio, policy_of}
 use Rattle.teg_parts.specs.Components.{IsMarked}
 use Rattle.round_check.specs.declared.runs.Step.{Step}
@@ -42,3 +42,13 @@ pub record Keeps (parts : List ℕ) (part : ℕ) (before : Round) (policy : List
 -- each of the first rounds, so many, follows from the one before
 abbrev pub AreFollowing : NetLists → List ℕ → ℕ → List Round → ℕ → Type 0
 AreFollowing net parts part rounds n = (k : ℕ) (d : Round) → k + 1 < n → FollowsRound net parts part (slice_index_or rounds k d) (slice_index_or rounds (k + 1) d)
+
+-- the first rounds, so many, are those that a policy run of the part begins with
+pub record AreBegun (net : NetLists) (parts : List ℕ) (part : ℕ) (rounds : List Round) (n : ℕ) : Type 0 where
+  pub first : (d : Round) → 0 < n → IsFirstRound net parts part (slice_index_or rounds 0 d)
+  pub next : AreFollowing net parts part rounds n
+
+-- the same, within limits
+pub record HasBegun (net : NetLists) (parts : List ℕ) (part : ℕ) (rounds : List Round) (n : ℕ) : Type 0 where
+  pub begun : AreBegun net parts part rounds n
+  pub stand : (k : ℕ) (d : Round) → k < n → Stands net parts part (slice_index_or rounds k d)

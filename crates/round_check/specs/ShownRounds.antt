@@ -1,5 +1,5 @@
 -- What the text of cycle times with their rounds shows.
-use Rattle.std.specs.Prelude.{ℕ, ◌+◌, ◌≡◌, ◌++◌, List, All, Some, drop, map}
+use Rattle.std.specs.Prelude.{ℕ, ◌≡◌, ◌++◌, List, All, Some, map}
 use Rattle.teg_net.specs.declared.answers.CycleAnswer.{CycleAnswer}
 use Rattle.teg_net.specs.declared.answers.PartAnswer.{PartAnswer}
 use Rattle.teg_net.specs.declared.rounds.Round.{Round}
@@ -22,11 +22,6 @@ use Rattle.pace_check.specs.ShownCycles.{HasPartsInOrder}
 -- the rounds are a policy run of the part that ends in its answer
 abbrev pub EndsIn : NetLists → List ℕ → ℕ → PartAnswer → List Round → Type 0
 EndsIn net part_of part answer rounds = IsPolicyRun net part_of part rounds × IsAnswerOfLast rounds answer
-
--- where so many of the runs are those of the parts from the next number on, those from this number on are too
-abbrev pub RunsGoOn : NetLists → List ℕ → List PartAnswer → List (List Round) → ℕ → ℕ → ℕ → Type 0
-RunsGoOn net part_of answers runs number told next =
-    AreRunsFrom net part_of (number + 1) (drop (number + 1) answers) (drop next runs) → AreRunsFrom net part_of number (drop number answers) (drop told runs)
 
 -- the whole text is that of these cycle times, which are a certificate of the net, as those without rounds are told, within the limits of
 -- circuits, and then of the policy runs of the parts that have a circuit, in order, each of which ends in the answer of its part

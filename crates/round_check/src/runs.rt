@@ -1,5 +1,5 @@
 //! Whether rounds are a policy run of a part.
-ghost use Rattle.std.specs.Prelude.{◌≡◌, ◌↔◌, ◌<◌, ◌-◌, ℕ, All, IfOk, IsTrue, length, slice_index_or};
+ghost use Rattle.std.specs.Prelude.{◌≡◌, ◌↔◌, ◌<◌, ◌≤◌, ◌+◌, ◌-◌, ℕ, All, IfOk, IsTrue, length, slice_index_or};
 ghost use Rattle.teg_net.specs.declared.rounds.Round.{Round};
 ghost use Rattle.teg_net.specs.Circuits.{AreInRange, IsCircuit, IsLive};
 ghost use Rattle.teg_net.specs.Limits.{greatest_scaled_potential};
@@ -11,7 +11,7 @@ ghost use Rattle.policy_rounds.specs.PolicyLists.{IsCircuitRatio, policy_of};
 ghost use Rattle.teg_parts.specs.Components.{IsMarked};
 ghost use Rattle.round_check.specs.PolicyCircuits.{FitsPolicy, IsBoundOf, IsBoundSmall};
 ghost use Rattle.round_check.specs.Offers.{IsSpread};
-ghost use Rattle.round_check.specs.Rounds.{AreFollowing, HasPlacesOf, IsStep, Keeps, KeepsLimits, Stands};
+ghost use Rattle.round_check.specs.Rounds.{AreBegun, HasBegun, HasPlacesOf, IsStep, Keeps, KeepsLimits, Stands};
 
 use crate::circuits::{Bound, all_fit, passes};
 use crate::parts::{Part, end_of};
@@ -57,14 +57,6 @@ fn stands(part: &Part, round: &Round) -> bool
         round.now }
 {
     check_round(part.net, part.parts, part.number, round) && keeps_limits(round)
-}
-
-// Whether each round is so.
-fn all_stand(part: &Part, rounds: &[Round]) -> bool
-    ensures { IsTrue result ↔ All (Stands part.now.net.now part.now.parts.now part.now.number)
-        rounds.now }
-{
-    rounds.iter().all(|round| stands(part, round))
 }
 
 // The choices of a round, by transition.
@@ -266,35 +258,77 @@ fn follows(alloc: Global, part: &Part, before: &Round, round: &Round) -> Result<
 }
 
 // The round of this number.
-fn round_at<'r>(rounds: &'r [Round], number: usize) -> &'r Round
+pub(crate) fn round_at<'r>(rounds: &'r [Round], number: usize) -> &'r Round
     requires { number < length rounds.now }
     ensures { (d : Round) → result.now ≡ slice_index_or rounds.now number d }
 {
     &rounds[number]
 }
 
-// Whether each round follows from the one before.
-fn follow_each(alloc: Global, part: &Part, rounds: &[Round]) -> Result<bool, AllocError>
-    requires { All (Stands part.now.net.now part.now.parts.now part.now.number) rounds.now }
-    ensures { IfOk result (λ yes. IsTrue yes ↔ AreFollowing part.now.net.now part.now.parts.now
-        part.now.number rounds.now (length rounds.now)) }
+// Whether the round stands and is the first of the part.
+fn begins(alloc: Global, part: &Part, round: &Round) -> Result<bool, AllocError>
+    ensures { IfOk result (λ yes. IsTrue yes ↔ (Stands part.now.net.now part.now.parts.now
+        part.now.number round.now × IsFirstRound part.now.net.now part.now.parts.now
+        part.now.number round.now)) }
 {
+    if !stands(part, round) {
+        return Ok(false);
+    }
+    let is_first = is_first(alloc, part, round)?;
+    Ok(is_first)
+}
+
+// Whether the round stands and follows from the one before.
+fn goes_on(alloc: Global, part: &Part, before: &Round, round: &Round) -> Result<bool, AllocError>
+    requires { Stands part.now.net.now part.now.parts.now part.now.number before.now }
+    ensures { IfOk result (λ yes. IsTrue yes ↔ (Stands part.now.net.now part.now.parts.now
+        part.now.number round.now × FollowsRound part.now.net.now part.now.parts.now
+        part.now.number before.now round.now)) }
+{
+    if !stands(part, round) {
+        return Ok(false);
+    }
+    let is_next = follows(alloc, part, before, round)?;
+    Ok(is_next)
+}
+
+// How many of the first rounds are those that a policy run of the part begins with, within limits.
+// In a live net none begins with one more.
+pub(crate) fn rounds_begun(
+    alloc: Global,
+    part: &Part,
+    rounds: &[Round],
+) -> Result<usize, AllocError>
+    ensures within { IfOk result (λ n. n ≤ length rounds.now) }
+    ensures begun { IfOk result (λ n. HasBegun part.now.net.now part.now.parts.now part.now.number
+        rounds.now n) }
+    ensures all { IsLive part.now.net.now → IfOk result (λ n. n < length rounds.now
+        → AreBegun part.now.net.now part.now.parts.now part.now.number rounds.now (n + 1) → ⊥) }
+{
+    part.net.rules();
+    if rounds.len() == 0 {
+        return Ok(0);
+    }
+    let is_begun = begins(alloc, part, round_at(rounds, 0))?;
+    if !is_begun {
+        return Ok(0);
+    }
     for next in 1..rounds.len() {
-        let is_next = follows(
+        let is_next = goes_on(
             alloc,
             part,
             round_at(rounds, next - 1),
             round_at(rounds, next),
         )?;
         if !is_next {
-            return Ok(false);
+            return Ok(next);
         }
     }
-    Ok(true)
+    Ok(rounds.len())
 }
 
 // Whether no place improves the round.
-fn is_last(alloc: Global, part: &Part, round: &Round) -> Result<bool, AllocError>
+pub(crate) fn is_last(alloc: Global, part: &Part, round: &Round) -> Result<bool, AllocError>
     requires { Stands part.now.net.now part.now.parts.now part.now.number round.now }
     ensures { IfOk result (λ yes. IsTrue yes ↔ IsLastRound part.now.net.now part.now.parts.now
         part.now.number round.now) }
@@ -313,19 +347,11 @@ fn is_run(alloc: Global, part: &Part, rounds: &[Round]) -> Result<bool, AllocErr
     ensures all { IsLive part.now.net.now → IfOk result (λ yes. IsPolicyRun part.now.net.now
         part.now.parts.now part.now.number rounds.now → IsTrue yes) }
 {
-    part.net.rules();
     if rounds.len() == 0 {
         return Ok(false);
     }
-    if !all_stand(part, rounds) {
-        return Ok(false);
-    }
-    let is_begun = is_first(alloc, part, round_at(rounds, 0))?;
-    if !is_begun {
-        return Ok(false);
-    }
-    let are_next = follow_each(alloc, part, rounds)?;
-    if !are_next {
+    let begun = rounds_begun(alloc, part, rounds)?;
+    if begun < rounds.len() {
         return Ok(false);
     }
     let is_ended = is_last(alloc, part, round_at(rounds, rounds.len() - 1))?;

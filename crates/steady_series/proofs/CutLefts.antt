@@ -1,6 +1,6 @@
 -- Before a series that goes on from shift to shift, the first values of another tell the residual, where the others are earlier than these by
 -- more than it ever drops.
-use Rattle.std.proofs.Common.{ℕ, ℤ, pos, zero, suc, ◌+◌, ◌*◌, ◌-◌, ◌≤◌, ◌<◌, ◌≡◌, ◌+ℤ◌, ◌-ℤ◌, Bool, true, false, Result, Ok, Err, get_or, refl, sym, ap, subst, ◌∙◌, arith, ⊎_elim}
+use Rattle.std.proofs.Common.{ℕ, ℤ, pos, zero, suc, ◌+◌, ◌-◌, ◌≤◌, ◌<◌, ◌≡◌, ◌+ℤ◌, ◌-ℤ◌, Bool, true, false, Ok, get_or, refl, sym, ap, subst, ◌∙◌, arith, ⊎_elim}
 use Rattle.std.specs.Prelude.{◌≤ℤ◌}
 use Rattle.std.specs.Int.{int_max}
 use Rattle.std.proofs.lemmas.Int.{int_max_is, ints}
@@ -9,7 +9,6 @@ use Rattle.std.proofs.lemmas.List.{get_or-take, length-take-le}
 use Rattle.std.proofs.Math.Nat.{eq-or-lt_of_le}
 use Rattle.dioid.specs.Dates.{date_left, move}
 use Rattle.dioid.specs.ElementAnswers.{Answers}
-use Rattle.dioid.specs.declared.algebra.Refused.{Refused}
 use Rattle.dioid.specs.declared.dates.Date.{Date}
 use Rattle.dioid.specs.declared.dates.Date.TheVariants.{Early, At, Never}
 use Rattle.dioid.specs.DateOrder.{Le}
@@ -17,7 +16,7 @@ use Rattle.dioid.proofs.AtMost.{early_le, le_antisym, le_early, le_is, le_never,
 use Rattle.dioid.proofs.Moves.{at_inj, move_zero}
 use Rattle.series_laws.specs.Periodic.{Repeats, Rising, times}
 use Rattle.series_laws.specs.Residual.{IsLeftAt}
-use Rattle.series_laws.specs.SeriesForms.{Form, HasValues, IsForm, form_with, repeat_start, size_of, value_at}
+use Rattle.series_laws.specs.SeriesForms.{Form, HasValues, IsForm, repeat_start, size_of, value_at}
 use Rattle.series_laws.specs.ProductNeeds.{residual_at, form_left}
 use Rattle.series_laws.proofs.Canonical.{one_canonical}
 use Rattle.series_laws.proofs.FormValues.{value_in, value_placed}
@@ -59,9 +58,9 @@ pub cut_rises : (f : Form) (m : ℕ) → Rising (value_at f) → 0 < m → m ≤
 cut_rises f m rising some fits = record {
   rises = λ j k up. ⊎_elim
       (λ (first : j < m). ⊎_elim
-          (λ (second : k < m). le_trans (le_is (cut_in f m fits j first)) (le_trans (rising.rises j k up) (le_is (sym (cut_in f m fits k second)))))
-          (λ (second : m ≤ k). le_trans (le_is (cut_in f m fits j first)) (le_trans (rising.rises j (m - 1) (omega (arith, first))) (le_is (sym (cut_past f m some fits k second)))))
-          (cases_lt k m))
+      (λ (second : k < m). le_trans (le_is (cut_in f m fits j first)) (le_trans (rising.rises j k up) (le_is (sym (cut_in f m fits k second)))))
+      (λ (second : m ≤ k). le_trans (le_is (cut_in f m fits j first)) (le_trans (rising.rises j (m - 1) (omega (arith, first))) (le_is (sym (cut_past f m some fits k second)))))
+      (cases_lt k m))
       (λ (first : m ≤ j). le_is (cut_past f m some fits j first ∙ sym (cut_past f m some fits k (omega (arith, first, up)))))
       (cases_lt j m);
 }

@@ -184,20 +184,20 @@ under_all f isf s ef step slow from early level listed i z begun e = ⊎_elim
     let fits = isf.period_fits in
     by_steps IsLow (repeat_start f) f.period isf.period_positive (λ k later l. λ y there. listed k y (omega (arith, early, later)) (omega (arith, l, size)) there) next i (omega (arith, past)) z e)
     (cases_lt i (size_of f)) where
-  IsLow : ℕ → Type 0
-  IsLow k = (y : ℤ) → value_at f k ≡ At y → y ≤ℤ (level +ℤ times k step)
+      IsLow : ℕ → Type 0
+      IsLow k = (y : ℤ) → value_at f k ≡ At y → y ≤ℤ (level +ℤ times k step)
 
-  size : repeat_start f + f.period ≡ size_of f
-  size = let fits = isf.period_fits in omega (arith, fits)
+      size : repeat_start f + f.period ≡ size_of f
+      size = let fits = isf.period_fits in omega (arith, fits)
 
-  next : (k : ℕ) → repeat_start f ≤ k → IsLow k → IsLow (k + f.period)
-  next k later low y there =
-      let old = tail_number f s isf ef k later in
-      let more : value_at f (k + f.period) ≡ At (old.0 +ℤ f.step) = (form_repeats_own f isf).at k later ∙ ap (move f.step) old.1 in
-      let is : y ≡ old.0 +ℤ f.step = at_inj _ _ (sym there ∙ more) in
-      let here : old.0 ≤ℤ (level +ℤ times k step) = low old.0 old.1 in
-      let sum : times (k + f.period) step ≡ times k step +ℤ times f.period step = times_add k f.period step in
-      omega (arith, ints, is, here, sum, slow)
+      next : (k : ℕ) → repeat_start f ≤ k → IsLow k → IsLow (k + f.period)
+      next k later low y there =
+          let old = tail_number f s isf ef k later in
+          let more : value_at f (k + f.period) ≡ At (old.0 +ℤ f.step) = (form_repeats_own f isf).at k later ∙ ap (move f.step) old.1 in
+          let is : y ≡ old.0 +ℤ f.step = at_inj _ _ (sym there ∙ more) in
+          let here : old.0 ≤ℤ (level +ℤ times k step) = low old.0 old.1 in
+          let sum : times (k + f.period) step ≡ times k step +ℤ times f.period step = times_add k f.period step in
+          omega (arith, ints, is, here, sum, slow)
 
 -- the lead of the list is that of all values where a period gains no more than the steps of the steady form
 pub lead_of_slow : (f g : Form) → IsForm f → IsForm g → size_of f ≤ 20000 → size_of g ≡ 1 → (s t lead : ℤ) → tail_of f ≡ At s → tail_of g ≡ At t → f.step ≤ℤ times f.period g.step

@@ -4,7 +4,7 @@ use Rattle.dioid.specs.ElementAnswers.{Answers}
 use Rattle.dioid.specs.declared.algebra.Refused.{Refused}
 use Rattle.dioid.specs.declared.algebra.Refused.TheVariants.{OutOfMemory}
 use Rattle.dioid.specs.declared.dates.Date.{Date}
-use Rattle.dioid.specs.declared.dates.Date.TheVariants.{Early, At, Never}
+use Rattle.dioid.specs.declared.dates.Date.TheVariants.{At}
 use Rattle.series_laws.specs.Needs.{tail_of}
 use Rattle.series_laws.specs.Periodic.{times}
 use Rattle.series_laws.specs.SeriesForms.{Form, form_with, repeat_start, size_of, value_at}

@@ -147,14 +147,10 @@ fn cut_of(first: &Series, second: &Series) -> Option<usize>
 
 /// The residual of the second series by the first (chapter 5), as `Gain::left` tells it, where the
 /// second goes on from shift to shift, and few of the first values of the first are known to tell
-/// it: where all after them are earlier than the latest of them and the steps of the second since,
-/// by as much as the second ever falls behind its steps. Else none. Refuses for want of memory
+/// it: where all after them are earlier than one of them and the steps of the second since, by as
+/// much as the second ever falls behind its steps. Else none. Refuses for want of memory
 /// alone. Where it tells none it takes time of the order of the two lists.
-pub fn left_by_first(
-    alloc: Global,
-    first: &Gain,
-    second: &Gain,
-) -> Result<Option<Gain>, Refused>
+pub fn left_by_first(alloc: Global, first: &Gain, second: &Gain) -> Result<Option<Gain>, Refused>
     ensures { IsToldOf first.now second.now result }
 {
     let count = match cut_of(&first.series, &second.series) {

@@ -13,12 +13,11 @@ use Rattle.teg_net.specs.Nets.{NetLists}
 use Rattle.forever_laws.specs.settled_laws.SettledForms.{SettledForm}
 use Rattle.teg_settle.specs.walk_times.Transfers.{IsTransferOf}
 use Rattle.endless_due.specs.declared.row.EndlessRow.{EndlessRow}
-use Rattle.forever_laws.specs.SeriesColumns.{AreSeriesColumns, IsDueSeries, IsWalkSeries, gain_residuals}
+use Rattle.forever_laws.specs.SeriesColumns.{IsDueSeries, IsWalkSeries, gain_residuals}
 use Rattle.forever_laws.proofs.OneColumn.{one_due, one_time}
 use Rattle.forever_laws.proofs.Residuals.{GotRow, got_row}
 use Rattle.forever_laws.proofs.Series.{transfers_are_series}
 use Rattle.teg_forever.specs.Alike.{HaveSameWalks, told_form}
-use Rattle.teg_forever.specs.declared.divisions.Divided.{Divided}
 use Rattle.teg_forever.specs.declared.residuals.Meet.{Meet}
 use Rattle.teg_forever.specs.Divisions.{AreMet, IsAlikeAt, IsAsBefore, IsMeetOver, IsMeetSoFar, IsMeetTo, IsRowResidual, StaysOver}
 use Rattle.teg_forever.proofs.Dividing.{alike_due, meet_begun, meet_on}

@@ -1,6 +1,6 @@
 -- The search for late firings of all rows of due dates together.
-use Rattle.std.proofs.Common.{ℕ, ◌≡◌, ◌<◌, ◌≤◌, ◌+◌, ◌-◌, ◌∙◌, ◌++◌, ◌∷◌, [], List, All, Option, Some, None, length, get_or, pos, take, refl, sym, ap, subst, arith, ⊎_elim}
-use Rattle.std.specs.Prelude.{slice_get, slice_index_or}
+use Rattle.std.proofs.Common.{ℕ, ◌≡◌, ◌<◌, ◌≤◌, ◌+◌, ◌-◌, ◌++◌, ◌∷◌, [], List, All, Some, None, length, get_or, pos, take, refl, sym, subst, arith, ⊎_elim}
+use Rattle.std.specs.Prelude.{slice_get}
 use Rattle.std.proofs.lemmas.Bool.{cases_lt}
 use Rattle.std.proofs.lemmas.List.{get_or-take, length-append, length-take-le}
 use Rattle.std.proofs.lemmas.Option.{slice_get-get_or}
@@ -8,7 +8,7 @@ use Rattle.std.proofs.Math.ListN.{get_or-append}
 use Rattle.std.proofs.Math.Nat.{eq-or-lt_of_le}
 use Rattle.std.proofs.Math.Seq.{get_or-append_seam}
 use Rattle.dioid.specs.declared.dates.Date.{Date}
-use Rattle.dioid.specs.declared.dates.Date.TheVariants.{Early, At}
+use Rattle.dioid.specs.declared.dates.Date.TheVariants.{At}
 use Rattle.teg_net.specs.Limits.{greatest_firing_number}
 use Rattle.teg_net.specs.Nets.{NetLists, IsNet, without_inputs}
 use Rattle.teg_net.specs.Circuits.{IsLive}
@@ -18,12 +18,11 @@ use Rattle.endless_due.specs.EndlessRows.{row_due}
 use Rattle.forever_laws.specs.teg_model.Datings.{IsLeastUnder}
 use Rattle.forever_laws.specs.due_laws.MeetingDueDates.{inputs_at_zero}
 use Rattle.forever_laws.specs.EndlessDues.{ZeroInputsAreNoLists}
-use Rattle.forever_laws.specs.Late.{IsLateAt, IsLeastLate, NoneLate, NoneLateTo}
-use Rattle.teg_forever.specs.declared.late.LateFiring.{LateFiring}
+use Rattle.forever_laws.specs.Late.{IsLeastLate, NoneLate}
 use Rattle.teg_forever.specs.declared.together.LateRow.{LateRow}
 use Rattle.teg_forever.specs.declared.together.Search.{Search}
 use Rattle.teg_forever.specs.LateFirings.{InLeastAtZero, TellsWhetherLate}
-use Rattle.teg_forever.specs.TogetherRows.{AreNeverLate, AreInTimeAt, AreLasts, AreLeastDates, IsFoundNext, IsInTimeAt, IsLateAmong, IsLateFiringAt, IsLateRow, IsSearchedTo, IsSearchedThrough}
+use Rattle.teg_forever.specs.TogetherRows.{AreNeverLate, AreInTimeAt, AreLasts, AreLeastDates, IsInTimeAt, IsLateAmong, IsLateFiringAt, IsSearchedTo, IsSearchedThrough}
 use Rattle.teg_forever.proofs.AloneRows.{tells, is_number}
 use Rattle.teg_forever.proofs.LateNumbers.{in_time_at, least_then, none_less, none_then}
 use Rattle.teg_forever.proofs.Series.{some_is}

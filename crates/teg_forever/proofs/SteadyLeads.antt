@@ -1,5 +1,5 @@
 -- What the lead of walk times over a steady due series tells of a row.
-use Rattle.std.proofs.Common.{ℕ, ℤ, true, ◌+◌, ◌/◌, ◌≡◌, ◌≤◌, ◌+ℤ◌, ◌-ℤ◌, List, Some, Result, Ok, Err, refl, sym, ap, subst, ◌∙◌, arith, ⊎_elim}
+use Rattle.std.proofs.Common.{ℕ, ℤ, true, ◌+◌, ◌/◌, ◌≡◌, ◌+ℤ◌, ◌-ℤ◌, List, Some, Result, Ok, Err, refl, sym, ap, subst, ◌∙◌, arith, ⊎_elim}
 use Rattle.std.specs.Prelude.{◌≤ℤ◌, Option, None, IfSome, slice_get}
 use Rattle.std.proofs.lemmas.Int.{ints}
 use Rattle.std.proofs.Math.Nat.{div-one}

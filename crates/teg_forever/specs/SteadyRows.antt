@@ -1,5 +1,5 @@
 -- Working definitions of residuals of steady due series, which the lead of walk times tells.
-use Rattle.std.specs.Prelude.{ℕ, ◌≡◌, ◌<◌, ◌≤◌, true, Option, Some, None, Result, Ok, Err, ⊤}
+use Rattle.std.specs.Prelude.{ℕ, ◌<◌, ◌≤◌, true, Option, Some, None, Result, Ok, Err, ⊤}
 use Rattle.dioid.specs.ElementAnswers.{Answers}
 use Rattle.dioid.specs.declared.algebra.Refused.{Refused}
 use Rattle.forever_laws.specs.series_laws.Periodic.{Rising}

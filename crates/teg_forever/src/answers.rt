@@ -123,8 +123,11 @@ fn keep_dues(alloc: Global, due: &DueRows<'_>) -> Result<(), ForeverRefusal>
 /// bytes a date. Then for each input the walk times are settled likewise; for a settling length k
 /// each due row takes a residual of at most 20,000 values, each in time of order k, less the
 /// numbers at which no walk arrives yet; where its due dates rise by the same step from each firing
-/// to the next, all of it in time of order k. Other rows that ask the same dates take one residual
-/// for all inputs that reach their transitions alike, as long as the series that are kept for that
+/// to the next, all of it in time of order k. Where a row goes on by the same step after its list
+/// of d dates, and few of the first walk times tell its residual, as all later ones are earlier than
+/// these and the steps since by more than the due dates ever fall behind their steps, this is found
+/// by those few: in time of order `k + d` for one of them. Other rows that ask the same dates take
+/// one residual for all inputs that reach their transitions alike, as long as the series that are kept for that
 /// have fewer than three million values, which take some 100 MB; then a row takes time of the order
 /// of its series. An input whose places have the ends and the tokens of those of an input before it,
 /// in any order, and are all held longer by one difference, or shorter, or as long, takes no more

@@ -43,8 +43,9 @@
 //! row; and the meet over the rows of the residuals of the due series by these, which is the
 //! residual of a column of due series by a column of walk series. Where due dates rise by the same
 //! step from each firing to the next, no series is made of the walk times: by how much they are
-//! later than these steps, at most, tells the residual (`walk_residual`). Another residual of the
-//! same dates by the same series as before is taken over (`Divisions`), and a meet of a series with
+//! later than these steps, at most, tells the residual (`walk_residual`). Where they do so after a
+//! list, few of the first walk times may tell it (`left_by_first` of `steady_series`). Another
+//! residual of the same dates by the same series as before is taken over (`Divisions`), and a meet of a series with
 //! itself is that series; rows that are as the one before are not even gone through
 //! (`is_as_before`). An input whose places have the ends and the tokens of those of an input before
 //! it, and are all held longer by one lag, or shorter, or as long (`input_before`, by `lag_between`

@@ -298,13 +298,13 @@ const CALLS: [Call<'static>; 56] = [
     ),
     (
         &["loop", "other rounds"],
-        AuditStatus::NotShown,
-        "not shown cycle time 5/1\n",
+        AuditStatus::Refuted,
+        "refuted cycle time 5/1\nrefuted part 1 round 1 ratio 5/1\n",
     ),
     (
         &["loop", "part of rounds"],
-        AuditStatus::NotShown,
-        "not shown cycle time 5/1\n",
+        AuditStatus::Refuted,
+        "refuted cycle time 5/1\nrefuted part 1 round 1 ratio 5/1\n",
     ),
     (
         &["dead", "rounds"],

@@ -1,7 +1,8 @@
 //! Rounds of policy iteration as they are told, and texts with rounds that are none of their policies,
-//! that do not follow from one another, or that do not end in the cycle times.
+//! that do not follow from one another, or that do not end in the cycle times, with the line that is
+//! told to be false.
 use example_nets::read;
-use round_check::shown_rounds;
+use round_check::{refutes_rounds, shown_rounds};
 use std::alloc::Global;
 use std::test::Fail;
 
@@ -102,32 +103,47 @@ choice west_in west_round 0
 choice west_out west_run 11
 ";
 
-// Lines of rounds behind the cycle times, and whether the whole is shown.
-const RUNS: [(&str, &str, bool); 11] = [
-    (FIRST, SECOND, true),
-    (FIRST, "", false),
-    ("", "", false),
-    ("", SECOND, false),
-    (SECOND, FIRST, false),
-    (ALONE, "", false),
-    (RAISED, SECOND, false),
-    (OTHER, SECOND, false),
-    (TURNED, SECOND, false),
-    (FIRST, DOUBLED, false),
-    (FIRST, THIRD, false),
+// The second round with another potential.
+const LOWERED: &str = "part 1 round 2 ratio 44/1
+circuit west_run west_round
+choice east_in clear_for_east -32
+choice east_out east_run -22
+choice west_in west_round 0
+choice west_out west_run 11
+";
+
+// Lines of rounds behind the cycle times, whether the whole is shown, and the line, counted from 0,
+// with which the first round begins that is told to be another: none where no round is told, a round
+// has another number or a ratio is not in lowest terms.
+const RUNS: [(&str, &str, bool, Option<u64>); 12] = [
+    (FIRST, SECOND, true, None),
+    (FIRST, "", false, Some(8)),
+    ("", "", false, None),
+    ("", SECOND, false, None),
+    (SECOND, FIRST, false, None),
+    (ALONE, "", false, Some(8)),
+    (RAISED, SECOND, false, Some(8)),
+    (OTHER, SECOND, false, Some(8)),
+    (TURNED, SECOND, false, Some(8)),
+    (FIRST, LOWERED, false, Some(14)),
+    (FIRST, DOUBLED, false, None),
+    (FIRST, THIRD, false, None),
 ];
 
-// Whether the cycle times with these lines behind them are shown.
-fn is_shown(alloc: Global, first: &str, second: &str) -> Result<bool, Fail> {
+// Whether the cycle times with these lines behind them are shown, and by which line they are
+// refuted.
+fn found(alloc: Global, first: &str, second: &str) -> Result<(bool, Option<u64>), Fail> {
     let net = read(alloc, TRACK)?;
     let text = format!(in alloc; "{TIMES}{first}{second}")?;
-    Ok(shown_rounds(alloc, &net, text.as_str())?.is_some())
+    let is_shown = shown_rounds(alloc, &net, text.as_str())?.is_some();
+    let other = refutes_rounds(alloc, &net, text.as_str())?;
+    Ok((is_shown, other.map(|other| other.line)))
 }
 
 #[test]
 fn only_the_rounds_of_the_run_are_shown(rt: HostRuntime) -> Result<(), Fail> {
-    for (first, second, wanted) in RUNS {
-        if is_shown(rt.alloc(), first, second)? != wanted {
+    for (first, second, is_shown, line) in RUNS {
+        if found(rt.alloc(), first, second)? != (is_shown, line) {
             return Err(Fail::new(first));
         }
     }

@@ -7,7 +7,8 @@
 //! of the answer, of a bound and of releases without end each line, of a table of latest dates each
 //! line that tells a date, of delays that are kept that line and the circuit, and of delays that die
 //! out the line that says so, each behind what is found of it: `shown`, `refuted`, `not shown` or `no checker`. Of a list or a table with a wrong line
-//! it prints the first line and the first that is wrong, of a table that does not go up to the greatest
+//! it prints the first line and the first that is wrong, of rounds of which one is another the first line and
+//! that with which this one begins, of a table that does not go up to the greatest
 //! number that is due the first line alone. Further questions may follow, each behind `--`; of one
 //! whose file is not read, or says no net, text or rows, it prints `not read` and the name of the
 //! answer. `-` is standard input.

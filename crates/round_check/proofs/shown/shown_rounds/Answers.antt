@@ -1,41 +1,37 @@
-use Rattle.std.proofs.Common.{◌≡◌, ◌++◌, All, Some, sym, subst, rules}
-use Rattle.teg_net.specs.GreatestRatios.{IsAnyPlace, IsGreatestRatio}
-use Rattle.teg_certificates.specs.BestRatios.{best_ratio_of}
+use Rattle.std.proofs.Common.{rules, subst}
 use Rattle.policy_rounds.specs.LastRounds.{rounds_of_runs}
-use Rattle.teg_text.specs.Lines.{written}
-use Rattle.teg_lines.specs.CycleLines.{cycle_lines}
 use Rattle.teg_lines.specs.CycleMeanings.{cycle_lists}
-use Rattle.teg_lines.specs.RoundLines.{IsRunKept, runs_lines, told_runs}
-use Rattle.pace_check.specs.ShownCycles.{IsShownTimes}
+use Rattle.teg_lines.specs.RoundLines.{AreRunsTold}
+use Rattle.round_check.specs.ToldRounds.{IsTold}
 use Rattle.round_check.proofs.Telling.{lists_of}
 use Rattle.round_check.proofs.shown.shown_rounds.Goals as goal
 
+pub first_other-requires-clause-told : goal.first_other-requires-clause-told
+first_other-requires-clause-told c =
+    let told = c.in-Some.told in
+    let is : IsTold c.args.net.now c.args.text.now told = search rules in
+    rw c.deref.ensures.value (subst (AreRunsTold c.args.net.now (cycle_lists told.answer).parts) (lists_of told.runs.items) is.whole.rounds)
+
 pub returns : goal.returns
 returns c =
-    let net = c.args.net.now in
-    let answer = c.in-Some-2.answer in
-    let ratio = c.in-Some-best_ratio.ratio in
-    let runs = c.in-Some.told.runs.items in
-    let times : IsShownTimes net c.as_str.result.now answer = search rules in
-    let best : best_ratio_of answer ≡ Some ratio = search rules in
-    let same : times.greatest.0 ≡ ratio = cc (times.greatest.1, best) in
-    let told = rw c.deref-2.ensures.value at (c.in_ok-tells_rounds.ensures.text c.if-not-branch-2.false) in
-    let kept = rw c.deref-2.ensures.value at c.in_ok-tells_rounds.ensures.kept in
+    let told = c.in-Some.told in
+    let is : IsTold c.args.net.now c.args.text.now told = search rules in
+    let none = rw c.in-None.is at c.in_ok-first_other.ensures.none in
     record {
-      live = times.live;
-      greatest = subst (IsGreatestRatio net IsAnyPlace) same times.greatest.2;
+      live = is.live;
+      greatest = is.greatest;
       rounds = (
-        answer,
-        rounds_of_runs runs,
-        best,
+        told.answer,
+        rounds_of_runs told.runs.items,
+        is.best,
         record {
-          certificate = times.times.certificate;
-          strong = times.times.strong;
-          parts = times.times.parts;
+          certificate = is.whole.certificate;
+          strong = is.strong;
+          parts = is.parts;
           limits = c.keep_limits.ensures c.if-not-keep_limits.false;
-          runs_told = rw c.deref.ensures.value at (c.in_ok-are_runs.ensures c.if-not-branch.false);
-          kept = subst (All IsRunKept) (sym (lists_of runs)) kept;
-          told = subst (λ l. c.args.text.now ≡ written (cycle_lines net (cycle_lists answer) ++ runs_lines net (told_runs (cycle_lists answer).parts (Some l)))) (sym (lists_of runs)) told;
+          runs_told = rw c.deref.ensures.value at none;
+          kept = is.whole.kept;
+          told = is.whole.told;
         },
       );
     }

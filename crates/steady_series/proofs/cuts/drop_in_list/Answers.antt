@@ -1,14 +1,14 @@
 use Rattle.std.proofs.Common.{rules, ◌≡◌, ◌/◌, ◌+◌, ℕ, List, ap, arith, get_or, subst, sym, length, ◌∙◌, to_z, of_z, ◌+ℤ◌}
 use Rattle.std.specs.Int.{w128}
 use Rattle.std.specs.Prelude.{ℤ}
-use Rattle.std.proofs.lemmas.Int.{ints, to_z-of_z}
+use Rattle.std.proofs.lemmas.Int.{to_z-of_z}
 use Rattle.std.proofs.Math.Nat.{div-one}
 use Rattle.dioid.specs.declared.dates.Date.{Date}
 use Rattle.dioid.specs.declared.dates.Date.TheVariants.{Early, At}
 use Rattle.series_laws.specs.Periodic.{times}
 use Rattle.series_laws.specs.SeriesForms.{size_of, value_at}
 use Rattle.series_laws.proofs.FormValues.{value_in}
-use Rattle.steady_series.specs.Cuts.{IsDrop, IsDropTo, IsUnder}
+use Rattle.steady_series.specs.Cuts.{IsDropTo, IsUnder}
 use Rattle.steady_series.proofs.CutLefts.{drop_on, low_on, top_on}
 use Rattle.steady_series.proofs.cuts.drop_in_list.Goals as goal
 

@@ -1,4 +1,4 @@
-use Rattle.std.proofs.Common.{◌≡◌, pos, List, arith, subst, sym}
+use Rattle.std.proofs.Common.{pos, List, arith, subst, sym}
 use Rattle.std.specs.Prelude.{take}
 use Rattle.dioid.specs.declared.dates.Date.{Date}
 use Rattle.series_laws.specs.Periodic.{Rising}

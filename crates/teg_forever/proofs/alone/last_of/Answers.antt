@@ -1,4 +1,4 @@
-use Rattle.std.proofs.Common.{ℕ, subst, sym}
+use Rattle.std.proofs.Common.{ℕ, subst}
 use Rattle.teg_net.proofs.NetRules.{net_ends}
 use Rattle.forever_laws.specs.Late.{NoneLateTo}
 use Rattle.teg_forever.proofs.alone.last_of.Goals as goal

@@ -1,4 +1,4 @@
-use Rattle.std.proofs.Common.{◌≡◌, ◌≤◌, ◌<◌, All, length, refl, subst, sym, arith}
+use Rattle.std.proofs.Common.{◌≡◌, All, length, subst, sym, arith}
 use Rattle.std.proofs.lemmas.List.{take_all}
 use Rattle.std.proofs.lemmas.Option.{slice_get_within}
 use Rattle.teg_net.proofs.NetRules.{net_ends}

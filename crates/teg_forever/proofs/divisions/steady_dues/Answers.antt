@@ -1,4 +1,4 @@
-use Rattle.std.proofs.Common.{rules, ◌≡◌, ◌<◌, ◌≤◌, ◌+◌, ◌++◌, ◌∷◌, [], ℕ, length, sym, subst, arith}
+use Rattle.std.proofs.Common.{rules, ◌≡◌, ◌≤◌, ◌+◌, ◌++◌, ◌∷◌, [], ℕ, length, sym, subst, arith}
 use Rattle.teg_forever.specs.Divisions.{AreSteadyTo}
 use Rattle.teg_forever.specs.LateFirings.{IsGoingRow}
 use Rattle.teg_forever.proofs.Dividing.{steady_more}

@@ -1,4 +1,4 @@
-use Rattle.std.proofs.Common.{◌≡◌, ◌<◌, length, Some, subst, sym, arith}
+use Rattle.std.proofs.Common.{subst, arith}
 use Rattle.std.specs.Prelude.{IfSome, Option}
 use Rattle.series_ops.specs.declared.gains.Gain.{Gain}
 use Rattle.forever_laws.specs.SeriesColumns.{IsDueSeries}

@@ -1,9 +1,8 @@
-use Rattle.std.proofs.Common.{rules, ◌≡◌, ◌∙◌, sym, ap, subst, arith, length, to_z, of_z, ◌+ℤ◌}
+use Rattle.std.proofs.Common.{rules, ◌≡◌, ◌∙◌, sym, ap, arith, length, to_z, of_z, ◌+ℤ◌}
 use Rattle.std.specs.Int.{w128}
 use Rattle.std.specs.Prelude.{ℤ}
 use Rattle.forever_laws.specs.series_laws.Periodic.{times}
 use Rattle.forever_laws.specs.series_laws.SeriesForms.{repeat_start, size_of}
-use Rattle.steady_series.specs.Leads.{IsLeadOver}
 use Rattle.teg_forever.proofs.SteadyLeads.{lead_of_list}
 use Rattle.teg_forever.proofs.steady.lead_over.Goals as goal
 

@@ -1,7 +1,7 @@
 use Rattle.std.proofs.Common.{arith, subst}
 use Rattle.std.specs.Prelude.{Option, IfSome}
 use Rattle.teg_forever.specs.declared.late.LateFiring.{LateFiring}
-use Rattle.teg_forever.specs.TogetherRows.{IsInTimeAt, IsLateFiringAt}
+use Rattle.teg_forever.specs.TogetherRows.{IsLateFiringAt}
 use Rattle.teg_forever.proofs.Residues.{none_of}
 use Rattle.teg_forever.proofs.SearchedRows.{in_time_more}
 use Rattle.teg_forever.proofs.together.late_among.Goals as goal

@@ -1,4 +1,4 @@
-use Rattle.std.proofs.Common.{sym, ◌∙◌, arith}
+use Rattle.std.proofs.Common.{sym, ◌∙◌}
 use Rattle.teg_forever.proofs.SearchedRows.{in_time, late_there}
 use Rattle.teg_forever.proofs.together.late_at.Goals as goal
 

@@ -1,4 +1,4 @@
-use Rattle.std.proofs.Common.{rules, ℕ, ◌≡◌, ◌≤◌, ◌+◌, ◌-◌, get_or, length, arith, subst}
+use Rattle.std.proofs.Common.{rules, ℕ, ◌≡◌, ◌+◌, ◌-◌, arith, subst}
 use Rattle.date_rows.specs.Streams.{rows_given}
 use Rattle.teg_forever.proofs.AloneRows.{ranking_without}
 use Rattle.teg_forever.specs.TogetherRows.{IsSearchedTo}

@@ -1,4 +1,4 @@
-use Rattle.std.proofs.Common.{◌≤◌, length, arith, subst}
+use Rattle.std.proofs.Common.{arith, subst}
 use Rattle.std.specs.Prelude.{Option, IfSome, IfNone}
 use Rattle.teg_forever.specs.declared.together.LateRow.{LateRow}
 use Rattle.teg_forever.specs.TogetherRows.{AreInTimeAt, IsLateAmong}

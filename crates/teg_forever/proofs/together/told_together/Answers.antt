@@ -1,9 +1,5 @@
-use Rattle.std.proofs.Common.{ℕ, ◌≡◌, ◌<◌, ◌≤◌, length, subst, sym, arith}
-use Rattle.std.specs.Prelude.{Option, IfSome}
-use Rattle.forever_laws.specs.Late.{IsLeastLate}
-use Rattle.teg_forever.specs.declared.late.LateFiring.{LateFiring}
-use Rattle.teg_forever.specs.LateFirings.{InLeastAtZero}
-use Rattle.teg_forever.specs.TogetherRows.{AreNeverLate, IsFoundNext}
+use Rattle.std.proofs.Common.{subst}
+use Rattle.teg_forever.specs.TogetherRows.{IsFoundNext}
 use Rattle.teg_forever.proofs.together.told_together.Goals as goal
 
 pub returns-in-Some : goal.returns-in-Some

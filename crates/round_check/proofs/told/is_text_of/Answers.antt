@@ -1,6 +1,5 @@
 use Rattle.pace_check.proofs.Paces.{part_is_named}
-use Rattle.round_check.proofs.Telling.{runs_told}
-use Rattle.round_check.proofs.shown.tells_rounds.Goals as goal
+use Rattle.round_check.proofs.told.is_text_of.Goals as goal
 
 pub cycle_text-requires-clause-answer : goal.cycle_text-requires-clause-answer
 cycle_text-requires-clause-answer c =
@@ -8,8 +7,3 @@ cycle_text-requires-clause-answer c =
     let answer = c.args.answer.now in
     let k = part_is_named answer.parts.items answer.best c.args.ratio c.requires.best in
     c.certificates_can_be_told.ensures net answer k.0 c.requires.certificate k.1
-
-pub cycle_text-requires-clause-rounds : goal.cycle_text-requires-clause-rounds
-cycle_text-requires-clause-rounds c =
-    let answer = c.args.answer.now in
-    runs_told c.args.net.now answer.part_of.items answer.parts.items c.args.runs.now c.requires.certificate.count c.requires.runs
