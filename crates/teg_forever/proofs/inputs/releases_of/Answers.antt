@@ -6,7 +6,7 @@ use Rattle.teg_forever.specs.declared.releases.Release.{Release}
 use Rattle.teg_forever.specs.InputAnswers.{IsFineRelease}
 use Rattle.teg_forever.proofs.Gathered.{below_more}
 use Rattle.teg_forever.proofs.Residues.{refused_at}
-use Rattle.teg_forever.proofs.inputs.releases_of.Goals.{in-Some, in-None+in_ok-release-in-None}
+use Rattle.teg_forever.proofs.inputs.releases_of.Goals.{in-Some, in-None+in_ok-settle_input-in-None+in_ok-release-in-None}
 use Rattle.teg_forever.proofs.inputs.releases_of.Goals as goal
 
 pub release_by_another-requires-clause-input : goal.release_by_another-requires-clause-input
@@ -35,5 +35,5 @@ loop-index-preserved c =
       | in-Some w ↦
           let fine = subst (λ (o : Option Release). IfSome o (IsFineRelease m.net m.rows n)) w.in-Some.is c.in_ok-another.ensures in
           record { below = rw (added, w.release-is) (rw w.release-is at more fine); divisions = rw w.divisions-is c.loop-index.invariant.divisions; ends = rw w.ends-is c.loop-index.invariant.ends }
-      | in-None+in_ok-release-in-None w ↦ search rules
+      | in-None+in_ok-settle_input-in-None+in_ok-release-in-None w ↦ search rules
     ]
