@@ -37,8 +37,7 @@ shifted net (Next ∷ steps) a s b k d w =
 pub shifted_back : (net : NetLists) (steps : List Step) (a s b k d : ℕ) → Walks net a (s + d) steps b k → Walks net a s steps b (k - d)
 shifted_back net [] a s b k d w = (w.0, omega (arith, w.1))
 shifted_back net (By p ∷ steps) a s b k d w =
-    let to : (s + d) + (place_at net p).tokens ≡ (s + (place_at net p).tokens) + d = omega arith in
-    (
+    let to : (s + d) + (place_at net p).tokens ≡ (s + (place_at net p).tokens) + d = omega arith in (
       w.0,
       w.1,
       shifted_back net steps (place_at net p).to.index (s + (place_at net p).tokens) b k d (subst (λ (n : ℕ). Walks net (place_at net p).to.index n steps b k) to w.2),

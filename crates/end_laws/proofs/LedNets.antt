@@ -77,8 +77,7 @@ module _ (net : NetLists) (ok : IsNet net) (u e : ℕ) (is : IsInput net u) (end
       let on = there steps (place_at net p).to.index (s + (place_at net p).tokens) t k (on_outside p w.0) w.2 in
       let one : walk_time led (By p ∷ steps) ≡ (place_at led p).hold + walk_time led steps = sum_by-cons (step_time led) (By p) steps in
       let two : walk_time net (By p ∷ steps) ≡ (place_at net p).hold + walk_time net steps = sum_by-cons (step_time net) (By p) steps in
-      let hold : (place_at led p).hold ≡ (place_at net p).hold = ap (λ (q : Place). q.hold) at in
-      (
+      let hold : (place_at led p).hold ≡ (place_at net p).hold = ap (λ (q : Place). q.hold) at in (
         (
           omega (arith, w.0, wide),
           from_is p w.0 ∙ w.1,

@@ -18,8 +18,8 @@ use teg_check::LiveNet;
 use teg_lags::lag_between;
 use teg_net::{Net, OutOfMemory, PlaceEnd, PlacesOf, Role, TransitionId};
 use teg_report::{Answer, TransferFrom, report};
-use walks_by_ends::Ends;
 use teg_settle::SettleRefusal;
+use walks_by_ends::Ends;
 
 // How many outputs the net has.
 fn count_outputs(net: &Net) -> usize

@@ -158,8 +158,7 @@ module _ (w : InputWays) (ok : AreWays w) where
         let on : GoesOn (date_by (times_from_end w.ends) (way_at w i.0) t) ((end_form w.ends (way_at w i.0).to.index).after + (way_at w i.0).tokens) 1 (step_of_form (end_form w.ends (way_at w i.0).to.index) t) =
         by_places (times_from_end w.ends) (way_at w i.0) t (end_form w.ends (way_at w i.0).to.index).after 1 (step_of_form (end_form w.ends (way_at w i.0).to.index) t) (f.goes_on t inner.0) in
         let begun = even.begun i.0 i.1 in
-        let later : GoesOn (date_by (times_from_end w.ends) (way_at w i.0) t) even.from 1 (step_of_form (end_form w.ends (way_at w i.0).to.index) t) = λ k past. on k (omega (arith, past, begun)) in
-        (
+        let later : GoesOn (date_by (times_from_end w.ends) (way_at w i.0) t) even.from 1 (step_of_form (end_form w.ends (way_at w i.0).to.index) t) = λ k past. on k (omega (arith, past, begun)) in (
           step_of_form (end_form w.ends (way_at w i.0).to.index) t,
           subst (λ (q : PlaceId). GoesOn (date_by (times_from_end w.ends) (place_at net q) t) even.from 1 (step_of_form (end_form w.ends (way_at w i.0).to.index) t)) i.2 later,
           (most.each t inner.0).most inner.1 i.0 i.1,

@@ -51,6 +51,7 @@ IsKeptAt forms Dear = ⊥
 abbrev pub end_form : EndForms → ℕ → SettledForm
 end_form a e = form_at a.forms (slice_index_or a.ends e Open)
 
+-- the form of transition e is kept
 abbrev pub IsKeptEnd : EndForms → ℕ → Type 0
 IsKeptEnd a e = IsKeptAt a.forms (slice_index_or a.ends e Open)
 

@@ -1,16 +1,14 @@
 //! The settled forms of the times of walks from the ends of places, each settled once.
 ghost use Rattle.std.specs.Prelude.{◌≡◌, ◌<◌, ◌≤◌, IfOk, IfSome, IsTrue, OnOk, length};
 ghost use Rattle.teg_net.specs.Circuits.{place_at};
-ghost use Rattle.teg_net.specs.Limits.{greatest_firing_number};
 ghost use Rattle.teg_net.specs.Nets.{IsInput};
 ghost use Rattle.teg_check.specs.Ranks.{IsRanking};
-ghost use Rattle.end_laws.specs.Ends.{date_by};
-ghost use Rattle.walks_by_ends.specs.EndForms.{AreEndsOf, IsEndForm, IsKeptEnd, end_form, times_from_end};
+ghost use Rattle.walks_by_ends.specs.EndForms.{AreEndsOf, IsEndForm, IsKeptEnd, end_form};
 
 use crate::led::net_led_to;
 use dioid::Date;
 use end_laws::ends_are_asked;
-use std::alloc::{AllocError, Global};
+use std::alloc::Global;
 use std::marker::Model;
 use teg_check::{Live, ranked_nets_are_live, ranks_of};
 use teg_net::{Net, OutOfMemory, PlaceId, TransitionId};

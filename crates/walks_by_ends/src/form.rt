@@ -1,6 +1,6 @@
 //! From which number on the latest times go on by steps.
-ghost use Rattle.std.specs.Prelude.{ℕ, ◌≡◌, ◌+◌, ◌<◌, ◌≤◌, IfSome, length};
-ghost use Rattle.walks_by_ends.specs.LatestTimes.{GoOnAt, IsEvenFrom, IsEvenPast, IsLeastEven};
+ghost use Rattle.std.specs.Prelude.{◌≡◌, ◌+◌, ◌<◌, ◌≤◌, IfSome, length};
+ghost use Rattle.walks_by_ends.specs.LatestTimes.{IsEvenFrom, IsEvenPast, IsLeastEven};
 
 use crate::ways::Ways;
 
@@ -42,11 +42,7 @@ fn least_even(ways: &Ways<'_>, steps: &[i128], from: u64) -> u64
 
 // The least number past which all times go on by these steps, if their form is of at most `limit`
 // numbers, and this can be told.
-pub(crate) fn even_past(
-    ways: &Ways<'_>,
-    steps: &[i128],
-    limit: u32,
-) -> Option<u64>
+pub(crate) fn even_past(ways: &Ways<'_>, steps: &[i128], limit: u32) -> Option<u64>
     requires wide { length steps.now ≡ length ways.now.net.transitions }
     requires few { limit ≤ 200000 }
     ensures { IfSome result (IsEvenPast ways.now steps.now limit) }

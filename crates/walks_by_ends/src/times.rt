@@ -60,7 +60,11 @@ impl<'a> LatestTimes<'a> {
     }
 
     // The dates of this transition up to the number after that.
-    pub(crate) fn row(&self, alloc: Global, transition: TransitionId) -> Result<Vec<Date>, AllocError>
+    pub(crate) fn row(
+        &self,
+        alloc: Global,
+        transition: TransitionId,
+    ) -> Result<Vec<Date>, AllocError>
         requires { transition.index < length self.now.rows }
         ensures { IfOk result (λ row. row.items ≡ row_of self.now transition.index) }
     {

@@ -1,5 +1,5 @@
 //! An input by the places that leave it, whose ends have settled forms.
-ghost use Rattle.std.specs.Prelude.{◌≡◌, ◌+◌, ◌<◌, ◌≤◌, ◌≤ℤ◌, Decides, IfOk, IsTrue, length, pos, slice_index_or};
+ghost use Rattle.std.specs.Prelude.{◌≡◌, ◌+◌, ◌<◌, ◌≤◌, ◌≤ℤ◌, Decides, IfOk, IsTrue, length};
 ghost use Rattle.dioid.specs.Dates.{delayed, move};
 ghost use Rattle.teg_net.specs.Limits.{greatest_firing_number, greatest_hold};
 ghost use Rattle.teg_settle.specs.settled_laws.teg_model.DateBounds.{IsDateWithin, greatest_least_date};
