@@ -7,11 +7,12 @@
 //! [`releases_text`], [`forever_refusal_text`] and [`endless_refusal_text`] are the texts of the
 //! answers, and different answers have different texts. The crate stands on `forever_laws` and
 //! `due_laws` for what endless due dates are and what holds of them, on `teg_settle` and
-//! `settled_laws` for settled forms of dates and of walk times, on `teg_lags` for inputs that lead
-//! on alike, on `series_laws`, `series_form`, `series_ops`, `steady_series`, `periodic_laws` and
-//! `dioid_matrix` for residuals of series, on `endless_due` and `teg_due` for rows, on `teg_text`
-//! for texts, on `teg_model` for datings, on `teg_net` and `teg_check` for nets, and on `dioid` for
-//! dates. Its examples stand in `date_examples`, in `kept_delays.rt`.
+//! `settled_laws` for settled forms of dates, on `walks_by_ends` for those of walk times, on
+//! `teg_lags` for inputs that lead on alike, on `series_laws`, `series_form`, `series_ops`,
+//! `steady_series`, `periodic_laws` and `dioid_matrix` for residuals of series, on `endless_due`
+//! and `teg_due` for rows, on `teg_text` for texts, on `teg_model` for datings, on `teg_net` and
+//! `teg_check` for nets, and on `dioid` for dates. Its examples stand in `date_examples`, in
+//! `kept_delays.rt`.
 //!
 //! A refusal is told by its first cause: the first row that is late; then, of the first input that
 //! is not fine, walk times without a settled form of at most 20,000 numbers, or else the first row
@@ -39,22 +40,23 @@
 //! still open is decided by the form without a limit.
 //!
 //! Where no row is late, the inputs are worked out one after another: the shortest settled form of
-//! the walk times from one, of at most 20,000 numbers; of this the series to the transition of each
-//! row; and the meet over the rows of the residuals of the due series by these, which is the
-//! residual of a column of due series by a column of walk series. Where due dates rise by the same
-//! step from each firing to the next, no series is made of the walk times: by how much they are
-//! later than these steps, at most, tells the residual (`walk_residual`). Where they do so after a
-//! list, few of the first walk times may tell it (`left_by_first` of `steady_series`). Another
-//! residual of the same dates by the same series as before is taken over (`Divisions`), and a meet of a series with
-//! itself is that series; rows that are as the one before are not even gone through
-//! (`is_as_before`). An input whose places have the ends and the tokens of those of an input before
-//! it, and are all held longer by one lag, or shorter, or as long (`input_before`, by `lag_between`
-//! of `teg_lags`), gets that one's release, each date so much earlier: its residual by the series
-//! of the lag alone (`earlier_release`). That each residual and each meet then fits for the one
-//! input where it fits for the other is proved in `forever_laws` (`moved_row_fits`): where they
-//! repeat from does not depend on the lag, and their numbers lie between 0 and due dates. The value
-//! of the meet at shift k - 1 is the latest date of firing k; never at the first shift means never
-//! at all, and then the input is free.
+//! the walk times from one, of at most 20,000 numbers, by those from the ends of its places where
+//! these serve (`walks_by_ends`), so that ends which inputs share are settled once; of this the
+//! series to the transition of each row; and the meet over the rows of the residuals of the due
+//! series by these, which is the residual of a column of due series by a column of walk series.
+//! Where due dates rise by the same step from each firing to the next, no series is made of the
+//! walk times: by how much they are later than these steps, at most, tells the residual
+//! (`walk_residual`). Where they do so after a list, few of the first walk times may tell it
+//! (`left_by_first` of `steady_series`). Another residual of the same dates by the same series as
+//! before is taken over (`Divisions`), and a meet of a series with itself is that series; rows that
+//! are as the one before are not even gone through (`is_as_before`). An input whose places have the
+//! ends and the tokens of those of an input before it, and are all held longer by one lag, or
+//! shorter, or as long (`input_before`, by `lag_between` of `teg_lags`), gets that one's release,
+//! each date so much earlier: its residual by the series of the lag alone (`earlier_release`). That
+//! each residual and each meet then fits for the one input where it fits for the other is proved in
+//! `forever_laws` (`moved_row_fits`): where they repeat from does not depend on the lag, and their
+//! numbers lie between 0 and due dates. The value of the meet at shift k - 1 is the latest date of
+//! firing k; never at the first shift means never at all, and then the input is free.
 #![tactic(auto)]
 
 mod alike;

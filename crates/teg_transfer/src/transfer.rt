@@ -303,9 +303,11 @@ pub(crate) fn next_times(
 /// over all transitions (chapter 5). `TooLong` comes exactly where such a form is longer than the
 /// limit, `OutOfMemory` only where no memory is found.
 ///
-/// The rows that show one settled form at a time are held. It takes the time of the search for a form for each input but
-/// those from which all places are held so much longer than from one before, to the same transitions
-/// and with the same tokens: there each date is one of that input, moved.
+/// The rows that show one settled form at a time are held, and those from ends that inputs share. It
+/// takes the time of the search for a form for each input but those from which all places are held so
+/// much longer than from one before, to the same transitions and with the same tokens: there each date
+/// is one of that input, moved; and those whose times the ends of their places tell: there it takes
+/// time of the order of the net for each number and place of the input.
 pub fn transfer_times(
     alloc: Global,
     net: &LiveNet,
