@@ -81,12 +81,16 @@ def rows_astray(top):
 
 def examples_astray(top, head_of):
     """The crates whose head sends for examples to a crate that does not name them in its line of crates.txt, or to a file of
-    such crates that does not name them."""
+    such crates that does not name them. A module with files of its own in a folder is told as a crate is."""
     lines = {crate: others for block in blocks_in(top) for crate, others in block.crates.items()}
+    folders = {it: top / f"crates/{it}/src" for it in lines}
+    for path in sorted(it for it in top.glob("crates/*/src/*") if it.is_dir()):
+        lines.setdefault(path.name, lines.get(path.parts[-3], []))
+        folders.setdefault(path.name, path)
     for crate in crates_in(top):
         for told in EXAMPLES.findall(" ".join(head_of(crate))):
             named = [it for it in re.findall(r"`(\w+)`", told) if it in lines]
-            files = {path.name: path.read_text() for it in named for path in (top / f"crates/{it}/src").glob("*.rt")}
+            files = {path.name: path.read_text() for it in named for path in folders[it].glob("*.rt")}
             astray = [it for it in named if crate not in lines[it]]
             astray += [it for it in re.findall(r"`(\w+\.rt)`", told) if not re.search(rf"\b{crate}\b", files.get(it, ""))]
             yield from (f"the head of {crate} says that its examples stand in {it}, which does not name it" for it in astray)

@@ -516,6 +516,17 @@ impl Model for Seen {
         told = "the head of high says that its examples stand in low, which does not name it"
         self.assertEqual(house_order.out_of_order(self.top, heads.get), [told])
 
+    def test_examples_stand_in_a_module_with_files_of_its_own(self):
+        self.write("crates/high/src/more/calls.rt", "use low::count;\n")
+        heads = {"low": ["Its examples stand in `more`, in `calls.rt`."], "high": []}
+        self.assertEqual(house_order.out_of_order(self.top, heads.get), [])
+        heads["low"] = ["Its examples stand in `more`, in `main.rt`."]
+        told = "the head of low says that its examples stand in main.rt, which does not name it"
+        self.assertEqual(house_order.out_of_order(self.top, heads.get), [told])
+        heads = {"low": [], "high": ["Its examples stand in `more`."]}
+        told = "the head of high says that its examples stand in more, which does not name it"
+        self.assertEqual(house_order.out_of_order(self.top, heads.get), [told])
+
     def test_names_in_comments_stand_in_backquotes(self):
         self.write("crates/low/proofs/Few.antt", "-- What `low_limit` is.\nfew_is : ℕ\n  -- by low_limit of the `one` and the `other_one`\n")
         text, status = printed(check_definitions.main)

@@ -32,17 +32,10 @@ fn a_net_is_built(rt: HostRuntime) -> Result<(), Fail> {
     Ok(())
 }
 
-// Adds a machine that works on one part at a time.
-fn add_busy(alloc: Global, line: &mut NetBuilder) -> Result<(), BuildRefusal> {
-    let work = line.transition(alloc, "work", Role::Internal)?;
-    line.place(alloc, "busy", work, work, 3, 1)?;
-    Ok(())
-}
-
 // An input, number 0, and such a machine.
 fn busy_line(alloc: Global) -> Result<NetBuilder, Fail> {
     let mut line = NetBuilder::new(alloc, "in", Role::Input)?;
-    add_busy(alloc, &mut line)?;
+    add_machine(alloc, &mut line)?;
     Ok(line)
 }
 
@@ -55,12 +48,12 @@ const PLACES: [(u32, u32, u64, u32, PlaceFault); 5] = [
     (0, 1, 3, 1_001, PlaceFault::ManyTokens),
 ];
 
-// Whether each place of `PLACES` is refused with its fault, as number 1.
+// Whether each place of `PLACES` is refused with its fault, as number 2.
 fn refuses_places(alloc: Global, line: &mut NetBuilder) -> bool {
     for (from, to, hold, tokens, fault) in PLACES {
         let (from, to) = (TransitionId::new(from), TransitionId::new(to));
         let refused = line.place(alloc, "next", from, to, hold, tokens);
-        if refused != breaks(NetFault::BadPlace(PlaceId::new(1), fault)) {
+        if refused != breaks(NetFault::BadPlace(PlaceId::new(2), fault)) {
             return false;
         }
     }
@@ -75,7 +68,7 @@ fn refuses_names(alloc: Global, line: &mut NetBuilder) -> bool {
     let place = line.place(alloc, "busy", work, work, 3, 1);
     named == Err(BuildRefusal::BadName)
         && transition == breaks(NetFault::SameTransition(TransitionId::new(2)))
-        && place == breaks(NetFault::SamePlace(PlaceId::new(1)))
+        && place == breaks(NetFault::SamePlace(PlaceId::new(2)))
 }
 
 // Whether what breaks a rule is refused, and not added.
@@ -83,12 +76,12 @@ fn refuses(alloc: Global, line: &mut NetBuilder) -> bool {
     refuses_names(alloc, line)
         && refuses_places(alloc, line)
         && line.transitions().len() == 2
-        && line.places().len() == 1
+        && line.places().len() == 2
 }
 
 // A place into the machine with these ready dates and two tokens.
 fn ready_place(alloc: Global, ready: &[u64]) -> Result<Place, Fail> {
-    let name = Name::new(alloc, "belt")?;
+    let name = Name::new(alloc, "side")?;
     Ok(Place {
         name,
         from: TransitionId::new(0),
@@ -134,9 +127,9 @@ fn breaks<T>(fault: NetFault) -> Result<T, BuildRefusal> {
 
 // Whether one ready date is too few for two tokens, and two are not.
 fn takes_places(alloc: Global, line: &mut NetBuilder) -> Result<bool, Fail> {
-    let busy = PlaceId::new(1);
-    let few = breaks(NetFault::BadPlace(busy, PlaceFault::ReadyCount));
-    Ok(takes_place(alloc, line, &[5], few)? && takes_place(alloc, line, &[5, 7], Ok(busy))?)
+    let side = PlaceId::new(2);
+    let few = breaks(NetFault::BadPlace(side, PlaceFault::ReadyCount));
+    Ok(takes_place(alloc, line, &[5], few)? && takes_place(alloc, line, &[5, 7], Ok(side))?)
 }
 
 // Whether a list of the input is added, and lists of the machine, and of the input with falling dates

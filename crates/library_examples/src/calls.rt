@@ -12,10 +12,8 @@ use teg_net::{Net, PlaceId, Ratio, is_circuit, time_of, tokens_of};
 use teg_reader::{ReadRefusal, read_net, write_net};
 use teg_sizing::{Sizing, size};
 
-#[test]
-fn a_circuit_has_a_time_and_tokens(rt: HostRuntime) -> Result<(), Fail> {
-    let alloc = rt.alloc();
-    let mut net = read_net(alloc, LOOP)?;
+// The circuit of the loop, which is slower where a place of it takes longer.
+fn look_at_circuit(rt: &impl Abort, net: &mut Net) -> Result<(), Fail> {
     let there = net.find_place("ab").ok_or("no such place")?;
     let back = net.find_place("ba").ok_or("no such place")?;
     let circuit = [there, back];
@@ -24,6 +22,19 @@ fn a_circuit_has_a_time_and_tokens(rt: HostRuntime) -> Result<(), Fail> {
     net.set_hold(there, 7);
     assert!(rt; time_of(&net, &circuit) == 9);
     Ok(())
+}
+
+#[test]
+fn a_circuit_has_a_time_and_tokens(rt: HostRuntime) -> Result<(), Fail> {
+    let alloc = rt.alloc();
+    let mut net = read_net(alloc, LOOP)?;
+    look_at_circuit(&rt, &mut net)
+}
+
+// The net of the loop.
+fn loop_net(alloc: Global) -> Result<Net, Fail> {
+    let net = read_net(alloc, LOOP)?;
+    Ok(net)
 }
 
 // A file that was written is read again.
@@ -52,7 +63,7 @@ fn look_at_file(rt: &impl Abort, alloc: Global, net: &Net) -> Result<(), Fail> {
 #[test]
 fn a_net_is_read_and_written(rt: HostRuntime) -> Result<(), Fail> {
     let alloc = rt.alloc();
-    let net = read_net(alloc, LOOP)?;
+    let net = loop_net(alloc)?;
     look_at_file(&rt, alloc, &net)
 }
 
@@ -108,7 +119,7 @@ fn read_rows(rt: &impl Abort, alloc: Global, net: &Net) -> Result<(), Fail> {
 #[test]
 fn due_dates_are_read(rt: HostRuntime) -> Result<(), Fail> {
     let alloc = rt.alloc();
-    let net = read_net(alloc, LOOP)?;
+    let net = loop_net(alloc)?;
     read_rows(&rt, alloc, &net)
 }
 

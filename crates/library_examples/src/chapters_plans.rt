@@ -26,6 +26,12 @@ place = [
 input = [{transition = 'in', dates = [0], every = 1, gap = 4}]
 ";
 
+// The net of the file, held.
+fn held_net(alloc: Global) -> Result<LiveNet, Fail> {
+    let held = LiveNet::new(alloc, read_net(alloc, NET)?)?;
+    Ok(held)
+}
+
 // The transition by which parts come in.
 fn entry_of(held: &LiveNet) -> Result<TransitionId, Fail>
     ensures { IfOk result (λ id. id.index < length held.now.transitions) }
@@ -48,13 +54,14 @@ fn look_at_dates(rt: &impl Abort, alloc: Global, held: &LiveNet) -> Result<(), F
     let work = work_of(held)?;
     assert!(rt; dates.date(work, 1) == Date::At(2));
     assert!(rt; dates.date(work, 3) == Date::At(10));
+    assert!(rt; dates.width() == 2);
     Ok(())
 }
 
 #[test]
 fn firings_have_first_dates(rt: HostRuntime) -> Result<(), Fail> {
     let alloc = rt.alloc();
-    let held = LiveNet::new(alloc, read_net(alloc, NET)?)?;
+    let held = held_net(alloc)?;
     look_at_dates(&rt, alloc, &held)
 }
 
@@ -70,7 +77,7 @@ fn look_at_form(rt: &impl Abort, alloc: Global, held: &LiveNet) -> Result<(), Fa
 #[test]
 fn dates_go_on_for_ever(rt: HostRuntime) -> Result<(), Fail> {
     let alloc = rt.alloc();
-    let held = LiveNet::new(alloc, read_net(alloc, NET)?)?;
+    let held = held_net(alloc)?;
     look_at_form(&rt, alloc, &held)
 }
 
@@ -95,7 +102,7 @@ fn plan_parts(rt: &impl Abort, alloc: Global, held: &LiveNet) -> Result<(), Fail
 #[test]
 fn due_dates_have_latest_inputs(rt: HostRuntime) -> Result<(), Fail> {
     let alloc = rt.alloc();
-    let held = LiveNet::new(alloc, read_net(alloc, NET)?)?;
+    let held = held_net(alloc)?;
     plan_parts(&rt, alloc, &held)
 }
 
@@ -149,6 +156,6 @@ fn play(rt: &impl Abort, alloc: Global, held: &LiveNet) -> Result<(), Fail> {
 #[test]
 fn firings_are_replayed(rt: HostRuntime) -> Result<(), Fail> {
     let alloc = rt.alloc();
-    let held = LiveNet::new(alloc, read_net(alloc, NET)?)?;
+    let held = held_net(alloc)?;
     play(&rt, alloc, &held)
 }

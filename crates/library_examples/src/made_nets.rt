@@ -5,8 +5,8 @@ use std::alloc::Global;
 use std::test::Fail;
 use teg_due::{Due, DueRow, LogRow, is_due_of, is_log_of};
 use teg_net::{
-    Circuit, DateList, InputFault, InputList, Names, Net, Place, PlaceEnd, PlaceFault, PlaceId,
-    PlacesOf, Ratio, Step, Transition, TransitionId, Walk, input_fault, is_net, place_fault,
+    Circuit, Names, Net, Place, PlaceEnd, PlaceId, PlacesOf, Ratio, Step, Transition, TransitionId,
+    Walk, is_net,
 };
 
 // Places of these names between the transitions of these numbers.
@@ -49,23 +49,6 @@ fn is_written(alloc: Global, net: &mut Net) -> Result<bool, Fail> {
     Ok(line.as_str() == "in 3/2 1")
 }
 
-// The fault of a place from the input to the transition of this number, beside an input and a
-// machine.
-fn fault_of_place(alloc: Global, to: u32) -> Result<Option<PlaceFault>, Fail> {
-    let belt = place(alloc, "belt", 0, to)?;
-    Ok(place_fault(&transitions(alloc)?, &belt))
-}
-
-// The fault of a list of the transition of this number, which has no dates, beside them.
-fn fault_of_list(alloc: Global, transition: u32) -> Result<Option<InputFault>, Fail> {
-    let list = InputList {
-        transition: TransitionId::new(transition),
-        dates: DateList::new(Vec::new(alloc)),
-        again: None,
-    };
-    Ok(input_fault(&transitions(alloc)?, &list))
-}
-
 // Whether two places are equal that have these ends.
 fn are_same(alloc: Global, to: u32, other: u32) -> Result<bool, Fail> {
     Ok(place(alloc, "belt", 0, to)? == place(alloc, "belt", 0, other)?)
@@ -101,12 +84,9 @@ fn come_in_order(lesser: Ratio, greater: Ratio) -> bool {
     lesser < greater && greater >= lesser && lesser.max(greater) == greater
 }
 
-// The circuit of the places of these numbers.
-fn circuit_of(alloc: Global, numbers: &[u32]) -> Result<Circuit, Fail> {
-    let mut places = Vec::new(alloc);
-    for number in numbers {
-        places.push(PlaceId::new(*number))?;
-    }
+// The circuit of these places.
+fn circuit_of(alloc: Global, places: &[PlaceId]) -> Result<Circuit, Fail> {
+    let places = Vec::from_slice(alloc, places)?;
     Ok(Circuit { places })
 }
 
@@ -120,7 +100,7 @@ fn walk_by(alloc: Global, place: u32) -> Result<Walk, Fail> {
 }
 
 // Whether the circuits of these places are equal.
-fn are_same_circuits(alloc: Global, one: &[u32], other: &[u32]) -> Result<bool, Fail> {
+fn are_same_circuits(alloc: Global, one: &[PlaceId], other: &[PlaceId]) -> Result<bool, Fail> {
     Ok(circuit_of(alloc, one)? == circuit_of(alloc, other)?)
 }
 
@@ -129,37 +109,30 @@ fn are_same_walks(alloc: Global, one: u32, other: u32) -> Result<bool, Fail> {
     Ok(walk_by(alloc, one)? == walk_by(alloc, other)?)
 }
 
+// Whether circuits and walks are equal where their places are, in their order.
+fn are_paths_compared(alloc: Global) -> Result<bool, Fail> {
+    let (first, second) = (PlaceId::new(0), PlaceId::new(1));
+    Ok(
+        are_same_circuits(alloc, &[first, second], &[first, second])?
+            && !are_same_circuits(alloc, &[first, second], &[second, first])?
+            && are_same_walks(alloc, 0, 0)?
+            && !are_same_walks(alloc, 0, 1)?,
+    )
+}
+
 #[test]
-fn entries_are_tested_and_compared(rt: HostRuntime) -> Result<(), Fail> {
+fn entries_are_compared(rt: HostRuntime) -> Result<(), Fail> {
     let alloc = rt.alloc();
-    assert!(rt; fault_of_place(alloc, 1)?.is_none());
-    assert!(rt; fault_of_place(alloc, 2)? == Some(PlaceFault::UnknownTo));
-    assert!(rt; fault_of_place(alloc, 0)? == Some(PlaceFault::EntersInput));
-    assert!(rt; fault_of_list(alloc, 0)?.is_none());
-    assert!(rt; fault_of_list(alloc, 1)? == Some(InputFault::NoInput));
-    assert!(rt; are_same(alloc, 1, 1)? && !are_same(alloc, 1, 2)?);
-    assert!(rt; are_compared(alloc)?);
-    assert!(rt; come_in_order(Ratio::of(7, 3), Ratio::of(5, 2)));
-    assert!(rt; !come_in_order(Ratio::of(4, 2), Ratio::of(2, 1)));
-    assert!(rt; are_same_circuits(alloc, &[0, 1], &[0, 1])?);
-    assert!(rt; !are_same_circuits(alloc, &[0, 1], &[1, 0])?);
-    assert!(rt; are_same_walks(alloc, 0, 0)? && !are_same_walks(alloc, 0, 1)?);
+    assert!(rt; are_same(alloc, 1, 1)? && !are_same(alloc, 1, 2)? && are_compared(alloc)?);
+    let is_less = come_in_order(Ratio::of(7, 3), Ratio::of(5, 2));
+    assert!(rt; is_less && !come_in_order(Ratio::of(4, 2), Ratio::of(2, 1)));
+    assert!(rt; are_paths_compared(alloc)?);
     Ok(())
 }
 
 // The transition and the place of this name.
 fn named(names: &Names, name: &str) -> (Option<TransitionId>, Option<PlaceId>) {
     (names.transition(name), names.place(name))
-}
-
-// How many places stand at each transition by this end.
-fn counts(alloc: Global, net: &Net, end: PlaceEnd) -> Result<Vec<usize>, Fail> {
-    let places = PlacesOf::new(alloc, net, end)?;
-    let mut counts = Vec::new(alloc);
-    for index in 0..net.transition_count() {
-        counts.push(places.of(TransitionId::new(index)).len())?;
-    }
-    Ok(counts)
 }
 
 // Whether the names of the net are looked up, which stay where a holding time is changed.
@@ -176,9 +149,15 @@ fn has_names(alloc: Global, net: &mut Net) -> Result<bool, Fail> {
     )
 }
 
-// Whether so many places stand at the two transitions of the net by this end.
-fn has_counts(alloc: Global, net: &Net, end: PlaceEnd, wanted: &[usize]) -> Result<bool, Fail> {
-    Ok(counts(alloc, net, end)?.as_slice() == wanted)
+// How many places stand at the input and at the machine by this end; none where there are more
+// transitions.
+fn counts(alloc: Global, net: &Net, end: PlaceEnd) -> Result<Option<(usize, usize)>, Fail> {
+    let places = PlacesOf::new(alloc, net, end)?;
+    if places.width() != 2 {
+        return Ok(None);
+    }
+    let (input, machine) = (TransitionId::new(0), TransitionId::new(1));
+    Ok(Some((places.of(input).len(), places.of(machine).len())))
 }
 
 // Whether names and ends of the net are looked up.
@@ -186,8 +165,8 @@ fn is_looked_up(alloc: Global, net: &mut Net) -> Result<bool, Fail> {
     Ok(
         has_names(alloc, net)?
             && net.place_count() == 3
-            && has_counts(alloc, net, PlaceEnd::From, &[2, 1])?
-            && has_counts(alloc, net, PlaceEnd::To, &[0, 3])?,
+            && counts(alloc, net, PlaceEnd::From)? == Some((2, 1))
+            && counts(alloc, net, PlaceEnd::To)? == Some((0, 3)),
     )
 }
 

@@ -102,9 +102,9 @@ fn flags_and_dates_through_the_bounds(rt: HostRuntime) -> Result<(), Fail> {
     Ok(())
 }
 
-// The flag `Yes` so many times.
-fn many(alloc: Global, count: usize) -> Result<Vec<Flag>, Fail> {
-    Ok(vec![in alloc; Flag::Yes; count]?)
+// The matrix of so many rows and columns, and so many entries `Yes`.
+fn full(alloc: Global, rows: usize, columns: usize, count: usize) -> Result<Matrix<Flag>, Fail> {
+    Ok(Matrix::new(rows, columns, vec![in alloc; Flag::Yes; count]?)?)
 }
 
 // Whether the answer is a matrix of this many rows whose entries are all `Yes`.
@@ -137,16 +137,16 @@ fn are_solved(alloc: Global, square: &Matrix<Flag>, right: &Matrix<Flag>) -> boo
 
 #[test]
 fn matrices_of_the_greatest_sizes(rt: HostRuntime) -> Result<(), Fail> {
-    let column = Matrix::new(4096, 1, many(rt.alloc(), 4096)?)?;
-    let row = Matrix::new(1, 4096, many(rt.alloc(), 4096)?)?;
+    let column = full(rt.alloc(), 4096, 1, 4096)?;
+    let row = full(rt.alloc(), 1, 4096, 4096)?;
     assert!(rt; are_full(rt.alloc(), &column, &row));
     Ok(())
 }
 
 #[test]
 fn stars_of_long_rows(rt: HostRuntime) -> Result<(), Fail> {
-    let square = Matrix::new(100, 100, many(rt.alloc(), 10_000)?)?;
-    let right = Matrix::new(100, 1, many(rt.alloc(), 100)?)?;
+    let square = full(rt.alloc(), 100, 100, 10_000)?;
+    let right = full(rt.alloc(), 100, 1, 100)?;
     assert!(rt; are_solved(rt.alloc(), &square, &right));
     Ok(())
 }

@@ -77,22 +77,34 @@ fn is<T: PartialEq + Drop>(answer: Result<T, Refusal>, wanted: T) -> bool {
     }
 }
 
+// Whether a plan has one number, or is refused with the line of its refusal.
+fn are_planned(alloc: Global) -> bool {
+    let stuck = "token-free circuit of places 0";
+    let unknown = "due row 1 unknown transition";
+    let late = "late transition 1 firing 1 due 1 least 2";
+    is(planned(alloc, NET, b"work,1,10\n"), 1)
+        && says(alloc, planned(alloc, b"", b""), "no transitions")
+        && says(alloc, planned(alloc, NO_TOKEN, b""), stuck)
+        && says(alloc, planned(alloc, NET, b"none,1,10\n"), unknown)
+        && says(alloc, planned(alloc, NET, b"work,1,1\n"), late)
+}
+
+// Whether a log has two firings, or is refused so.
+fn are_logged(alloc: Global) -> bool {
+    let line = "log row 1 is not a firing";
+    is(logged(alloc, NET, b"in,0\nwork,2\n"), 2) && says(alloc, logged(alloc, NET, b"work\n"), line)
+}
+
+// Whether a second transition is number 1, or is refused so.
+fn are_built(alloc: Global) -> bool {
+    let line = "transition 1 has the name of an earlier one";
+    is(second(alloc, "work"), 1)
+        && says(alloc, second(alloc, "no name"), "the text is no name")
+        && says(alloc, second(alloc, "in"), line)
+}
+
 #[test]
 fn a_program_has_one_refusal(rt: HostRuntime) {
     let alloc = rt.alloc();
-    assert!(rt; is(planned(alloc, NET, b"work,1,10\n"), 1));
-    assert!(rt; says(alloc, planned(alloc, b"", b""), "no transitions"));
-    let line = "token-free circuit of places 0";
-    assert!(rt; says(alloc, planned(alloc, NO_TOKEN, b""), line));
-    let line = "due row 1 unknown transition";
-    assert!(rt; says(alloc, planned(alloc, NET, b"none,1,10\n"), line));
-    let line = "late transition 1 firing 1 due 1 least 2";
-    assert!(rt; says(alloc, planned(alloc, NET, b"work,1,1\n"), line));
-    assert!(rt; is(logged(alloc, NET, b"in,0\nwork,2\n"), 2));
-    let line = "log row 1 is not a firing";
-    assert!(rt; says(alloc, logged(alloc, NET, b"work\n"), line));
-    assert!(rt; is(second(alloc, "work"), 1));
-    assert!(rt; says(alloc, second(alloc, "no name"), "the text is no name"));
-    let line = "transition 1 has the name of an earlier one";
-    assert!(rt; says(alloc, second(alloc, "in"), line));
+    assert!(rt; are_planned(alloc) && are_logged(alloc) && are_built(alloc));
 }

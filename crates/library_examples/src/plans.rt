@@ -15,8 +15,8 @@ fn first_of_a(alloc: Global, held: &LiveNet) -> Result<LatestDate, Fail> {
     let due = due_rows(alloc, net, b"b,2,20\n")?;
     let form = standard_form(alloc, net, live)?;
     let plan = latest(alloc, net, live, &form, &due)?;
-    if plan.numbers() < 1 {
-        return Err(Fail::new("no numbers"));
+    if plan.numbers() < 1 || plan.width() != 2 {
+        return Err(Fail::new("another plan"));
     }
     Ok(plan.latest(first, 1))
 }

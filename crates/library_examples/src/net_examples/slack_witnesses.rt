@@ -148,7 +148,11 @@ fn slack_of(alloc: Global, net: &Net, answer: &CycleAnswer, name: &str) -> Resul
 {
     let place = place_named(net, name)?;
     let slacks = critical(alloc, net, answer)?;
-    Ok(slacks.slack(place))
+    if place.index() < slacks.width() {
+        Ok(slacks.slack(place))
+    } else {
+        Err(Fail::new("no such place"))
+    }
 }
 
 // Places and their slacks.

@@ -4,7 +4,7 @@ use Rattle.dioid.specs.declared.dates.Date.{Date}
 use Rattle.dioid.specs.declared.dates.Date.TheVariants.{Early, At}
 use Rattle.dioid.specs.DateOrder.{Le}
 use Rattle.series_form.proofs.Listed.{list_rises}
-use Rattle.series_examples.proofs.forms.a_list_of_a_function.Goals as goal
+use Rattle.library_examples.proofs.series_examples.forms.a_list_of_a_function.Goals as goal
 
 abbrev even : List Date
 even = At (pos 0) ∷ At (pos 2) ∷ At (pos 4) ∷ []

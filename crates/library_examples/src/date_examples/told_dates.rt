@@ -4,7 +4,8 @@ ghost use Rattle.teg_due.specs.RowRules.{IsDueOf};
 
 use dating_certificates::{check_latest, check_plan, check_settled, check_shortest};
 use dioid::Date;
-use example_nets::{KANBAN, LOOP, SHOP, ask_net, due_rows};
+use dioid::Date::{At, Never};
+use example_nets::{KANBAN, LOOP, SHOP, all_so, due_rows, read};
 use std::alloc::Global;
 use std::test::Fail;
 use teg_due::Due;
@@ -25,38 +26,49 @@ place = [
 ]
 ";
 
-// The dates of a text, row after row; a word that is no number is never.
-fn dates_of(alloc: Global, text: &str) -> Result<Vec<Date>, Fail> {
-    let mut dates = Vec::new(alloc);
-    for word in text.split_whitespace() {
-        dates.push(match word.parse::<i128>() {
-            Ok(date) => Date::At(date),
-            Err(_) => Date::Never,
-        })?;
-    }
-    Ok(dates)
-}
-
 // A net, what is due in it, a number, dates of so many numbers, and whether these are the latest
 // ones, and a plan.
-type Latest<'a> = (&'a [u8], &'a [u8], u32, &'a str, bool, bool);
+type Latest<'a> = (&'a [u8], &'a [u8], u32, &'a [Date], bool, bool);
 
 const DUE: &[u8] = b"ship,2,40\ndrill,3,36\n";
 
+// The latest dates of these.
+const PLAN: &[Date] = &[
+    At(15),
+    At(17),
+    At(22),
+    At(40),
+    At(22),
+    At(24),
+    At(29),
+    At(40),
+    At(29),
+    At(31),
+    At(36),
+    Never,
+];
+
 const LATEST: [Latest<'static>; 8] = [
+    (SHOP, DUE, 3, PLAN, true, true),
+    (SHOP, DUE, 2, PLAN, false, false),
     (
         SHOP,
         DUE,
         3,
-        "15 17 22 40  22 24 29 40  29 31 36 never",
-        true,
-        true,
-    ),
-    (
-        SHOP,
-        DUE,
-        2,
-        "15 17 22 40  22 24 29 40  29 31 36 never",
+        &[
+            At(14),
+            At(17),
+            At(22),
+            At(40),
+            At(22),
+            At(24),
+            At(29),
+            At(40),
+            At(29),
+            At(31),
+            At(36),
+            Never,
+        ],
         false,
         false,
     ),
@@ -64,15 +76,20 @@ const LATEST: [Latest<'static>; 8] = [
         SHOP,
         DUE,
         3,
-        "14 17 22 40  22 24 29 40  29 31 36 never",
-        false,
-        false,
-    ),
-    (
-        SHOP,
-        DUE,
-        3,
-        "15 17 22 40  22 24 29 40  29 32 36 never",
+        &[
+            At(15),
+            At(17),
+            At(22),
+            At(40),
+            At(22),
+            At(24),
+            At(29),
+            At(40),
+            At(29),
+            At(32),
+            At(36),
+            Never,
+        ],
         false,
         false,
     ),
@@ -81,7 +98,17 @@ const LATEST: [Latest<'static>; 8] = [
         BROKEN,
         b"paint,3,45\n",
         3,
-        "18 23 35  25 30 40  32 37 45",
+        &[
+            At(18),
+            At(23),
+            At(35),
+            At(25),
+            At(30),
+            At(40),
+            At(32),
+            At(37),
+            At(45),
+        ],
         true,
         false,
     ),
@@ -89,7 +116,17 @@ const LATEST: [Latest<'static>; 8] = [
         BROKEN,
         b"paint,3,48\n",
         3,
-        "21 26 38  28 33 43  35 40 48",
+        &[
+            At(21),
+            At(26),
+            At(38),
+            At(28),
+            At(33),
+            At(43),
+            At(35),
+            At(40),
+            At(48),
+        ],
         true,
         true,
     ),
@@ -97,7 +134,20 @@ const LATEST: [Latest<'static>; 8] = [
         SHOP,
         b"ship,2,25\ndrill,3,21\n",
         3,
-        "0 2 7 25  7 9 14 25  14 16 21 never",
+        &[
+            At(0),
+            At(2),
+            At(7),
+            At(25),
+            At(7),
+            At(9),
+            At(14),
+            At(25),
+            At(14),
+            At(16),
+            At(21),
+            Never,
+        ],
         true,
         true,
     ),
@@ -105,63 +155,99 @@ const LATEST: [Latest<'static>; 8] = [
         SHOP,
         b"ship,2,24\ndrill,3,20\n",
         3,
-        "-1 1 6 24  6 8 13 24  13 15 20 never",
+        &[
+            At(-1),
+            At(1),
+            At(6),
+            At(24),
+            At(6),
+            At(8),
+            At(13),
+            At(24),
+            At(13),
+            At(15),
+            At(20),
+            Never,
+        ],
         true,
         false,
     ),
 ];
 
 // Whether the dates are the latest ones, and whether they are a plan, as the row says.
-fn are_latest(
-    alloc: Global,
-    net: &Net,
-    due: &Due,
-    dates: &[Date],
-    row: &Latest<'_>,
-) -> Result<bool, OutOfMemory>
+fn are_latest(alloc: Global, net: &Net, due: &Due, row: &Latest<'_>) -> Result<bool, OutOfMemory>
     requires { IsDueOf net.now due.now.rows.items }
 {
-    let (_, _, numbers, _, is_latest, is_plan) = *row;
+    let (_, _, numbers, dates, is_latest, is_plan) = *row;
     Ok(
         check_latest(alloc, net, due, numbers, dates)? == is_latest
             && check_plan(alloc, net, due, numbers, dates)? == is_plan,
     )
 }
 
-// The same of the dates of the row's text.
-fn is_latest_text(alloc: Global, net: &Net, due: &Due, row: &Latest<'_>) -> Result<bool, Fail>
-    requires { IsDueOf net.now due.now.rows.items }
-{
-    let dates = dates_of(alloc, row.3)?;
-    let are_latest = are_latest(alloc, net, due, &dates, row);
-    Ok(are_latest?)
-}
-
 // The same of what is due in the net.
 fn is_latest(alloc: Global, net: &Net, row: &Latest<'_>) -> Result<bool, Fail> {
     let due = due_rows(alloc, net, row.1)?;
-    is_latest_text(alloc, net, &due, row)
+    let are_latest = are_latest(alloc, net, &due, row);
+    Ok(are_latest?)
+}
+
+// The same of the net of the row's file.
+fn is_latest_of_file(alloc: Global, row: &Latest<'_>) -> Result<bool, Fail> {
+    let net = read(alloc, row.0)?;
+    is_latest(alloc, &net, row)
 }
 
 #[test]
 fn latest_dates_and_plans_are_checked(rt: HostRuntime) -> Result<(), Fail> {
-    for row in &LATEST {
-        let (file, _, _, text, _, _) = *row;
-        let is_so = ask_net(rt.alloc(), file, |alloc, net| is_latest(alloc, net, row))?;
-        assert!(rt; is_so, "{text}");
-    }
-    Ok(())
+    all_so(rt.alloc(), &LATEST, &is_latest_of_file)
 }
 
 // A net, the number after which its dates go on, by which period, their rows up to there, the step
 // of the last transition, and whether the rows show so, and that neither can be less.
-type Settled<'a> = (&'a [u8], u64, u64, &'a str, &'a [i128], bool, bool);
+type Settled<'a> = (&'a [u8], u64, u64, &'a [Date], &'a [i128], bool, bool);
 
 // The rows of the kanban line of the guide.
-const GOING_ON: &str = "0 4 10  4 10 16  8 16 22  12 22 28  16 28 34  22 34 40  28 40 46  34 46 52";
+const GOING_ON: &[Date] = &[
+    At(0),
+    At(4),
+    At(10),
+    At(4),
+    At(10),
+    At(16),
+    At(8),
+    At(16),
+    At(22),
+    At(12),
+    At(22),
+    At(28),
+    At(16),
+    At(28),
+    At(34),
+    At(22),
+    At(34),
+    At(40),
+    At(28),
+    At(40),
+    At(46),
+    At(34),
+    At(46),
+    At(52),
+];
 
 // The rows of the loop, which go on by 5 from the first number on.
-const ROUNDS: &str = "0 3  5 8  10 13  15 18  20 23";
+const ROUNDS: &[Date] = &[
+    At(0),
+    At(3),
+    At(5),
+    At(8),
+    At(10),
+    At(13),
+    At(15),
+    At(18),
+    At(20),
+    At(23),
+];
 
 const SETTLED: [Settled<'static>; 8] = [
     (KANBAN, 4, 1, GOING_ON, &[6, 6, 6], true, true),
@@ -171,7 +257,32 @@ const SETTLED: [Settled<'static>; 8] = [
         KANBAN,
         4,
         1,
-        "0 4 10  4 10 16  8 16 22  12 22 28  16 28 34  22 34 40  28 40 46  34 46 53",
+        &[
+            At(0),
+            At(4),
+            At(10),
+            At(4),
+            At(10),
+            At(16),
+            At(8),
+            At(16),
+            At(22),
+            At(12),
+            At(22),
+            At(28),
+            At(16),
+            At(28),
+            At(34),
+            At(22),
+            At(34),
+            At(40),
+            At(28),
+            At(40),
+            At(46),
+            At(34),
+            At(46),
+            At(53),
+        ],
         &[6, 6, 6],
         false,
         false,
@@ -184,32 +295,22 @@ const SETTLED: [Settled<'static>; 8] = [
 
 // Whether the rows show how the dates of the net go on, and that neither number can be less, as the
 // row says.
-fn are_shown(
-    alloc: Global,
-    net: &Net,
-    dates: &[Date],
-    row: &Settled<'_>,
-) -> Result<bool, OutOfMemory> {
-    let (_, after, period, _, steps, is_settled, is_shortest) = *row;
+fn are_shown(alloc: Global, net: &Net, row: &Settled<'_>) -> Result<bool, OutOfMemory> {
+    let (_, after, period, dates, steps, is_settled, is_shortest) = *row;
     Ok(
         check_settled(alloc, net, after, period, dates, steps)? == is_settled
             && check_shortest(alloc, net, after, period, dates, steps)? == is_shortest,
     )
 }
 
-// The same of the rows of its text.
-fn is_settled(alloc: Global, net: &Net, row: &Settled<'_>) -> Result<bool, Fail> {
-    let dates = dates_of(alloc, row.3)?;
-    let are_shown = are_shown(alloc, net, &dates, row);
+// The same of the net of the row's file.
+fn are_shown_of_file(alloc: Global, row: &Settled<'_>) -> Result<bool, Fail> {
+    let net = read(alloc, row.0)?;
+    let are_shown = are_shown(alloc, &net, row);
     Ok(are_shown?)
 }
 
 #[test]
 fn settled_and_shortest_rows_are_checked(rt: HostRuntime) -> Result<(), Fail> {
-    for row in &SETTLED {
-        let (file, _, _, text, _, _, _) = *row;
-        let is_so = ask_net(rt.alloc(), file, |alloc, net| is_settled(alloc, net, row))?;
-        assert!(rt; is_so, "{text}");
-    }
-    Ok(())
+    all_so(rt.alloc(), &SETTLED, &are_shown_of_file)
 }

@@ -222,30 +222,38 @@ fn reads<E: Display + Drop>(alloc: Global, refusal: E, line: &str) -> bool {
     says(alloc, Err::<u8, E>(refusal), line)
 }
 
-#[test]
-fn refusals_have_lines(rt: HostRuntime) {
-    let alloc = rt.alloc();
+// Whether refusals of timetables have their lines.
+fn have_lines(alloc: Global) -> bool {
     let (place, transition) = (PlaceId::new(1), TransitionId::new(1));
     let row = TableRefusal::OutOfRange { row: 3 };
-    assert!(rt; reads(alloc, row, "timetable row 3 out of range"));
     let missing = TableRefusal::Missing { transition };
-    assert!(rt; reads(alloc, missing, "no departure of transition 1"));
     let unworkable = DelayRefusal::Unworkable { place };
-    assert!(rt; reads(alloc, unworkable, "place 1 does not fit the timetable"));
     let large = DelayRefusal::TooLarge {
         transitions: 201,
         places: 3,
     };
-    assert!(rt; reads(alloc, large, "timetable of 201 transitions and 3 places"));
     let long = DelayRefusal::TooLong { limit: 9 };
-    assert!(rt; reads(alloc, long, "too long: no settled form within 9"));
+    reads(alloc, row, "timetable row 3 out of range")
+        && reads(alloc, missing, "no departure of transition 1")
+        && reads(alloc, unworkable, "place 1 does not fit the timetable")
+        && reads(alloc, large, "timetable of 201 transitions and 3 places")
+        && reads(alloc, long, "too long: no settled form within 9")
+}
+
+// Whether refusals of due dates without end have theirs.
+fn have_endless_lines(alloc: Global) -> bool {
     let falls = EndlessRefusal::Falls { row: 1 };
-    assert!(rt; reads(alloc, falls, "due row 1 falls"));
     let late = ForeverRefusal::Late {
-        transition,
+        transition: TransitionId::new(1),
         number: 1,
         due: 1,
         least: 2,
     };
-    assert!(rt; reads(alloc, late, "late transition 1 firing 1 due 1 least 2"));
+    reads(alloc, falls, "due row 1 falls")
+        && reads(alloc, late, "late transition 1 firing 1 due 1 least 2")
+}
+
+#[test]
+fn refusals_have_lines(rt: HostRuntime) {
+    assert!(rt; have_lines(rt.alloc()) && have_endless_lines(rt.alloc()));
 }

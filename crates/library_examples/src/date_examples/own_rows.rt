@@ -63,23 +63,25 @@ fn own_rows(alloc: Global, held: &LiveNet) -> Result<Rows, OutOfMemory>
     three_rows(alloc, held.net(), &order)
 }
 
-// The form that these show.
-fn form_of(alloc: Global, held: &LiveNet) -> Result<Option<Repetition>, OutOfMemory> {
+// Of how many transitions these are, and the form that they show.
+fn form_of(alloc: Global, held: &LiveNet) -> Result<(usize, Option<Repetition>), OutOfMemory> {
     let rows = own_rows(alloc, held)?;
     let releases = own_releases(alloc, held.net())?;
-    Ok(shown_form(held.net(), held.live(), &releases, &rows))
+    let form = shown_form(held.net(), held.live(), &releases, &rows);
+    Ok((rows.width(), form))
 }
 
-// The number and the period of that form.
-fn told_form(alloc: Global, held: &LiveNet) -> Result<Option<(u64, u64)>, Fail> {
-    Ok(match form_of(alloc, held)? {
-        Some(form) => Some((form.after, form.period)),
+// The same, by the number and the period of that form.
+fn told_form(alloc: Global, held: &LiveNet) -> Result<Option<(usize, u64, u64)>, Fail> {
+    let (width, form) = form_of(alloc, held)?;
+    Ok(match form {
+        Some(form) => Some((width, form.after, form.period)),
         None => None,
     })
 }
 
 #[test]
 fn rows_show_a_form(rt: HostRuntime) -> Result<(), Fail> {
-    assert!(rt; ask_held(rt.alloc(), LOOP, told_form)? == Some((0, 1)));
+    assert!(rt; ask_held(rt.alloc(), LOOP, told_form)? == Some((2, 0, 1)));
     Ok(())
 }

@@ -1,10 +1,11 @@
-//! Nets that a program makes from lists of its own: the first rule that lists break.
-use example_nets::{place, says, transition, transitions};
+//! Nets that a program makes from lists of its own: the first rule that lists break, which is told
+//! of one entry alone too.
+use example_nets::{all_so, place, says, transition, transitions};
 use std::alloc::Global;
 use std::test::Fail;
 use teg_net::{
     Again, DateList, InputFault, InputList, Net, NetFault, Place, PlaceFault, PlaceId, Role,
-    Transition, TransitionId,
+    Transition, TransitionId, input_fault, place_fault,
 };
 
 // The fault of these lists, none where they are a net.
@@ -38,41 +39,55 @@ const COUNTS: [(u32, u32, NetFault); 5] = [
     (1, 4_000, NetFault::SamePlace(PlaceId { index: 1 })),
 ];
 
-// The fault of the input and the machine with this place alone.
-fn fault_of_one(alloc: Global, one: Place) -> Result<Option<NetFault>, Fail> {
+// The fault of a place beside an input and a machine, and that of these lists.
+type PlaceTold = (Option<PlaceFault>, Option<NetFault>);
+
+// Both of this place alone.
+fn told_of_place(alloc: Global, lists: Vec<Transition>, one: Place) -> Result<PlaceTold, Fail> {
+    let alone = place_fault(&lists, &one);
     let mut places = Vec::new(alloc);
     places.push(one)?;
-    Ok(fault(transitions(alloc)?, places, Vec::new(alloc)))
+    Ok((alone, fault(lists, places, Vec::new(alloc))))
 }
 
-// The same of a place that has these ends, this hold, these tokens and these ready dates.
-fn fault_of_place(
-    alloc: Global,
-    ends: (u32, u32),
-    hold: u64,
-    tokens: u32,
-    ready: &[u64],
-) -> Result<Option<NetFault>, Fail> {
-    let (from, to) = ends;
+// Ends, a hold, tokens and ready dates of a place, and its fault.
+type OfPlace<'a> = ((u32, u32), u64, u32, &'a [u64], Option<PlaceFault>);
+
+// Both of the place of a row.
+fn faults_of_place(alloc: Global, row: &OfPlace<'_>) -> Result<PlaceTold, Fail> {
+    let ((from, to), hold, tokens, ready, _) = *row;
     let mut one = place(alloc, "p", from, to)?;
     one.hold = hold;
     one.tokens = tokens;
     one.ready = DateList::new(Vec::from_slice(alloc, ready)?);
-    fault_of_one(alloc, one)
+    told_of_place(alloc, transitions(alloc)?, one)
 }
 
-// Ends, a hold, tokens and ready dates of a place, and its fault.
-type BadPlace<'a> = ((u32, u32), u64, u32, &'a [u64], PlaceFault);
-
-const PLACES: [BadPlace<'static>; 7] = [
-    ((2, 1), 2, 1, &[], PlaceFault::UnknownFrom),
-    ((1, 2), 2, 1, &[], PlaceFault::UnknownTo),
-    ((1, 0), 2, 1, &[], PlaceFault::EntersInput),
-    ((0, 1), 1_000_000_001, 1, &[], PlaceFault::LongHold),
-    ((0, 1), 2, 1_001, &[], PlaceFault::ManyTokens),
-    ((0, 1), 2, 1, &[3, 4], PlaceFault::ReadyCount),
-    ((0, 1), 2, 1, &[1_000_000_000_001], PlaceFault::LateReady),
+const PLACES: [OfPlace<'static>; 8] = [
+    ((0, 1), 2, 1, &[], None),
+    ((2, 1), 2, 1, &[], Some(PlaceFault::UnknownFrom)),
+    ((1, 2), 2, 1, &[], Some(PlaceFault::UnknownTo)),
+    ((1, 0), 2, 1, &[], Some(PlaceFault::EntersInput)),
+    ((0, 1), 1_000_000_001, 1, &[], Some(PlaceFault::LongHold)),
+    ((0, 1), 2, 1_001, &[], Some(PlaceFault::ManyTokens)),
+    ((0, 1), 2, 1, &[3, 4], Some(PlaceFault::ReadyCount)),
+    (
+        (0, 1),
+        2,
+        1,
+        &[1_000_000_000_001],
+        Some(PlaceFault::LateReady),
+    ),
 ];
+
+// Whether both faults of the place of a row are the one that it says.
+fn is_so_of_place(alloc: Global, row: &OfPlace<'_>) -> Result<bool, Fail> {
+    let wanted = match row.4 {
+        Some(why) => Some(NetFault::BadPlace(PlaceId::new(0), why)),
+        None => None,
+    };
+    Ok(faults_of_place(alloc, row)? == (row.4, wanted))
+}
 
 #[test]
 fn counts_names_and_places_are_tested(rt: HostRuntime) -> Result<(), Fail> {
@@ -80,24 +95,28 @@ fn counts_names_and_places_are_tested(rt: HostRuntime) -> Result<(), Fail> {
         let told = fault_of_names(rt.alloc(), *transitions, *places)?;
         assert!(rt; told == Some(*fault), "{transitions} {places}");
     }
-    for (ends, hold, tokens, ready, fault) in &PLACES {
-        let told = fault_of_place(rt.alloc(), *ends, *hold, *tokens, ready)?;
-        assert!(rt;
-            told == Some(NetFault::BadPlace(PlaceId::new(0), *fault)),
-            "{hold} {tokens}"
-        );
-    }
-    Ok(())
+    all_so(rt.alloc(), &PLACES, &is_so_of_place)
 }
 
-// The fault of the input and the machine with the list of this transition alone; it goes on by the
-// gap each so many dates, where it is to go on.
-fn fault_of_list(
+// The fault of a list beside an input and a machine, and that of these lists.
+type ListTold = (Option<InputFault>, Option<NetFault>);
+
+// Both of this list alone.
+fn told_of_list(alloc: Global, lists: Vec<Transition>, list: InputList) -> Result<ListTold, Fail> {
+    let alone = input_fault(&lists, &list);
+    let mut inputs = Vec::new(alloc);
+    inputs.push(list)?;
+    Ok((alone, fault(lists, Vec::new(alloc), inputs)))
+}
+
+// Both of the list of this transition; it goes on by the gap each so many dates, where it is to go
+// on.
+fn faults_of_list(
     alloc: Global,
     number: u32,
     dates: &[u64],
     onward: Option<(u32, u64)>,
-) -> Result<Option<NetFault>, Fail> {
+) -> Result<ListTold, Fail> {
     let again = match onward {
         Some((every, gap)) => Some(Again { every, gap }),
         None => None,
@@ -107,15 +126,14 @@ fn fault_of_list(
         dates: DateList::new(Vec::from_slice(alloc, dates)?),
         again,
     };
-    let mut inputs = Vec::new(alloc);
-    inputs.push(list)?;
-    Ok(fault(transitions(alloc)?, Vec::new(alloc), inputs))
+    told_of_list(alloc, transitions(alloc)?, list)
 }
 
 // The transition of a list, its dates, by how many dates and how much it goes on, and its fault.
 type Listed<'a> = (u32, &'a [u64], Option<(u32, u64)>, Option<InputFault>);
 
-const LISTS: [Listed<'static>; 9] = [
+const LISTS: [Listed<'static>; 10] = [
+    (0, &[], None, None),
     (1, &[], None, Some(InputFault::NoInput)),
     (0, &[1_000_000_000_001], None, Some(InputFault::LateDate)),
     (0, &[5, 4], None, Some(InputFault::FallingDates)),
@@ -132,12 +150,18 @@ const LISTS: [Listed<'static>; 9] = [
     (0, &[1, 9], Some((2, 8)), None),
 ];
 
-// Whether the fault is this one of the first list.
-fn is_of_list(told: Option<NetFault>, fault: Option<InputFault>) -> bool {
+// What is told where this is the fault of the list.
+fn told_where(fault: Option<InputFault>) -> ListTold {
     match fault {
-        Some(why) => told == Some(NetFault::BadInput(0, why)),
-        None => told.is_none(),
+        Some(why) => (fault, Some(NetFault::BadInput(0, why))),
+        None => (None, None),
     }
+}
+
+// Whether both faults of the list of a row are the one that it says.
+fn is_so_of_list(alloc: Global, row: &Listed<'_>) -> Result<bool, Fail> {
+    let (number, dates, onward, fault) = *row;
+    Ok(faults_of_list(alloc, number, dates, onward)? == told_where(fault))
 }
 
 // A list without dates of the first transition.
@@ -164,24 +188,22 @@ fn fault_of_two(alloc: Global) -> Result<Option<NetFault>, Fail> {
     Ok(fault(transitions(alloc)?, Vec::new(alloc), twice))
 }
 
-// The fault of one date more than a list may have.
-fn fault_of_many(alloc: Global) -> Result<Option<NetFault>, Fail> {
+// The faults of one date more than a list may have.
+fn faults_of_many(alloc: Global) -> Result<ListTold, Fail> {
     let dates = vec![in alloc; 5u64; 100_001]?;
-    fault_of_list(alloc, 0, dates.as_slice(), None)
+    faults_of_list(alloc, 0, dates.as_slice(), None)
 }
 
 #[test]
 fn input_lists_are_tested(rt: HostRuntime) -> Result<(), Fail> {
-    for (number, dates, onward, fault) in &LISTS {
-        let told = fault_of_list(rt.alloc(), *number, dates, *onward)?;
-        assert!(rt; is_of_list(told, *fault), "{number}");
-    }
-    let told = fault_of_many(rt.alloc())?;
-    assert!(rt; is_of_list(told, Some(InputFault::ManyDates)));
+    let (alloc, many) = (rt.alloc(), told_where(Some(InputFault::ManyDates)));
     let name = NetFault::SameTransition(TransitionId::new(2));
-    assert!(rt; fault_of_name(rt.alloc())? == Some(name));
-    assert!(rt; fault_of_two(rt.alloc())? == Some(NetFault::SameInput(1)));
-    Ok(())
+    assert!(rt;
+        faults_of_many(alloc)? == many
+            && fault_of_name(alloc)? == Some(name)
+            && fault_of_two(alloc)? == Some(NetFault::SameInput(1))
+    );
+    all_so(alloc, &LISTS, &is_so_of_list)
 }
 
 #[test]

@@ -63,12 +63,6 @@ fn has_transfers(alloc: Global, held: &LiveNet) -> Result<bool, Fail> {
     are_transfers(alloc, &star)
 }
 
-#[test]
-fn transfers_are_entries(rt: HostRuntime) -> Result<(), Fail> {
-    assert!(rt; ask_held(rt.alloc(), NET, has_transfers)?);
-    Ok(())
-}
-
 // The dates of a transition as a series.
 fn dates_of(alloc: Global, held: &LiveNet, name: &str) -> Result<Series, Fail> {
     let net = held.net();
@@ -87,8 +81,13 @@ fn has_dates(alloc: Global, held: &LiveNet) -> Result<bool, Fail> {
     )
 }
 
+// Whether all is so of the net.
+fn is_in_series(alloc: Global, held: &LiveNet) -> Result<bool, Fail> {
+    Ok(has_transfers(alloc, held)? && has_dates(alloc, held)?)
+}
+
 #[test]
-fn settled_rows_are_series(rt: HostRuntime) -> Result<(), Fail> {
-    assert!(rt; ask_held(rt.alloc(), NET, has_dates)?);
+fn transfers_are_entries_and_settled_rows_are_series(rt: HostRuntime) -> Result<(), Fail> {
+    assert!(rt; ask_held(rt.alloc(), NET, is_in_series)?);
     Ok(())
 }

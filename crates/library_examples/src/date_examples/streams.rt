@@ -43,15 +43,17 @@ fn two_rows(alloc: Global, held: &LiveNet) -> Result<[(Date, Date); 2], Fail>
     Ok([first, second])
 }
 
-// The first row of such a net, of a stream without the form, and how many it then gave and keeps.
-fn first_row(alloc: Global, held: &LiveNet) -> Result<(Date, Date, u64, u64), Fail>
+// The first row of such a net, of a stream without the form, how many it then gave and keeps,
+// and of how many transitions.
+fn first_row(alloc: Global, held: &LiveNet) -> Result<(Date, Date, u64, u64, usize), Fail>
     requires two { length held.now.transitions ≡ 2 }
 {
     let net = held.net();
     let mut stream = Stream::of_live(alloc, net, held.live())?;
     let mut row = [Date::Early; 2];
     stream.write_next(net, &mut row);
-    Ok((row[0], row[1], stream.number(), stream.kept()))
+    let (number, kept) = (stream.number(), stream.kept());
+    Ok((row[0], row[1], number, kept, stream.width()))
 }
 
 // Whether the first two rows of the net are these, by both streams.
@@ -61,7 +63,7 @@ fn gives_rows(alloc: Global, held: &LiveNet) -> Result<bool, Fail> {
     }
     let (first, second) = ((Date::At(0), Date::At(3)), (Date::At(5), Date::At(8)));
     let rows = two_rows(alloc, held)?;
-    Ok(rows == [first, second] && first_row(alloc, held)? == (first.0, first.1, 1, 1))
+    Ok(rows == [first, second] && first_row(alloc, held)? == (first.0, first.1, 1, 1, 2))
 }
 
 #[test]

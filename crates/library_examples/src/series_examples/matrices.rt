@@ -6,6 +6,7 @@ use dioid::Date;
 use dioid_laws::products_commute;
 use dioid_matrix::{Matrix, MatrixRefused};
 use dioid_spectra::{matrix_of, transpose};
+use example_nets::all_so;
 use matrix_values::{RowsApart, equals, matrix_text, meet, right_residual, unreached};
 use std::alloc::{AllocError, Global};
 use std::test::Fail;
@@ -41,25 +42,6 @@ fn meets_have_the_earlier_dates(rt: HostRuntime) -> Result<(), Fail> {
     let entries = [Date::At(5), Date::At(1), Date::Never, Date::Early];
     let meet = earlier_of_each(alloc, &square(alloc, &entries)?)?;
     assert!(rt; reads(alloc, &meet, " 3 1\n 2 epsilon\n")?);
-    Ok(())
-}
-
-// Whether a matrix is not itself where it is turned once, and is where it is turned twice.
-fn is_turned(
-    alloc: Global,
-    matrix: &Matrix<Date>,
-    once: &Matrix<Date>,
-) -> Result<bool, AllocError> {
-    let twice = transpose(alloc, once)?;
-    Ok(!equals(once, matrix) && equals(&twice, matrix))
-}
-
-#[test]
-fn turned_twice_they_are_equal(rt: HostRuntime) -> Result<(), Fail> {
-    let alloc = rt.alloc();
-    let machines = square(alloc, &MACHINES)?;
-    let is_turned = is_turned(alloc, &machines, &transpose(alloc, &machines)?);
-    assert!(rt; is_turned?);
     Ok(())
 }
 
@@ -107,71 +89,81 @@ fn why_none(
     Ok(quotient(alloc, &bound, divisor).err())
 }
 
-#[test]
-fn other_columns_are_refused(rt: HostRuntime) -> Result<(), Fail> {
-    let alloc = rt.alloc();
+// The same of a column of two dates.
+fn why_no_column(alloc: Global) -> Result<Option<MatrixRefused>, AllocError> {
     let divisor = matrix_of(2, 1, Vec::from_slice(alloc, &[Date::At(1), Date::At(2)])?);
-    let why = why_none(alloc, &MACHINES, &divisor);
-    let shape = MatrixRefused::Shape {
-        left_columns: 1,
-        right_rows: 2,
-    };
-    assert!(rt; why? == Some(shape));
-    Ok(())
+    why_none(alloc, &MACHINES, &divisor)
 }
 
 // A bound whose second entry passes all numbers where the last one of the divisor is taken off.
 const GREATEST: [Date; 4] = [Date::At(0), Date::At(i128::MAX), Date::At(0), Date::At(0)];
 
+// The same of a square.
+fn why_no_square(alloc: Global) -> Result<Option<MatrixRefused>, AllocError> {
+    let divisor = square(
+        alloc,
+        &[Date::At(0), Date::At(0), Date::At(0), Date::At(-1)],
+    )?;
+    why_none(alloc, &GREATEST, &divisor)
+}
+
 #[test]
-fn misfits_are_told_by_row_and_column(rt: HostRuntime) -> Result<(), Fail> {
-    let alloc = rt.alloc();
-    let entries = [Date::At(0), Date::At(0), Date::At(0), Date::At(-1)];
-    let why = why_none(alloc, &GREATEST, &square(alloc, &entries)?);
+fn other_columns_and_misfits_are_refused(rt: HostRuntime) -> Result<(), Fail> {
+    let shape = MatrixRefused::Shape {
+        left_columns: 1,
+        right_rows: 2,
+    };
     let range = MatrixRefused::Range {
         step: 1,
         row: 0,
         column: 1,
     };
-    assert!(rt; why? == Some(range));
+    assert!(rt; why_no_column(rt.alloc())? == Some(shape));
+    assert!(rt; why_no_square(rt.alloc())? == Some(range));
     Ok(())
 }
 
-// Squares, and two rows of which the first does not reach the second.
-const SQUARES: [([Date; 4], Option<RowsApart>); 3] = [
+// The entries of a square, two rows of which the first does not reach the second, and the lines.
+type Square<'a> = ([Date; 4], Option<RowsApart>, &'a str);
+
+const SQUARES: [Square<'static>; 4] = [
     (
         [Date::At(3), Date::Early, Date::At(2), Date::At(4)],
         Some(RowsApart { from: 1, to: 0 }),
+        " 3 epsilon\n 2 4\n",
     ),
     (
         [Date::At(3), Date::At(2), Date::Early, Date::At(4)],
         Some(RowsApart { from: 0, to: 1 }),
+        " 3 2\n epsilon 4\n",
     ),
-    (MACHINES, None),
+    (MACHINES, None, " 3 7\n 2 4\n"),
+    (
+        [Date::At(3), Date::Early, Date::Never, Date::At(-4)],
+        Some(RowsApart { from: 1, to: 0 }),
+        " 3 epsilon\n never -4\n",
+    ),
 ];
 
-// Two such rows of a square.
-fn apart(alloc: Global, entries: &[Date; 4]) -> Result<Option<RowsApart>, AllocError> {
-    let square = square(alloc, entries)?;
-    unreached(alloc, &square)
+// Whether a matrix is not itself where it is turned once, and is where it is turned twice.
+fn is_turned(alloc: Global, matrix: &Matrix<Date>) -> Result<bool, AllocError> {
+    let once = transpose(alloc, matrix)?;
+    let twice = transpose(alloc, &once)?;
+    Ok(!equals(&once, matrix) && equals(&twice, matrix))
+}
+
+// Whether all is told so of a row.
+fn is_square(alloc: Global, row: &Square<'_>) -> Result<bool, Fail> {
+    let (entries, apart, lines) = *row;
+    let square = square(alloc, &entries)?;
+    Ok(
+        unreached(alloc, &square)? == apart
+            && reads(alloc, &square, lines)?
+            && is_turned(alloc, &square)?,
+    )
 }
 
 #[test]
-fn rows_that_are_not_reached_are_told(rt: HostRuntime) -> Result<(), Fail> {
-    for (entries, wanted) in &SQUARES {
-        assert!(rt; apart(rt.alloc(), entries)? == *wanted);
-    }
-    Ok(())
-}
-
-#[test]
-fn texts_have_a_line_for_each_row(rt: HostRuntime) -> Result<(), Fail> {
-    let entries = [Date::At(3), Date::Early, Date::Never, Date::At(-4)];
-    let is_told = reads(
-        rt.alloc(),
-        &square(rt.alloc(), &entries)?,
-        " 3 epsilon\n never -4\n",
-    );
-    assert!(rt; is_told?);
-    Ok(())
+fn squares_have_lines_and_rows_that_are_reached(rt: HostRuntime) -> Result<(), Fail> {
+    all_so(rt.alloc(), &SQUARES, &is_square)
 }

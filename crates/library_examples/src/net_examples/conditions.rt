@@ -23,7 +23,8 @@ fn parts_are_told(alloc: Global, ring: &Net, path: &Net) -> Result<bool, Fail> {
             return Ok(false);
         }
     }
-    let are_own = parts.count() == 1 && are_parts(alloc, ring, &parts)?;
+    let are_one = parts.count() == 1 && parts.width() == 2;
+    let are_own = are_one && are_parts(alloc, ring, &parts)?;
     Ok(are_own && !are_parts(alloc, path, &parts)?)
 }
 

@@ -13,10 +13,17 @@ fn machines(alloc: Global, waits: Date) -> Result<Matrix<Date>, Fail> {
     Ok(Matrix::new(2, 2, Vec::from_slice(alloc, &entries)?)?)
 }
 
-// Whether the matrix has this eigenvalue, with a vector that is told to be one of it.
-fn has_value(alloc: Global, matrix: &Matrix<Date>, value: EigenValue) -> Result<bool, NoSpectrum> {
+// Whether the matrix has this eigenvalue, with a vector that is told to be one of it, and these are
+// its slowest rows.
+fn has_value(
+    alloc: Global,
+    matrix: &Matrix<Date>,
+    value: EigenValue,
+    rows: &[usize],
+) -> Result<bool, NoSpectrum> {
     let found = eigen(alloc, matrix)?;
-    Ok(found.value == value && is_eigen(matrix, found.value, &found.vector))
+    let is_told = found.value == value && found.circuit.as_slice() == rows;
+    Ok(is_told && is_eigen(matrix, found.value, &found.vector))
 }
 
 // Why the matrix has no eigenvalue.
@@ -48,7 +55,7 @@ fn is_told(alloc: Global, matrix: &Matrix<Date>) -> Result<bool, Fail> {
     let value = EigenValue { time: 9, steps: 2 };
     let entries = (Some(Date::At(7)), Some(Date::At(2)));
     Ok(
-        has_value(alloc, matrix, value)?
+        has_value(alloc, matrix, value, &[1, 0])?
             && !is_eigen(matrix, value, &[0, 0])
             && made_and_turned(alloc, matrix)? == entries,
     )
@@ -60,13 +67,6 @@ fn two_machines_have_a_pace(rt: HostRuntime) -> Result<(), Fail> {
     assert!(rt; is_told?);
     let why = why_none(rt.alloc(), &machines(rt.alloc(), Date::Early)?);
     assert!(rt; why == Some(NoSpectrum::Reducible));
-    Ok(())
-}
-
-#[test]
-fn slowest_rows_are_told(rt: HostRuntime) -> Result<(), Fail> {
-    let found = eigen(rt.alloc(), &machines(rt.alloc(), Date::At(2))?)?;
-    assert!(rt; found.circuit.as_slice() == [1, 0].as_slice());
     Ok(())
 }
 

@@ -35,11 +35,6 @@ fn is_longer(alloc: Global, held: &LiveNet) -> Result<bool, Fail> {
     Ok(settles_past(alloc, held.net(), held.live(), 200_000)?)
 }
 
-// Whether they do not.
-fn is_not_longer(alloc: Global, held: &LiveNet) -> Result<bool, Fail> {
-    Ok(!is_longer(alloc, held)?)
-}
-
 // Whether the machine has these early and late dates: it works at 0 and 3, at 7 and 10, and so on.
 fn works_by_twos(alloc: Global, held: &LiveNet) -> Result<bool, Fail> {
     let machine = transition_named(held.net(), "m")?;
@@ -86,12 +81,19 @@ fn jumps_past_rows(alloc: Global, held: &LiveNet) -> Result<bool, Fail> {
     )
 }
 
+// Whether all is told so of two machines of nearly one rate.
+fn are_nearly_alike(alloc: Global, held: &LiveNet) -> Result<bool, Fail> {
+    Ok(has_late_date(alloc, held)? && is_longer(alloc, held)? && jumps_past_rows(alloc, held)?)
+}
+
+// Whether all is told so of parts that come in twos.
+fn are_in_twos(alloc: Global, held: &LiveNet) -> Result<bool, Fail> {
+    Ok(!is_longer(alloc, held)? && works_by_twos(alloc, held)?)
+}
+
 #[test]
 fn late_dates_are_told(rt: HostRuntime) -> Result<(), Fail> {
-    assert!(rt; ask_held(rt.alloc(), NEARLY_ALIKE, has_late_date)?);
-    assert!(rt; ask_held(rt.alloc(), NEARLY_ALIKE, is_longer)?);
-    assert!(rt; ask_held(rt.alloc(), IN_TWOS, is_not_longer)?);
-    assert!(rt; ask_held(rt.alloc(), IN_TWOS, works_by_twos)?);
-    assert!(rt; ask_held(rt.alloc(), NEARLY_ALIKE, jumps_past_rows)?);
+    assert!(rt; ask_held(rt.alloc(), NEARLY_ALIKE, are_nearly_alike)?);
+    assert!(rt; ask_held(rt.alloc(), IN_TWOS, are_in_twos)?);
     Ok(())
 }
