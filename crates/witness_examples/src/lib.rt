@@ -10,8 +10,6 @@ mod answers;
 #[cfg(test)]
 mod audits;
 #[cfg(test)]
-mod bound_audits;
-#[cfg(test)]
 mod bounds;
 #[cfg(test)]
 mod first_audits;
