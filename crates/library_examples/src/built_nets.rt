@@ -50,10 +50,10 @@ const PLACES: [(u32, u32, u64, u32, PlaceFault); 5] = [
 
 // Whether each place of `PLACES` is refused with its fault, as number 2.
 fn refuses_places(alloc: Global, line: &mut NetBuilder) -> bool {
-    for (from, to, hold, tokens, fault) in PLACES {
-        let (from, to) = (TransitionId::new(from), TransitionId::new(to));
-        let refused = line.place(alloc, "next", from, to, hold, tokens);
-        if refused != breaks(NetFault::BadPlace(PlaceId::new(2), fault)) {
+    for (from, to, hold, tokens, fault) in &PLACES {
+        let (from, to) = (TransitionId::new(*from), TransitionId::new(*to));
+        let refused = line.place(alloc, "next", from, to, *hold, *tokens);
+        if refused != breaks(NetFault::BadPlace(PlaceId::new(2), *fault)) {
             return false;
         }
     }

@@ -1,26 +1,28 @@
 //! The words of dates and labels.
 use dioid::Date;
-use std::alloc::Global;
+use example_nets::all_so;
+use std::alloc::{AllocError, Global};
+use std::test::Fail;
 use teg_text::{push_dates, push_label};
 
 // The words of these dates, and of this label.
-fn words(alloc: Global, dates: &[Date], label: &str) -> Option<String> {
+fn words(alloc: Global, dates: &[Date], label: &str) -> Result<String, AllocError> {
     let mut text = String::new(alloc);
-    push_dates(&mut text, dates).ok()?;
-    push_label(&mut text, label).ok()?;
-    Some(text)
+    push_dates(&mut text, dates)?;
+    push_label(&mut text, label)?;
+    Ok(text)
 }
+
+// Dates, a label, and their words.
+type Words<'a> = (&'a [Date], &'a str, &'a str);
 
 // Whether these are the words of the dates and the label.
-fn reads(alloc: Global, dates: &[Date], label: &str, wanted: &str) -> bool {
-    match words(alloc, dates, label) {
-        Some(text) => text.as_str() == wanted,
-        None => false,
-    }
+fn are_words(alloc: Global, row: &Words<'_>) -> Result<bool, Fail> {
+    let (dates, label, wanted) = *row;
+    Ok(words(alloc, dates, label)?.as_str() == wanted)
 }
 
-// Dates and labels with their words.
-const WORDS: [(&[Date], &str, &str); 4] = [
+const WORDS: [Words<'static>; 4] = [
     (
         &[Date::At(-3), Date::Never, Date::Early],
         "x",
@@ -36,8 +38,6 @@ const WORDS: [(&[Date], &str, &str); 4] = [
 ];
 
 #[test]
-fn dates_and_labels_are_words(rt: HostRuntime) {
-    for (dates, label, wanted) in &WORDS {
-        assert!(rt; reads(rt.alloc(), dates, label, wanted), "{wanted}");
-    }
+fn dates_and_labels_are_words(rt: HostRuntime) -> Result<(), Fail> {
+    all_so(rt.alloc(), &WORDS, &are_words)
 }

@@ -12,8 +12,7 @@ use teg_check::LiveNet;
 use teg_forever::{ForeverRefusal, forever};
 use teg_net::{DateList, Net, PlaceId, TransitionId};
 use teg_timetable::{
-    Delay, DelayRefusal, Delayed, Outcome, Timetable, is_table_of, paths_pass_delays_on,
-    shows_kept, spread, tight_circuits_keep_delays,
+    Delay, DelayRefusal, Delayed, Outcome, Timetable, is_table_of, shows_kept, spread,
 };
 use timetable_files::{TableRefusal, read_timetable};
 
@@ -63,12 +62,6 @@ fn delayed(alloc: Global, shuttle: &LiveNet, period: u64) -> Result<Delayed, Fai
     Ok(spread(alloc, net, shuttle.live(), period, &table, None)?)
 }
 
-// The laws of delays that are kept, or passed on.
-fn laws() {
-    tight_circuits_keep_delays();
-    paths_pass_delays_on();
-}
-
 const THERE: PlaceId = PlaceId { index: 0 };
 
 const BACK: PlaceId = PlaceId { index: 1 };
@@ -109,7 +102,6 @@ fn is_told(alloc: Global, shuttle: &LiveNet) -> Result<bool, Fail> {
 
 #[test]
 fn kept_delays_are_shown(rt: HostRuntime) -> Result<(), Fail> {
-    laws();
     assert!(rt; ask_held(rt.alloc(), SHUTTLE, is_told)?);
     Ok(())
 }

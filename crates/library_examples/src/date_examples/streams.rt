@@ -68,7 +68,7 @@ fn gives_rows(alloc: Global, held: &LiveNet) -> Result<bool, Fail> {
 
 #[test]
 fn a_stream_gives_row_after_row(rt: HostRuntime) -> Result<(), Fail> {
-    for file in [LOOP, MANY_TOKENS] {
+    for file in &[LOOP, MANY_TOKENS] {
         assert!(rt; ask_held(rt.alloc(), file, gives_rows)?);
     }
     Ok(())

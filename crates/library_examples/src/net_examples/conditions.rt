@@ -47,12 +47,6 @@ fn are_told(alloc: Global, ring: &LiveNet) -> Result<bool, Fail> {
     ask_held(alloc, PATH, |alloc, path| both_are_told(alloc, ring, path))
 }
 
-#[test]
-fn parts_and_forms_are_those_of_one_net(rt: HostRuntime) -> Result<(), Fail> {
-    assert!(rt; ask_held(rt.alloc(), LOOP, are_told)?);
-    Ok(())
-}
-
 // Times and tokens, and whether they are those of a target.
 const TARGETS: [(u64, u64, bool); 5] = [
     (0, 1, true),
@@ -67,12 +61,20 @@ fn may_be_target(time: u64, tokens: u64) -> bool {
     1 <= tokens && is_target(&Ratio::of(time, tokens))
 }
 
-#[test]
-fn targets_keep_their_limits(rt: HostRuntime) {
+// Whether each row of `TARGETS` is told so.
+fn are_targets() -> bool {
     for (time, tokens, is_right) in &TARGETS {
-        assert!(rt;
-            may_be_target(*time, *tokens) == *is_right,
-            "{time} {tokens}"
-        );
+        if may_be_target(*time, *tokens) != *is_right {
+            return false;
+        }
     }
+    true
+}
+
+#[test]
+fn parts_and_forms_are_those_of_one_net_and_targets_keep_their_limits(
+    rt: HostRuntime,
+) -> Result<(), Fail> {
+    assert!(rt; ask_held(rt.alloc(), LOOP, are_told)? && are_targets());
+    Ok(())
 }

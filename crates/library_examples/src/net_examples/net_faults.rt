@@ -31,7 +31,9 @@ fn fault_of_names(alloc: Global, transitions: u32, places: u32) -> Result<Option
 }
 
 // Numbers of transitions and of places, and the fault.
-const COUNTS: [(u32, u32, NetFault); 5] = [
+type Counts = (u32, u32, NetFault);
+
+const COUNTS: [Counts; 5] = [
     (0, 0, NetFault::NoTransition),
     (401, 0, NetFault::ManyTransitions),
     (400, 0, NetFault::SameTransition(TransitionId { index: 1 })),
@@ -89,12 +91,14 @@ fn is_so_of_place(alloc: Global, row: &OfPlace<'_>) -> Result<bool, Fail> {
     Ok(faults_of_place(alloc, row)? == (row.4, wanted))
 }
 
+// Whether the fault of so many is the one that a row says.
+fn is_so_of_counts(alloc: Global, row: &Counts) -> Result<bool, Fail> {
+    Ok(fault_of_names(alloc, row.0, row.1)? == Some(row.2))
+}
+
 #[test]
 fn counts_names_and_places_are_tested(rt: HostRuntime) -> Result<(), Fail> {
-    for (transitions, places, fault) in &COUNTS {
-        let told = fault_of_names(rt.alloc(), *transitions, *places)?;
-        assert!(rt; told == Some(*fault), "{transitions} {places}");
-    }
+    all_so(rt.alloc(), &COUNTS, &is_so_of_counts)?;
     all_so(rt.alloc(), &PLACES, &is_so_of_place)
 }
 

@@ -31,8 +31,8 @@ fn value_at(matrix: &Matrix<Gain>, row: usize, column: usize, shift: u32) -> Opt
 
 // Whether the times from in to out are entries of the star, by shifts, and none leads back.
 fn are_entries(star: &Matrix<Gain>) -> bool {
-    for (shift, time) in [(0, 5), (1, 8), (1_000, 3_005)] {
-        if value_at(star, 2, 0, shift) != Some(Date::At(time)) {
+    for (shift, time) in &[(0, 5), (1, 8), (1_000, 3_005)] {
+        if value_at(star, 2, 0, *shift) != Some(Date::At(*time)) {
             return false;
         }
     }
