@@ -140,7 +140,7 @@ const SQUARES: [Square<'static>; 4] = [
     (MACHINES, None, " 3 7\n 2 4\n"),
     (
         [Date::At(3), Date::Early, Date::Never, Date::At(-4)],
-        Some(RowsApart { from: 1, to: 0 }),
+        Some(RowsApart { from: 0, to: 1 }),
         " 3 epsilon\n never -4\n",
     ),
 ];
