@@ -12,8 +12,10 @@ use teg_net::{Net, PlaceId, Ratio, is_circuit, time_of, tokens_of};
 use teg_reader::{ReadRefusal, read_net, write_net};
 use teg_sizing::{Sizing, size};
 
-// The circuit of the loop, which is slower where a place of it takes longer.
-fn look_at_circuit(rt: &impl Abort, net: &mut Net) -> Result<(), Fail> {
+#[test]
+fn a_circuit_has_a_time_and_tokens(rt: HostRuntime) -> Result<(), Fail> {
+    let alloc = rt.alloc();
+    let mut net = read_net(alloc, LOOP)?;
     let there = net.find_place("ab").ok_or("no such place")?;
     let back = net.find_place("ba").ok_or("no such place")?;
     let circuit = [there, back];
@@ -22,13 +24,6 @@ fn look_at_circuit(rt: &impl Abort, net: &mut Net) -> Result<(), Fail> {
     net.set_hold(there, 7);
     assert!(rt; time_of(&net, &circuit) == 9);
     Ok(())
-}
-
-#[test]
-fn a_circuit_has_a_time_and_tokens(rt: HostRuntime) -> Result<(), Fail> {
-    let alloc = rt.alloc();
-    let mut net = read_net(alloc, LOOP)?;
-    look_at_circuit(&rt, &mut net)
 }
 
 // The net of the loop.
