@@ -1,4 +1,6 @@
 //! Each operation on matrices of flags and of dates through the bounds, and at the greatest sizes.
+ghost use Rattle.std.specs.Prelude.{◌≤◌};
+
 use dioid::{Date, Dioid, Flag, Kleene, Residuated};
 use dioid_matrix::{Matrix, MatrixRefused};
 use std::alloc::Global;
@@ -103,7 +105,12 @@ fn flags_and_dates_through_the_bounds(rt: HostRuntime) -> Result<(), Fail> {
 }
 
 // The matrix of so many rows and columns, and so many entries `Yes`.
-fn full(alloc: Global, rows: usize, columns: usize, count: usize) -> Result<Matrix<Flag>, Fail> {
+fn full(alloc: Global, rows: usize, columns: usize, count: usize) -> Result<Matrix<Flag>, Fail>
+    requires some_rows { 1 ≤ rows }
+    requires few_rows { rows ≤ 4096 }
+    requires some_columns { 1 ≤ columns }
+    requires few_columns { columns ≤ 4096 }
+{
     Ok(Matrix::new(rows, columns, vec![in alloc; Flag::Yes; count]?)?)
 }
 
