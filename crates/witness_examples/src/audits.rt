@@ -1,7 +1,7 @@
 //! Whole audits over a shelf and a sink in memory: each kind of answer, texts that are not so, several
 //! questions in one call, and reads and writes that fail.
 use answer_audit::{AuditStatus, audit};
-use example_nets::{KANBAN, shelf_of, sink_of, words_of};
+use example_nets::{shelf_of, sink_of, words_of};
 use std::alloc::Global;
 use std::test::Fail;
 use teg_outside::MemoryShelf;
@@ -58,7 +58,7 @@ choice a ba 0
 ";
 
 // The files of the shelf, by name.
-pub(crate) const FILES: [(&str, &[u8]); 46] = [
+pub(crate) const FILES: [(&str, &[u8]); 41] = [
     (
         "loop",
         b"transition = [{ name = \"a\" }, { name = \"b\" }]
@@ -96,7 +96,6 @@ place = [
 ",
     ),
     ("railway", RAILWAY),
-    ("kanban", KANBAN),
     ("live", b"live\ntransitions 2\nplaces 2\n"),
     ("other counts", b"live\ntransitions 2\nplaces 3\n"),
     ("deadlock", b"refused: token-free circuit ab ba\n"),
@@ -161,10 +160,6 @@ place = [
         "sooner releases",
         b"latest inputs forever\ninput material 13 19 period 2 step 15\n",
     ),
-    ("bound", b"bound 437\nsettled after 4 period 1\n"),
-    ("other bound", b"bound 438\nsettled after 4 period 1\n"),
-    ("inputs", b"no bound: has inputs\n"),
-    ("apart", b"no bound: not strongly connected\n"),
     ("rush orders", b"ship,1,6,30\n"),
     ("late order", b"late ship 17 due 126 least 127\n"),
     (
@@ -196,7 +191,7 @@ place = [
 // The words of a call, how it ends, and what it writes.
 pub(crate) type Call<'a> = (&'a [&'a str], AuditStatus, &'a str);
 
-const CALLS: [Call<'static>; 60] = [
+const CALLS: [Call<'static>; 54] = [
     (&["loop", "live"], AuditStatus::Shown, "shown live\n"),
     (
         &["loop", "other counts"],
@@ -364,36 +359,6 @@ const CALLS: [Call<'static>; 60] = [
         &["shop", "late", "rows"],
         AuditStatus::Shown,
         "shown late ship 2 due 20 least 22\n",
-    ),
-    (
-        &["kanban", "bound"],
-        AuditStatus::Shown,
-        "shown bound 437\nshown settled after 4 period 1\n",
-    ),
-    (
-        &["kanban", "other bound"],
-        AuditStatus::NotShown,
-        "not shown bound 438\nnot shown settled after 4 period 1\n",
-    ),
-    (
-        &["shop", "inputs"],
-        AuditStatus::Shown,
-        "shown no bound: has inputs\n",
-    ),
-    (
-        &["shop", "apart"],
-        AuditStatus::Refuted,
-        "refuted no bound: not strongly connected\n",
-    ),
-    (
-        &["shop", "bound"],
-        AuditStatus::Refuted,
-        "refuted bound 437\nrefuted settled after 4 period 1\n",
-    ),
-    (
-        &["kanban", "bound", "shop"],
-        AuditStatus::NoChecker,
-        "no checker bound 437\n",
     ),
     (
         &["railway", "kept", "30", "table"],

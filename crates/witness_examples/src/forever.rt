@@ -5,7 +5,7 @@ use example_nets::{SHOP, ask_net};
 use forever_check::{shown_endless_late, shown_forever, shown_met};
 use std::alloc::Global;
 use std::test::Fail;
-use teg_net::{Net, OutOfMemory};
+use teg_net::Net;
 
 // Two parts are due every 15, and a part every 7.
 const ORDERS: &str = "ship,2,15,30,35\n";
@@ -15,83 +15,53 @@ const STEADY: &str = "ship,1,7,30\n";
 // A part is due at 30, one at 31, and then one every 9.
 const LATER: &str = "ship,1,9,30,31,40\n";
 
-// Due dates, a text, whether what it tells of the input is shown to meet them, and whether to be the
+// Due dates, what is told of the input, whether that is shown to meet them, and whether to be the
 // latest that does.
 const TEXTS: [(&str, &str, bool, bool); 13] = [
     (
         ORDERS,
-        "latest inputs forever\ninput material 13 20 period 2 step 15\n",
+        "input material 13 20 period 2 step 15\n",
         true,
         true,
     ),
-    (
-        STEADY,
-        "latest inputs forever\ninput material 15 period 1 step 7\n",
-        true,
-        true,
-    ),
-    (
-        LATER,
-        "latest inputs forever\ninput material 9 16 period 1 step 9\n",
-        true,
-        true,
-    ),
+    (STEADY, "input material 15 period 1 step 7\n", true, true),
+    (LATER, "input material 9 16 period 1 step 9\n", true, true),
     // Sooner ones meet them too, and so does another form of the same, which is not the shortest.
     (
         ORDERS,
-        "latest inputs forever\ninput material 13 19 period 2 step 15\n",
+        "input material 13 19 period 2 step 15\n",
         true,
         false,
     ),
-    (
-        STEADY,
-        "latest inputs forever\ninput material 15 period 1 step 6\n",
-        true,
-        false,
-    ),
-    (
-        LATER,
-        "latest inputs forever\ninput material 8 16 period 1 step 9\n",
-        true,
-        false,
-    ),
+    (STEADY, "input material 15 period 1 step 6\n", true, false),
+    (LATER, "input material 8 16 period 1 step 9\n", true, false),
     (
         ORDERS,
-        "latest inputs forever\ninput material 13 20 28 35 period 2 step 15\n",
+        "input material 13 20 28 35 period 2 step 15\n",
         true,
         false,
     ),
     // Later ones do not: the first, or some that are far off.
     (
         ORDERS,
-        "latest inputs forever\ninput material 14 20 period 2 step 15\n",
+        "input material 14 20 period 2 step 15\n",
         false,
         false,
     ),
     (
         LATER,
-        "latest inputs forever\ninput material 10 16 period 1 step 9\n",
+        "input material 10 16 period 1 step 9\n",
         false,
         false,
     ),
-    (
-        STEADY,
-        "latest inputs forever\ninput material 0 period 1 step 8\n",
-        false,
-        false,
-    ),
+    (STEADY, "input material 0 period 1 step 8\n", false, false),
     // Nor does an input that never fires, or one that is not told.
-    (
-        ORDERS,
-        "latest inputs forever\ninput material free\n",
-        false,
-        false,
-    ),
-    (ORDERS, "latest inputs forever\n", false, false),
+    (ORDERS, "input material free\n", false, false),
+    (ORDERS, "", false, false),
     // The text is looked at as it is written.
     (
         ORDERS,
-        "latest inputs forever\ninput material 13 20 period 2 step 15",
+        "input material 13 20 period 2 step 15",
         false,
         false,
     ),
@@ -152,24 +122,16 @@ fn rows_of(alloc: Global, net: &Net, file: &str) -> Result<Vec<EndlessRow>, Fail
     }
 }
 
-// What the text shows of the shop where these rows are due.
-fn met(
-    alloc: Global,
-    shop: &Net,
-    rows: &[EndlessRow],
-    text: &str,
-) -> Result<(bool, bool), OutOfMemory> {
-    let meets = shown_met(alloc, shop, rows, text)?;
-    Ok((meets, shown_forever(alloc, shop, rows, text)?))
-}
-
-// Whether all texts show so of the shop; otherwise the first that does not.
+// Whether all texts show so of the shop; otherwise the line of the first that does not.
 fn are_met(alloc: Global, shop: &Net) -> Result<(), Fail> {
-    for (file, text, meets, latest) in &TEXTS {
+    for (file, line, meets, latest) in &TEXTS {
         let rows = rows_of(alloc, shop, file)?;
-        let met = met(alloc, shop, &rows, text);
-        if met? != (*meets, *latest) {
-            return Err(Fail::new(*text));
+        let text = format!(in alloc; "latest inputs forever\n{line}")?;
+        if shown_met(alloc, shop, &rows, text.as_str())? != *meets {
+            return Err(Fail::new(*line));
+        }
+        if shown_forever(alloc, shop, &rows, text.as_str())? != *latest {
+            return Err(Fail::new(*line));
         }
     }
     Ok(())

@@ -48,40 +48,31 @@ pub(crate) fn table(alloc: Global, by: u64) -> Result<Timetable, AllocError> {
 }
 
 // What the checker tells of the text of a row.
-fn told_of<F>(alloc: Global, railway: &Net, row: &Told, checker: &F) -> Result<Option<u64>, Fail>
+fn told_of<F>(alloc: Global, row: &Told, checker: &F) -> Result<Option<u64>, Fail>
 where
     F: Fn(Global, &Net, u64, &Timetable, &str) -> Result<Option<u64>, OutOfMemory>,
     requires { F.IsAlwaysCallable checker.now }
 {
     let (period, by, text, _) = *row;
+    let railway = read(alloc, RAILWAY)?;
     let table = table(alloc, by)?;
-    let told = checker(alloc, railway, period, &table, text);
+    let told = checker(alloc, &railway, period, &table, text);
     Ok(told?)
 }
 
 // Whether the checker tells of all rows what they say; otherwise the text of the first of which it
 // does not.
-fn tells_rows_of<F>(alloc: Global, railway: &Net, rows: &[Told], checker: &F) -> Result<(), Fail>
-where
-    F: Fn(Global, &Net, u64, &Timetable, &str) -> Result<Option<u64>, OutOfMemory>,
-    requires { F.IsAlwaysCallable checker.now }
-{
-    for row in rows {
-        if told_of(alloc, railway, row, checker)? != row.3 {
-            return Err(Fail::new(row.2));
-        }
-    }
-    Ok(())
-}
-
-// The same of the railway as its file has it.
 pub(crate) fn tells_rows<F>(alloc: Global, rows: &[Told], checker: &F) -> Result<(), Fail>
 where
     F: Fn(Global, &Net, u64, &Timetable, &str) -> Result<Option<u64>, OutOfMemory>,
     requires { F.IsAlwaysCallable checker.now }
 {
-    let railway = read(alloc, RAILWAY)?;
-    tells_rows_of(alloc, &railway, rows, checker)
+    for row in rows {
+        if told_of(alloc, row, checker)? != row.3 {
+            return Err(Fail::new(row.2));
+        }
+    }
+    Ok(())
 }
 
 // The first lines alone.

@@ -10,6 +10,8 @@ mod answers;
 #[cfg(test)]
 mod audits;
 #[cfg(test)]
+mod bound_audits;
+#[cfg(test)]
 mod bounds;
 #[cfg(test)]
 mod first_audits;

@@ -1,10 +1,9 @@
 //! Rounds of policy iteration as they are told, and texts with rounds that are none of their policies,
 //! that do not follow from one another, or that do not end in the cycle times.
-use example_nets::ask_net;
+use example_nets::read;
 use round_check::shown_rounds;
 use std::alloc::Global;
 use std::test::Fail;
-use teg_net::Net;
 
 // Two train lines that share a single track.
 const TRACK: &[u8] = b"transition = [
@@ -119,23 +118,18 @@ const RUNS: [(&str, &str, bool); 11] = [
 ];
 
 // Whether the cycle times with these lines behind them are shown.
-fn is_shown(alloc: Global, track: &Net, first: &str, second: &str) -> Result<bool, Fail> {
+fn is_shown(alloc: Global, first: &str, second: &str) -> Result<bool, Fail> {
+    let net = read(alloc, TRACK)?;
     let text = format!(in alloc; "{TIMES}{first}{second}")?;
-    let shown = shown_rounds(alloc, track, text.as_str());
-    Ok(shown?.is_some())
-}
-
-// Whether those of the run alone are; otherwise the first lines of which it is not told so.
-fn are_shown(alloc: Global, track: &Net) -> Result<(), Fail> {
-    for (first, second, wanted) in &RUNS {
-        if is_shown(alloc, track, first, second)? != *wanted {
-            return Err(Fail::new(*first));
-        }
-    }
-    Ok(())
+    Ok(shown_rounds(alloc, &net, text.as_str())?.is_some())
 }
 
 #[test]
 fn only_the_rounds_of_the_run_are_shown(rt: HostRuntime) -> Result<(), Fail> {
-    ask_net(rt.alloc(), TRACK, are_shown)
+    for (first, second, wanted) in RUNS {
+        if is_shown(rt.alloc(), first, second)? != wanted {
+            return Err(Fail::new(first));
+        }
+    }
+    Ok(())
 }

@@ -1,13 +1,10 @@
 //! Texts of lines of words that are read whole, and texts that are none.
-use example_nets::all_so;
-use std::alloc::Global;
+use std::alloc::{AllocError, Global};
 use std::test::Fail;
 use word_lines::{lines_of, number_of, text_at, words_of};
 
-// A text, of how many lines it is, and the second word of the second line.
-type Text<'a> = (&'a str, Option<usize>, &'a str);
-
-const TEXTS: [Text<'static>; 5] = [
+// Texts, of how many lines they are, and the second word of the second line.
+const TEXTS: [(&str, Option<usize>, &str); 5] = [
     ("", Some(0), ""),
     ("\n", Some(1), ""),
     ("a b\nc d e\n", Some(2), "d"),
@@ -26,8 +23,12 @@ const NUMBERS: [(&str, Option<u128>); 6] = [
 ];
 
 // Whether the text is read so.
-fn is_read(alloc: Global, row: &Text<'_>) -> Result<bool, Fail> {
-    let (text, count, word) = *row;
+fn is_read(
+    alloc: Global,
+    text: &str,
+    count: Option<usize>,
+    word: &str,
+) -> Result<bool, AllocError> {
     let Some(lines) = lines_of(alloc, text)? else {
         return Ok(count == None);
     };
@@ -35,19 +36,18 @@ fn is_read(alloc: Global, row: &Text<'_>) -> Result<bool, Fail> {
     Ok(count == Some(lines.len()) && text_at(&words, 1) == word)
 }
 
-// Whether each word of `NUMBERS` writes its number; otherwise the first that does not.
-fn are_numbers(buffer: &mut String) -> Result<(), Fail> {
-    for (word, number) in &NUMBERS {
-        if number_of(buffer, word)? != *number {
-            return Err(Fail::new(*word));
+#[test]
+fn texts_are_read_whole(rt: HostRuntime) -> Result<(), Fail> {
+    for (text, count, word) in TEXTS {
+        if !is_read(rt.alloc(), text, count, word)? {
+            return Err(Fail::new(text));
+        }
+    }
+    let mut buffer = String::new(rt.alloc());
+    for (word, number) in NUMBERS {
+        if number_of(&mut buffer, word)? != number {
+            return Err(Fail::new(word));
         }
     }
     Ok(())
-}
-
-#[test]
-fn texts_are_read_whole(rt: HostRuntime) -> Result<(), Fail> {
-    all_so(rt.alloc(), &TEXTS, &is_read)?;
-    let mut buffer = String::new(rt.alloc());
-    are_numbers(&mut buffer)
 }
